@@ -1,0 +1,9 @@
+-- The laws, each file by its name: `Parts` lets `omega` read ℤ, and all else is proved through it.
+pub mod Parts
+pub mod Order
+pub mod Size
+pub mod Rounding
+pub mod Newtons
+pub mod Tests
+pub mod Table
+pub mod Lists

@@ -1,0 +1,14 @@
+-- Lists: the first so many of one, and what holds of each of one.
+use Prim.Native.Nat.{ℕ, zero, suc}
+use mathlib.Core.List.{List, [], _∷_}
+
+-- the first n of a list, and d where it has fewer
+unfoldable pub firstOf : {A : Type 0} → A → ℕ → List A → List A
+firstOf d zero l = []
+firstOf d (suc n) [] = d ∷ firstOf d n []
+firstOf d (suc n) (x ∷ l) = x ∷ firstOf d n l
+
+-- P holds of each of a list
+abbrev pub Every : {A : Type 0} → (A → Type 0) → List A → Type 0
+Every P [] = Unit
+Every P (x ∷ l) = P x × Every P l

@@ -1,0 +1,111 @@
+#!/usr/bin/env python3
+"""cases: writes the sheets that crates/cases reads (stdin) and what it must print (stdout).
+
+Each case is a title, a text and its answer. The answers were worked out by hand from paper 01 and from the points of
+docs/DECISIONS.md that the titles name: no line of the proved code was run for them. A sheet holds no `=`, so one stands
+between cases.
+
+    tools/cases.py crates/cases
+"""
+import sys
+
+B, W, I, F = 'B 1\n500 1200 1000 1250 0 0\n', 'W 1\n0 400\n', 'I 1\n20\n', 'F 1\nA 0 1000 0 0\n'
+cases = []
+
+
+def sheet(b=B, w=W, i=I, f=F):
+    return b + w + i + f
+
+
+def case(title, text, answer):
+    cases.append((title, text, answer.rstrip('\n') + '\n'))
+
+
+def six(total):
+    """one face of one alternative, with forces on x alone"""
+    return ''.join(f'{axis} {word} {total if axis == "x" else 0} 1 1 1\n' for axis in 'xyz' for word in ('max', 'min'))
+
+
+# (0.700 - 0.200) in thousandths x 1250 x 400^2 x 1000
+case('the least sheet: (0.700 - 0.200) x 1250 x 400^2 x 1000', sheet(), six(500 * 1250 * 400 ** 2 * 1000))
+case('nothing at all', '', 'refused 1 1')
+case('one LF', '\n', 'refused 1 1')
+case('point 2: unended comes before the count', 'B 2', 'refused 1 1')
+case('B 2, ended', 'B 2\n', 'refused 2 1')
+case('point 3: on the building line, 3 before 4 (h 50, a square plan)', sheet(b='B 1\n50 1000 1000 1250 0 0\n'), 'refused 3 2')
+case('point 3: 4 before 5 (a square plan, x 1 without a roof)', sheet(b='B 1\n500 1000 1000 1250 0 1\n'), 'refused 4 2')
+case('x 1 without a roof', sheet(b='B 1\n500 1200 1000 1250 0 1\n'), 'refused 5 2')
+case('point 3: on a face line, 3 before 6 (zone E without a roof, an area out of range)', sheet(f='F 1\nE 0 100001 0 0\n'), 'refused 3 8')
+case('zone E without a roof', sheet(f='F 1\nE 0 1000 0 0\n'), 'refused 6 8')
+case('point 4: B -1', 'B -1\n', 'refused 2 1')
+case('point 4: W -1', B + 'W -1\n', 'refused 2 3')
+case('point 4: W 0', B + 'W 0\n', 'refused 2 3')
+case('point 4: W 9', B + 'W 9\n', 'refused 2 3')
+case('point 4: W 10000000, of 8 digits', B + 'W 10000000\n', 'refused 1 3')
+case('I 5', B + W + 'I 5\n', 'refused 2 5')
+case('F 25', B + W + I + 'F 25\n', 'refused 2 7')
+case('point 5: direction -90', sheet(w='W 1\n-90 400\n'), 'refused 3 4')
+case('point 5: direction -', sheet(w='W 1\n- 400\n'), 'refused 1 4')
+case('direction 45', sheet(w='W 1\n45 400\n'), 'refused 3 4')
+case('point 5: mark -90', sheet(f='F 1\nA -90 1000 0 0\n'), 'refused 3 8')
+for mark in ('-0', '00', '+0', '--'):
+    case(f'point 5: mark {mark}', sheet(f=f'F 1\nA {mark} 1000 0 0\n'), 'refused 1 8')
+case('mark -, for both', sheet(f='F 1\nA - 1000 0 0\n'), six(500 * 1250 * 400 ** 2 * 1000))
+case('marked for the other direction: adds nothing', sheet(f='F 1\nA 90 1000 0 0\n'), six(0))
+case('point 6: zone I', sheet(f='F 1\nI 0 1000 0 0\n'), 'refused 1 8')
+case('point 7: h 10000000', sheet(b='B 1\n10000000 1200 1000 1250 0 0\n'), 'refused 1 2')
+case('point 7: h 9999999', sheet(b='B 1\n9999999 1200 1000 1250 0 0\n'), 'refused 3 2')
+case('a leading zero', sheet(w='W 1\n0 0400\n'), 'refused 1 4')
+case('speed 0', sheet(w='W 1\n0 0\n'), 'refused 3 4')
+case('two spaces', sheet(w='W 1\n0  400\n'), 'refused 1 4')
+case('a carriage return', sheet(w='W 1\n0 400\r\n'), 'refused 1 4')
+case('internal -101', sheet(i='I 1\n-101\n'), 'refused 3 6')
+case('a second wind is missing', sheet(w='W 2\n0 400\n'), 'refused 1 5')
+case('the last face is missing', B + W + I + 'F 2\nA 0 1000 0 0\n', 'refused 1 9')
+case('point 14: one LF more', sheet() + '\n', 'refused 1 9')
+case('point 14: one space more', sheet() + ' ', 'refused 1 9')
+case('the first faulty line counts: line 4 before line 6', sheet(w='W 1\n0 1001\n', i='I 1\n5 5\n'), 'refused 3 4')
+
+# Every line as long as it may be: 41 lines of 827 bytes. Parapet at x/h 0.10, zone F: +0.200, then -0.200; internal -1.000.
+before = 'B 1\n30000 30000 10000 1500 3 3000\n' + 'W 8\n' + '90 1000\n' * 8 + 'I 4\n' + '-100\n' * 4 + 'F 24\n'
+longest = before + 'F 90 -100000 -100000 -100000\n' * 24
+assert len(longest) == 827
+least, greatest = (24 * net * 1500 * 1000 ** 2 * -100000 for net in (1200, 800))
+lines = ''.join(f'{axis} max {greatest} 1 1{" 2" * 24}\n{axis} min {least} 1 1{" 1" * 24}\n' for axis in 'xyz')
+case('point 15: the longest acceptable sheet, 827 bytes', longest, lines)
+case('point 15: a longest line in form behind it is still 1 at its own number',
+     longest + '9999999 9999999 9999999 9999999 9999999 -999999\n' * 3, 'refused 1 42')
+case('point 15: the last of 24 faces out of range, the line at its longest',
+     before + 'F 90 -100000 -100000 -100000\n' * 23 + 'F 90 -9999999 -9999999 -9999999\n', 'refused 3 41')
+
+# refused sheets, a line each: number, line, and the text with its ends written out
+with open(__file__.replace('cases.py', 'sheets.txt')) as listed:
+    for place, entry in enumerate(listed, 1):
+        number, line, text = entry.rstrip('\n').split(' ', 2)
+        if number != '0':
+            case(f'sheets.txt, line {place}', text.replace('\\n', '\n').replace('\\r', '\r').replace('\\t', '\t'), f'refused {number} {line}')
+
+# what the program asks by itself: questions, then records, with number and line, or thousandths
+asked = '''point 18: curved, zone E, exactly -0.3995: -400
+flat, zone F: 200 -200
+point 6: zone I: 6 0
+zone G on a flat roof: 6 0
+L1 on a gable: 6 0
+point 7: h 10000000: 1 2
+point 7: h -9999999: 3 2
+point 7: direction 1000000000000, for a local too: 3 0
+point 11: rounded first, then the internal coefficient comes off: 602
+point 12: the net of the wall local: -1400
+point 7: internal 101: 3 0
+6 before 3: zone H with internal 101: 6 0
+a record in order: 0 0
+a record marked for both: 0 0
+point 8: nine winds: 2 3
+point 8: 4000000000 faces: 2 7
+point 9: a zeroed entry inside the count: 1 8
+point 9: mark 45: 3 8
+point 9: mark 10000000, which no sheet carries: 1 8
+'''
+folder = sys.argv[1]
+open(f'{folder}/stdin', 'w', newline='').write('='.join(title + '\n' + text for title, text, _ in cases))
+open(f'{folder}/stdout', 'w', newline='').write(''.join(title + '\n' + answer for title, _, answer in cases) + asked)

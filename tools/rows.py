@@ -1,0 +1,136 @@
+#!/usr/bin/env python3
+"""rows: writes what crates/rows must print, worked out from the printed tables alone.
+
+The tables below were typed from paper 01 and held against ROM 0.4-95 (document 000). Every value is reckoned with exact fractions
+by the book's words: the row whose limits hold the ratio, the straight line between rows, one rounding to a thousandth with a
+half away from zero. Nothing here is taken from, or run with, the proved code.
+
+    tools/rows.py > crates/rows/stdout
+"""
+from fractions import Fraction as Q
+
+# h/b to, a/b to: wind 0 A B C D, wind 90 A B C D, local
+WALLS = [
+    (Q(1, 2), Q(3, 2), '70 -20 -50 -50', '-50 -50 70 -20', -80),
+    (Q(1, 2), Q(4), '70 -25 -60 -60', '-50 -50 70 -10', -100),
+    (Q(3, 2), Q(3, 2), '70 -25 -60 -60', '-60 -60 70 -25', -110),
+    (Q(3, 2), Q(4), '70 -30 -70 -70', '-50 -50 70 -10', -110),
+    (Q(6), Q(3, 2), '80 -25 -80 -80', '-80 -80 80 -25', -120),
+    (Q(6), Q(4), '70 -40 -70 -70', '-50 -50 80 -10', -120),
+]
+# slope in degrees: wind 0 EF, wind 0 GH, wind 90 EG, wind 90 FH
+GABLE = {
+    Q(1, 2): {0: '-80 -40 -80 -40', 5: '-90 -40 -80 -40', 10: '-120 -40 -80 -60', 20: '-40 -40 -70 -60',
+              30: '0 -40 -70 -60', 45: '30 -50 -70 -60', 60: '70 -60 -70 -60'},
+    Q(3, 2): {0: '-80 -60 -100 -60', 5: '-90 -60 -90 -60', 10: '-110 -60 -80 -60', 20: '-70 -50 -80 -60',
+              30: '-20 -50 -80 -80', 45: '20 -50 -80 -80', 60: '60 -50 -80 -80'},
+    Q(6): {0: '-70 -60 -90 -70', 5: '-70 -60 -80 -80', 10: '-70 -60 -80 -80', 20: '-80 -60 -80 -80',
+           30: '-100 -50 -80 -70', 40: '-20 -50 -80 -70', 50: '20 -50 -80 -70', 60: '50 -50 -80 -70'},
+}
+# E, L1, L2, by x/h or by degrees; straight eaves stand at 90 degrees of mansard
+STRAIGHT = '-70 -250 -200'
+FLAT = {
+    2: {Q(0): STRAIGHT},
+    3: {Q('0.025'): '-70 -220 -180', Q('0.05'): '-70 -200 -160', Q('0.10'): '-70 -180 -140'},
+    4: {Q('0.05'): '-40 -150 -180', Q('0.10'): '-30 -120 -140', Q('0.20'): '-30 -80 -80'},
+    5: {Q(30): '-30 -150 -150', Q(45): '-40 -180 -190', Q(60): '-50 -190 -190', Q(90): STRAIGHT},
+}
+RANGE = {0: (0, 0), 1: (0, 60), 2: (0, 0), 3: (Q('0.025'), Q('0.10')), 4: (Q('0.05'), Q('0.20')), 5: (30, 90)}
+
+
+def thousandths(hundredths):
+    """One rounding, a half going away from zero."""
+    exact = abs(hundredths) * 10
+    size = int(exact + Q(1, 2))
+    return size if hundredths >= 0 else -size
+
+
+def on_line(rows, at):
+    below = max(row for row in rows if row <= at)
+    above = min(row for row in rows if row >= at)
+    if below == above:
+        return rows[below]
+    return rows[below] + (rows[above] - rows[below]) * (at - below) / (above - below)
+
+
+def place_of_x(h, kind, x):
+    """What the rows of the kind are read at."""
+    return Q(x, h) if kind in (3, 4) else Q(x, 10) if kind in (1, 5) else Q(x)
+
+
+def fault(h, a, b, density, kind, x):
+    numbers = (h, a, b, density, kind, x)
+    if any(abs(n) > 9999999 for n in numbers):
+        return 1
+    ranges = [(100, 30000)] * 3 + [(1000, 1500), (0, 5), (0, 30000)]
+    if any(n < low or n > high for n, (low, high) in zip(numbers, ranges)):
+        return 3
+    if Q(h, b) > 6 or Q(a, b) <= 1 or Q(a, b) > 4:
+        return 4
+    low, high = RANGE[kind]
+    return 0 if low <= place_of_x(h, kind, x) <= high else 5
+
+
+def outside(h, a, b, density, kind, x, direction, place):
+    n = fault(h, a, b, density, kind, x)
+    if n:
+        return (n, 2)
+    if direction not in (0, 90):
+        return (3, 0)
+    flat = kind in (2, 3, 4, 5)
+    if not (place in 'ABCDw' or kind == 1 and place in 'EFGH' or flat and place in 'EF12'):
+        return (6, 0)
+    if place in 'ABCDw':
+        row = next(r for r in WALLS if Q(h, b) <= r[0] and Q(a, b) <= r[1])
+        if place == 'w':
+            return [thousandths(Q(row[4]))]
+        printed = row[2] if direction == 0 else row[3]
+        return [thousandths(Q(printed.split()['ABCD'.index(place)]))]
+    at = place_of_x(h, kind, x)
+    if kind == 1:
+        block = GABLE[next(limit for limit in sorted(GABLE) if Q(h, b) <= limit)]
+        column = (0 if place in 'EF' else 1) if direction == 0 else (2 if place in 'EG' else 3)
+        return [thousandths(on_line({Q(s): Q(cells.split()[column]) for s, cells in block.items()}, at))]
+    if place == 'F':
+        return [200, -200]
+    column = 'E12'.index(place)
+    return [thousandths(on_line({s: Q(cells.split()[column]) for s, cells in FLAT[kind].items()}, at))]
+
+
+def show(h, a, b, kind, x, direction, place):
+    """The question, the outside answer, and the net one at internal -0.30; a space after each number."""
+    answer = outside(h, a, b, 1250, kind, x, direction, place)
+    if isinstance(answer, tuple):
+        said = ['refused %d %d ' % answer] * 2
+    else:
+        said = [''.join('%d ' % v for v in answer), ''.join('%d ' % (v + 300) for v in answer)]
+    print(h, a, b, kind, x, direction, place, said[0] + 'net ' + said[1])
+
+
+# one step inside and outside of each limit of h/b and a/b, at b 1000, and each end itself
+HEIGHTS = [100, 499, 500, 501, 1499, 1500, 1501, 5999, 6000, 6001]
+SIDES = [999, 1000, 1001, 1499, 1500, 1501, 3999, 4000, 4001]
+PLACES = [(0, 'A'), (0, 'B'), (0, 'C'), (0, 'D'), (90, 'A'), (90, 'B'), (90, 'C'), (90, 'D'), (0, 'w'), (45, 'A')]
+for h in HEIGHTS:
+    for a in SIDES:
+        for direction, place in PLACES:
+            show(h, a, 1000, 0, 0, direction, place)
+
+# each slope of each block, and a step of a tenth of a degree to either side
+BLOCKS = [500, 501, 1500, 1501, 6000]
+SLOPES = [0, 1, 49, 50, 51, 99, 100, 101, 199, 200, 201, 299, 300, 301, 399, 400, 401, 449, 450, 451, 499, 500, 501, 599, 600, 601]
+ROOF = [(0, 'E'), (0, 'F'), (0, 'G'), (0, 'H'), (90, 'E'), (90, 'F'), (90, 'G'), (90, 'H')]
+for h in BLOCKS:
+    for x in SLOPES:
+        for direction, place in ROOF:
+            show(h, 1200, 1000, 1, x, direction, place)
+
+# each row of the flat roofs at h 4000, and a step of a centimetre or of a tenth of a degree to either side
+EAVES = [(2, 0), (2, 1)]
+EAVES += [(3, x) for x in (99, 100, 101, 199, 200, 201, 399, 400, 401)]
+EAVES += [(4, x) for x in (199, 200, 201, 399, 400, 401, 799, 800, 801)]
+EAVES += [(5, x) for x in (299, 300, 301, 449, 450, 451, 599, 600, 601, 899, 900, 901)]
+FLATS = [(0, 'E'), (0, 'F'), (0, '1'), (0, '2'), (90, 'E'), (90, 'F'), (90, '1'), (90, '2'), (0, 'G'), (90, 'H')]
+for kind, x in EAVES:
+    for direction, place in FLATS:
+        show(4000, 4800, 4000, kind, x, direction, place)
