@@ -1,0 +1,178 @@
+-- Laws of a line that is held: what `line_at` gives at a place, against the rows of the text from there on.
+use Prim.Native.Nat.{ℕ, suc, _+_, _-_, _≤_, _<_, min}
+use mathlib.Core.Path.{_≡_, refl, ap, _∙_, sym}
+use mathlib.Core.Bool.{cond}
+use mathlib.Core.List.{List, [], _∷_, map}
+use native.Mathlib.Nat.{zero-add}
+use native.Mathlib.Numerals.{add-one}
+use native.Mathlib.Omega.{arith}
+use lib.Dec.{ltb, leb}
+use lib.ListN.{length, getD, take, drop, set, length-drop, length-map, length-take, List·getD-eq-default, List·getD-map}
+use lib.Seq.{sets, sets-eq, drop-drop, take-all, take-at, length-take-le, getD-take}
+use borrow.Author.Tests.{le-leb, lt-leb, ltb-true, ltb-false, leb-true, leb-false}
+use Rattle.whole.proofs.Tests.{by-test}
+use Rattle.text.specs.declared.form.Field.{Field}
+use Rattle.text.specs.declared.form.Field.the-variants.{Bad}
+use Rattle.lines.specs.declared.row.Slot.{Slot}
+use Rattle.lines.specs.declared.row.Line.{Line}
+use Rattle.text.specs.Field.{field}
+use Rattle.lines.specs.Lines.{fieldsOf, rows}
+use Rattle.lines.specs.Held.{slot, blank, noLine, lineOf, firstLine, lineAt, held, until}
+use Rattle.lines.proofs.Lines.{Free, until-le, split-until, split-more, split-last, rows-more, rows-none, rows-open}
+
+-- ---- the six places filled one after the other
+
+-- the line that comes of k fields in their places, and more
+unfoldable pub lineFrom : ℕ → ℕ → List Slot → List Field → Line
+lineFrom next k v fs =
+    cond (leb (k + length fs) 6) (record { count = k + length fs; next = next; fields = sets v k (map slot fs) }) noLine
+
+pub from-start : (next : ℕ) (fs : List Field) → lineOf next fs ≡ lineFrom next 0 blank fs
+unfolding lineOf lineFrom
+from-start next fs = rw zero-add
+
+module _ (next k : ℕ) (v : List Slot) (f : Field) where
+  pub from-more : (fs : List Field) → lineFrom next k v (f ∷ fs) ≡ lineFrom next (k + 1) (set v k (slot f)) fs
+  unfolding lineFrom
+  from-more fs =
+      let q : k + suc (length fs) ≡ k + 1 + length fs = omega arith in
+      rw (q, add-one)
+
+  pub from-last : k < 6 → lineFrom next k v (f ∷ []) ≡ record { count = k + 1; next = next; fields = set v k (slot f) }
+  unfolding lineFrom
+  from-last h = rw (le-leb (k + 1) 6 (omega arith))
+
+  pub from-full : (fs : List Field) → 6 ≤ k → lineFrom next k v (f ∷ fs) ≡ noLine
+  unfolding lineFrom
+  from-full fs h = rw (lt-leb (k + suc (length fs)) 6 (omega arith))
+
+-- the same at the fields of a line from a place on, e being where the first of them ends
+module _ (l : List ℕ) (at e : ℕ) (he : e ≡ at + until 32 (drop at l)) where
+  until-is : until 32 (drop at l) ≡ e - at
+  until-is = omega arith
+
+  pub fields-more : e < length l → fieldsOf (drop at l) ≡ field (take (e - at) (drop at l)) ∷ fieldsOf (drop (e + 1) l)
+  unfolding fieldsOf
+  fields-more h =
+      let q : at + suc (e - at) ≡ e + 1 = omega arith in
+      rw (split-more 32 (drop at l) (rw length-drop (omega arith)), drop-drop, until-is, q)
+
+  pub fields-last : e ≡ length l → fieldsOf (drop at l) ≡ field (take (e - at) (drop at l)) ∷ []
+  unfolding fieldsOf
+  fields-last h =
+      rw (split-last 32 (drop at l) (rw length-drop (omega arith)), take-all (e - at) (drop at l) (rw length-drop (omega arith)))
+
+  module _ (next k : ℕ) (v : List Slot) (c : Slot) (hc : c ≡ slot (field (take (e - at) (drop at l)))) where
+    pub from-line-more : e < length l → lineFrom next k v (fieldsOf (drop at l)) ≡ lineFrom next (k + 1) (set v k c) (fieldsOf (drop (e + 1) l))
+    from-line-more h = rw (fields-more h, hc) (from-more next k v (field (take (e - at) (drop at l))) (fieldsOf (drop (e + 1) l)))
+
+    pub from-line-last : k < 6 → e ≡ length l
+        → lineFrom next k v (fieldsOf (drop at l)) ≡ record { count = k + 1; next = next; fields = set v k c }
+    from-line-last h z = rw (fields-last z, hc) (from-last next k v (field (take (e - at) (drop at l))) h)
+
+-- a seventh field
+pub from-line-full : (next k : ℕ) (v : List Slot) (s : List ℕ) → 6 ≤ k → lineFrom next k v (fieldsOf s) ≡ noLine
+unfolding fieldsOf
+from-line-full next k v s h = rw (split-until 32 s) (from-full next k v _ _ h)
+
+-- ---- a line by where its LF stands
+
+module _ (s : List ℕ) (at : ℕ) where
+  pub line-out : length s ≤ at + until 10 (drop at s) → lineAt s at ≡ noLine
+  unfolding lineAt firstLine
+  line-out h = rw (split-last 10 (drop at s) (rw length-drop (omega arith)))
+
+  pub line-in : at + until 10 (drop at s) < length s
+      → lineAt s at ≡ lineOf (at + until 10 (drop at s) + 1) (fieldsOf (take (until 10 (drop at s)) (drop at s)))
+  unfolding lineAt firstLine
+  line-in h =
+      rw (split-more 10 (drop at s) (rw length-drop (omega arith)))
+      (rw (split-until 10 (drop (suc (until 10 (drop at s))) (drop at s)), length-take-le (until 10 (drop at s)) (drop at s) (until-le 10 (drop at s))))
+
+  -- the same with e for the place of the LF
+  pub line-in-at : (e : ℕ) → e ≡ at + until 10 (drop at s) → e < length s → lineAt s at ≡ lineOf (e + 1) (fieldsOf (take (e - at) (drop at s)))
+  line-in-at e he h =
+      let q : e - at ≡ until 10 (drop at s) = omega arith in
+      rw (q, he) (line-in (omega arith))
+
+-- ---- the fields that are held
+
+-- how long an array of structs is, of which the machine has the list of their parts
+pub mapped-length : (X Y : Type 0) (f : X → Y) (l : List X) (n : ℕ) → length (map f l) ≡ n → length l ≡ n
+mapped-length X Y f l n e = sym (length-map l f) ∙ e
+
+module _ (x : Line) (i : ℕ) where
+  held-length : length (held x) ≤ x .count
+  held-length = simp (length-map, length-take) (omega arith)
+
+  pub held-count : length (x .fields) ≡ 6 → length (held x) ≡ min (x .count) 6
+  held-count six = simp (length-map, length-take) (rw six)
+
+  pub held-past : x .count ≤ i → getD (held x) i Bad ≡ Bad
+  held-past h = List·getD-eq-default (held x) Bad (omega (arith, held-length))
+
+  pub held-six : length (x .fields) ≤ 6 → 6 ≤ i → getD (held x) i Bad ≡ Bad
+  held-six h k = List·getD-eq-default (held x) Bad (simp (length-map, length-take) (omega arith))
+
+  pub held-at : i < x .count → getD (held x) i Bad ≡ getD (x .fields) i (slot Bad) .field
+  held-at h =
+      List·getD-map (λ (s : Slot). s .field) (take (x .count) (x .fields)) i (slot Bad)
+      ∙ ap (λ (s : Slot). s .field) (getD-take (x .count) (x .fields) i (slot Bad) h)
+
+-- up to six fields are held as they are, and of more none
+module _ (next : ℕ) (fs : List Field) where
+  map-slots : (gs : List Field) → map (λ (s : Slot). s .field) (map slot gs) ≡ gs
+  map-slots [] = refl
+  map-slots (g ∷ gs) = ap (λ (r : List Field). g ∷ r) (map-slots gs)
+
+  pub held-all : length fs ≤ 6 → (held (lineOf next fs) ≡ fs) × (lineOf next fs .next ≡ next)
+  unfolding lineOf
+  held-all h =
+      let n : length (map slot fs) ≡ length fs = length-map fs slot in
+      rw (le-leb (length fs) 6 h)
+      (rw (sets-eq (map slot fs) blank 0 (omega arith), take-at (map slot fs) (drop (0 + length (map slot fs)) blank) (length fs) n) (map-slots fs), refl)
+
+  pub held-none : 6 < length fs → held (lineOf next fs) ≡ []
+  unfolding lineOf
+  held-none h = rw (lt-leb (length fs) 6 h)
+
+-- ---- a place of a text
+
+-- What the line at a place says of the text from there on: it is the first line; or nothing is held, and no line is left, or one that
+-- is not ended, or a first line of more than six fields.
+pub data At (s : List ℕ) (at : ℕ) (x : Line) : Type 0 where
+  taken : rows (drop at s) ≡ held x ∷ rows (drop (x .next) s) → At s at x
+  gone : held x ≡ [] → rows (drop at s) ≡ [] → At s at x
+  unended : held x ≡ [] → rows (drop at s) ≡ (Bad ∷ []) ∷ [] → At s at x
+  long : (fs : List Field) (rest : List (List Field)) → held x ≡ [] → rows (drop at s) ≡ fs ∷ rest → 6 < length fs → At s at x
+
+module _ (s : List ℕ) (at : ℕ) where
+  at-open : (t : List ℕ) → drop at s ≡ t → Free 10 t → held (lineAt s at) ≡ [] → At s at (lineAt s at)
+  at-open [] e h z = gone z (ap rows e ∙ rows-none)
+  at-open (y ∷ t) e h z = unended z (ap rows e ∙ rows-open y t h)
+
+  at-ended : at + until 10 (drop at s) < length s → At s at (lineAt s at)
+  at-ended h =
+      let u = until 10 (drop at s) in
+      let fs = fieldsOf (take u (drop at s)) in
+      let q : at + suc u ≡ at + u + 1 = omega arith in
+      let l = line-in s at h in
+      let r : rows (drop at s) ≡ fs ∷ rows (drop (at + u + 1) s) = rows-more (drop at s) (rw length-drop (omega arith)) ∙ rw (drop-drop, q) in
+      by-test (leb (length fs) 6)
+      (λ t.
+      let g = held-all (at + u + 1) fs (leb-true (length fs) 6 t) in
+      let n : lineAt s at .next ≡ at + u + 1 = rw l (g .1) in
+      let k : held (lineAt s at) ≡ fs = rw l (g .0) in
+      taken (r ∙ rw (k, n)))
+      (λ t. long fs _ (rw l (held-none (at + u + 1) fs (leb-false (length fs) 6 t))) r (leb-false (length fs) 6 t))
+
+  at-line : At s at (lineAt s at)
+  at-line =
+      by-test (ltb (at + until 10 (drop at s)) (length s)) (λ t. at-ended (ltb-true _ _ t))
+      (λ t. at-open (drop at s) refl
+      (let g : length s ≤ at + until 10 (drop at s) = ltb-false (at + until 10 (drop at s)) (length s) t in
+      omega (arith, until-le 10 (drop at s), length-drop at s))
+      (rw (line-out s at (ltb-false (at + until 10 (drop at s)) (length s) t))))
+
+  pub at-is : (x : Line) → x ≡ lineAt s at → At s at x
+  at-is x e = rw e at-line

@@ -1,0 +1,174 @@
+-- Laws of `split` and `rows`: the first part of a text ends where its first separator stands, and the rest is split alike.
+use Prim.Native.Nat.{ℕ, zero, suc, _+_, _≤_, _<_}
+use mathlib.Core.Path.{_≡_, refl, ap, _∙_, sym}
+use mathlib.Core.Bool.{false, cond}
+use mathlib.Core.List.{List, [], _∷_, _++_, append-assoc}
+use native.Mathlib.Numerals.{add-one}
+use native.Mathlib.Omega.{arith}
+use lib.Dec.{ltb, eqb, leb·suc-suc}
+use lib.ListN.{length, getD, take, drop, drop-of-length-le, length-append, length-drop}
+use lib.Seq.{drop-cons, take-all, take-append-seam, drop-append-add}
+use borrow.Author.Tests.{lt-ltb, le-ltb, eq-eqb, ne-eqb, eqb-true, ltb-true, ltb-false}
+use Rattle.whole.proofs.Tests.{by-test}
+use Rattle.text.specs.declared.form.Field.{Field}
+use Rattle.text.specs.declared.form.Field.the-variants.{Bad}
+use Rattle.lines.specs.Lines.{onto, split, fieldsOf, rowsOf, rows, fieldText, lineText}
+use Rattle.lines.specs.Held.{until}
+
+-- ---- the first b
+
+module _ (b : ℕ) (s : List ℕ) (i : ℕ) where
+  pub until-here : i < length s → getD s i 0 ≡ b → until b (drop i s) ≡ 0
+  unfolding until
+  until-here h e = rw (drop-cons s i 0) (simp (eq-eqb _ _ e))
+
+  pub until-on : i < length s → (getD s i 0 ≡ b → ⊥) → until b (drop i s) ≡ suc (until b (drop (i + 1) s))
+  unfolding until
+  until-on h e = rw (add-one, drop-cons s i 0) (simp (ne-eqb _ _ e))
+
+  pub until-end : length s ≤ i → until b (drop i s) ≡ 0
+  unfolding until
+  until-end h = rw (drop-of-length-le s h)
+
+pub until-le : (b : ℕ) (s : List ℕ) → until b s ≤ length s
+unfolding until
+until-le b [] = omega arith
+until-le b (x ∷ xs) = by-test (eqb x b) (λ e. rw e (omega arith)) (λ e. rw e (omega (arith, until-le b xs)))
+
+-- ---- parts
+
+-- the first part, and those behind the first b
+pub split-until : (b : ℕ) (s : List ℕ)
+    → split b s ≡ take (until b s) s ∷ cond (ltb (until b s) (length s)) (split b (drop (suc (until b s)) s)) []
+unfolding split until
+split-until b [] = refl
+split-until b (x ∷ xs) =
+    by-test (eqb x b) (λ e. rw (e, lt-ltb 0 (suc (length xs)) (omega arith)))
+    (λ e. rw e (rw (split-until b xs, leb·suc-suc) refl))
+
+pub split-more : (b : ℕ) (s : List ℕ) → until b s < length s → split b s ≡ take (until b s) s ∷ split b (drop (suc (until b s)) s)
+split-more b s h = rw (split-until b s, lt-ltb (until b s) (length s) h)
+
+pub split-last : (b : ℕ) (s : List ℕ) → length s ≤ until b s → split b s ≡ s ∷ []
+split-last b s h = rw (split-until b s, le-ltb (until b s) (length s) h, take-all (until b s) s h)
+
+-- ---- a text with no b in it
+
+abbrev pub Free : ℕ → List ℕ → Type 0
+Free b s = until b s ≡ length s
+
+free-cons : (b x : ℕ) (s : List ℕ) → Free b (x ∷ s) → (eqb x b ≡ false) × Free b s
+unfolding until
+free-cons b x s h =
+    by-test (eqb x b) (λ e. absurd (let q : 0 ≡ suc (length s) = rw e at h in omega arith))
+    (λ e. let q : suc (until b s) ≡ suc (length s) = rw e at h in (e, omega arith))
+
+pub free-append : (b : ℕ) (s t : List ℕ) → Free b s → Free b t → Free b (s ++ t)
+unfolding until
+free-append b [] t h k = k
+free-append b (x ∷ s) t h k = let f = free-cons b x s h in rw (f .0) (ap suc (free-append b s t (f .1) k))
+
+pub free-one : (b x : ℕ) → (x ≡ b → ⊥) → Free b (x ∷ [])
+unfolding until
+free-one b x h = rw (ne-eqb x b h)
+
+until-seam : (b : ℕ) (s t : List ℕ) → Free b s → until b (s ++ (b ∷ t)) ≡ length s
+unfolding until
+until-seam b [] t h = rw (eq-eqb b b refl)
+until-seam b (x ∷ s) t h = let f = free-cons b x s h in rw (f .0) (ap suc (until-seam b s t (f .1)))
+
+pub split-seam : (b : ℕ) (s t : List ℕ) → Free b s → split b (s ++ (b ∷ t)) ≡ s ∷ split b t
+split-seam b s t h =
+    let u = until-seam b s t h in
+    split-more b (s ++ (b ∷ t)) (rw (u, length-append) (omega arith))
+    ∙ rw (u, take-append-seam, ← add-one, drop-append-add)
+
+pub split-one : (b : ℕ) (s : List ℕ) → Free b s → split b s ≡ s ∷ []
+split-one b s h = split-last b s (omega arith)
+
+-- ---- parts put together again
+
+unfoldable pub joined : ℕ → List (List ℕ) → List ℕ
+joined b [] = []
+joined b (p ∷ []) = p
+joined b (p ∷ q ∷ ps) = p ++ (b ∷ joined b (q ∷ ps))
+
+joined-onto : (b x : ℕ) (ps : List (List ℕ)) → joined b (onto x ps) ≡ x ∷ joined b ps
+unfolding joined
+joined-onto b x [] = refl
+joined-onto b x (p ∷ []) = refl
+joined-onto b x (p ∷ q ∷ ps) = refl
+
+joined-more : (b : ℕ) (p t : List ℕ) → joined b (p ∷ split b t) ≡ p ++ (b ∷ joined b (split b t))
+unfolding joined
+joined-more b p t = rw (split-until b t)
+
+pub split-joined : (b : ℕ) (s : List ℕ) → joined b (split b s) ≡ s
+unfolding split joined
+split-joined b [] = refl
+split-joined b (x ∷ xs) =
+    by-test (eqb x b)
+    (λ e. rw e (joined-more b [] xs ∙ ap (λ (l : List ℕ). b ∷ l) (split-joined b xs) ∙ ap (λ (y : ℕ). y ∷ xs) (sym (eqb-true x b e))))
+    (λ e. rw e (joined-onto b x (split b xs) ∙ ap (λ (l : List ℕ). x ∷ l) (split-joined b xs)))
+
+-- ---- lines
+
+rowsOf-more : (l t : List ℕ) → rowsOf (l ∷ split 10 t) ≡ fieldsOf l ∷ rowsOf (split 10 t)
+unfolding rowsOf
+rowsOf-more l t = rw (split-until 10 t)
+
+-- the first line, and those behind its LF
+pub rows-more : (s : List ℕ) → until 10 s < length s → rows s ≡ fieldsOf (take (until 10 s) s) ∷ rows (drop (suc (until 10 s)) s)
+unfolding rows
+rows-more s h = ap rowsOf (split-more 10 s h) ∙ rowsOf-more (take (until 10 s) s) (drop (suc (until 10 s)) s)
+
+pub rows-none : rows [] ≡ []
+unfolding rows rowsOf split
+rows-none = refl
+
+-- a text with no LF
+pub rows-open : (x : ℕ) (s : List ℕ) → Free 10 (x ∷ s) → rows (x ∷ s) ≡ (Bad ∷ []) ∷ []
+unfolding rows rowsOf
+rows-open x s h = rw (split-one 10 (x ∷ s) h)
+
+pub rows-seam : (l t : List ℕ) → Free 10 l → rows (l ++ (10 ∷ t)) ≡ fieldsOf l ∷ rows t
+unfolding rows
+rows-seam l t h = ap rowsOf (split-seam 10 l t h) ∙ rowsOf-more l t
+
+-- at the end of a text no line is left, and before it one is
+pub rows-end : (s : List ℕ) (at : ℕ) → length s ≤ at → rows (drop at s) ≡ []
+rows-end s at h = ap rows (drop-of-length-le s h) ∙ rows-none
+
+pub rows-some : (s : List ℕ) (at : ℕ) → at < length s → (x : List Field) × (xs : List (List Field)) × (rows (drop at s) ≡ x ∷ xs)
+rows-some s at h = go (drop at s) (rw length-drop (omega arith))
+  where
+    go : (t : List ℕ) → 0 < length t → (x : List Field) × (xs : List (List Field)) × (rows t ≡ x ∷ xs)
+    go [] k = absurd (omega arith)
+    go (y ∷ t) k =
+        by-test (ltb (until 10 (y ∷ t)) (length (y ∷ t)))
+        (λ e. (fieldsOf (take (until 10 (y ∷ t)) (y ∷ t)), rows (drop (suc (until 10 (y ∷ t))) (y ∷ t)), rows-more (y ∷ t) (ltb-true _ _ e)))
+        (λ e. (Bad ∷ [], [], rows-open y t (omega (arith, until-le 10 (y ∷ t), ltb-false (until 10 (y ∷ t)) (length (y ∷ t)) e))))
+
+-- ---- the text of a line, field by field
+
+pub line-none : (fs : List Field) → length fs ≡ 0 → lineText fs ≡ []
+unfolding lineText
+line-none [] h = refl
+line-none (f ∷ fs) h = absurd (omega arith)
+
+pub line-first : (fs : List Field) → 0 < length fs → lineText (take 1 fs) ≡ fieldText (getD fs 0 Bad)
+unfolding lineText
+line-first [] h = absurd (omega arith)
+line-first (f ∷ fs) h = refl
+
+line-later : (fs : List Field) (i : ℕ) → suc i < length fs → lineText (take (suc (suc i)) fs) ≡ lineText (take (suc i) fs) ++ (32 ∷ fieldText (getD fs (suc i) Bad))
+unfolding lineText
+line-later [] i h = absurd (omega arith)
+line-later (f ∷ []) i h = absurd (omega arith)
+line-later (f ∷ g ∷ fs) zero h = refl
+line-later (f ∷ g ∷ fs) (suc i) h =
+    ap (λ (t : List ℕ). fieldText f ++ (32 ∷ t)) (line-later (g ∷ fs) i (omega arith)) ∙ rw append-assoc
+
+pub line-next : (fs : List Field) (i : ℕ) → 0 < i → i < length fs → lineText (take (i + 1) fs) ≡ lineText (take i fs) ++ (32 ∷ fieldText (getD fs i Bad))
+line-next fs zero h k = absurd (omega arith)
+line-next fs (suc i) h k = rw add-one (line-later fs i k)

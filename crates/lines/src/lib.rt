@@ -1,0 +1,3 @@
+// Lines of fields: read from a text, and written.
+pub mod line;
+pub mod row;

@@ -1,0 +1,69 @@
+// Fields and lines of fields written.
+use crate::row::Line;
+use text::form::Field;
+ghost use mathlib.Core.Path.{_≡_};
+ghost use mathlib.Core.List.{[], _∷_};
+ghost use lib.ListN.{length};
+ghost use Rattle.lines.specs.Lines.{fieldText, lineText, textOf};
+ghost use Rattle.lines.specs.Held.{held};
+ghost use Rattle.text.specs.Writing.{Put};
+
+fn wide(n: u32) -> u64
+    ensures { λ r. ⌜ r ≡ n ⌝ }
+{
+    n as u64
+}
+
+// A field as a line has it; nothing for Bad.
+pub fn put_field(buf: &mut [u8], at: usize, f: Field) -> usize
+    ensures { λ r. ⌜ Put (now (buf .entry)) at (fieldText f) (now (buf .exit)) r ⌝ }
+{
+    match f {
+        Field::Bad => text::page::put_bytes(buf, at, b""),
+        Field::Plus(n) => text::numeral::put_natural(buf, at, wide(n)),
+        Field::Minus(n) => {
+            let next = text::page::put_byte(buf, at, 45);
+            text::numeral::put_natural(buf, next, wide(n))
+        }
+        Field::Letter(b) => text::page::put_byte(buf, at, b),
+        Field::Dash => text::page::put_byte(buf, at, 45),
+    }
+}
+
+// How many fields a line holds.
+fn held_count(x: Line) -> usize
+    ensures { λ r. ⌜ r ≡ length (held x) ⌝ }
+{
+    if x.count < 6 {
+        return x.count;
+    }
+    6
+}
+
+// The fields of a line with single spaces between them.
+fn put_fields(buf: &mut [u8], at: usize, x: Line) -> usize
+    ensures { λ r. ⌜ Put (now (buf .entry)) at (lineText (held x)) (now (buf .exit)) r ⌝ }
+{
+    let n = held_count(x);
+    if n == 0 {
+        return text::page::put_bytes(buf, at, b"");
+    }
+    let f = crate::row::field_at(x, 0);
+    let mut next = put_field(buf, at, f);
+    let mut i: usize = 1;
+    while i < n {
+        let g = crate::row::field_at(x, i);
+        next = text::page::put_byte(buf, next, 32);
+        next = put_field(buf, next, g);
+        i += 1;
+    }
+    next
+}
+
+// A line and its LF.
+pub fn put_line(buf: &mut [u8], at: usize, x: Line) -> usize
+    ensures { λ r. ⌜ Put (now (buf .entry)) at (textOf (held x ∷ [])) (now (buf .exit)) r ⌝ }
+{
+    let next = put_fields(buf, at, x);
+    text::page::put_byte(buf, next, 10)
+}

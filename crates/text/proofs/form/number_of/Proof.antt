@@ -1,0 +1,54 @@
+-- `number_of` meets its contract.
+use mathlib.Core.Path.{ap, _∙_}
+use native.Mathlib.Nat.{le-of-eq}
+use lib.ListN.{length-drop}
+use lib.Seq.{take-all}
+use Rattle.text.specs.Field.{negative}
+use Rattle.text.proofs.Field.{number-none, number-minus, number-plus}
+use borrow.Author.Needs.{needs}
+use Rattle.text.proofs.form.number_of.Statement.{statement}
+use Rattle.text.proofs.form.number_of.Tie as tie
+
+returns : tie.Need-returns
+returns c = number-none _ (c .if1 .taken)
+
+shared-slice-read-if2 : tie.Need-shared-slice-read-if2
+shared-slice-read-if2 c = search needs
+
+sub-negative-of : tie.Need-sub-negative-of
+sub-negative-of c = search needs
+
+part-negative-of-start : tie.Need-part-negative-of-start
+part-negative-of-start c = search needs
+
+part-negative-of-end : tie.Need-part-negative-of-end
+part-negative-of-end c = search needs
+
+negative-of-requires : tie.Need-negative-of-requires
+negative-of-requires c κs = search needs
+
+returns-2 : tie.Need-returns-2
+returns-2 c =
+    let t = c .before .before in
+    let s = t .before .before .before .before .args .s .now in
+    c .negative-of .ensures ∙ ap negative (take-all _ _ (le-of-eq (length-drop 1 s))) ∙ number-minus s (t .if2 .taken)
+
+unsigned-of-requires : tie.Need-unsigned-of-requires
+unsigned-of-requires c κs = search needs
+
+returns-3 : tie.Need-returns-3
+returns-3 c = c .unsigned-of .ensures ∙ number-plus _ (c .before .if2 .left)
+
+pub number-of-spec : {M : Type 1} → statement M
+number-of-spec =
+    tie.close
+    (tie.spec
+    returns
+    shared-slice-read-if2
+    sub-negative-of
+    part-negative-of-start
+    part-negative-of-end
+    negative-of-requires
+    returns-2
+    unsigned-of-requires
+    returns-3)

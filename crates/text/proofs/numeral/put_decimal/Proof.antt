@@ -1,0 +1,72 @@
+-- `put_decimal` meets its contract: the sign is put, and then the digits of the size.
+use mathlib.Core.Path.{_≡_, sym, ap, _∙_}
+use mathlib.Core.List.{_∷_}
+use lib.IntN.{ℤ, pos, natAbs}
+use lib.Signed.{ltZ}
+use mir.Syntax.{w64}
+use mir.ValLaws.{toZ-ofZ}
+use Rattle.text.specs.Digits.{digits, decimal}
+use Rattle.text.proofs.Digits.{decimal-below, decimal-above}
+use Rattle.text.proofs.Writing.{then}
+use borrow.Author.Needs.{needs}
+use Rattle.text.proofs.numeral.put_decimal.Statement.{statement}
+use Rattle.text.proofs.numeral.put_decimal.Tie as tie
+
+-- the text, in either arm
+below : (c : tie.Then1) → decimal (c .before .before .before .args .z) ≡ 45 ∷ digits (c .before .magnitude .result)
+below c =
+    let z = c .before .before .before .args .z in
+    let bits = toZ-ofZ w64 z (c .before .before .before .fits .z) in
+    decimal-below z (c .before .magnitude .result)
+    (ap (λ (y : ℤ). ltZ y (pos 0)) (sym bits) ∙ c .if1 .taken)
+    (c .before .magnitude .ensures ∙ ap natAbs bits)
+
+above : (c : tie.Else1) → decimal (c .before .before .before .args .z) ≡ digits (c .before .magnitude .result)
+above c =
+    let z = c .before .before .before .args .z in
+    let bits = toZ-ofZ w64 z (c .before .before .before .fits .z) in
+    decimal-above z (c .before .magnitude .result)
+    (ap (λ (y : ℤ). ltZ y (pos 0)) (sym bits) ∙ c .if1 .left)
+    (c .before .magnitude .ensures ∙ ap natAbs bits)
+
+magnitude-requires : tie.Need-magnitude-requires
+magnitude-requires c κs = search needs
+
+put-byte-requires : tie.Need-put-byte-requires
+put-byte-requires c κs = search needs
+
+put-natural-requires : tie.Need-put-natural-requires
+put-natural-requires c κs = search needs
+
+same-length : tie.Need-same-length
+same-length c = search needs
+
+returns : tie.Need-returns
+returns c =
+    let g = c .before .before in
+    let p = g .before .before .before .before in
+    rw (below (p .before .before)) (then (p .put-byte .ensures) (g .put-natural .ensures))
+
+put-natural-requires-2 : tie.Need-put-natural-requires-2
+put-natural-requires-2 c κs = search needs
+
+same-length-2 : tie.Need-same-length-2
+same-length-2 c = search needs
+
+returns-2 : tie.Need-returns-2
+returns-2 c =
+    let g = c .before .before in
+    rw (above (g .before .before)) (g .put-natural2 .ensures)
+
+pub put-decimal-spec : {M : Type 1} → statement M
+put-decimal-spec =
+    tie.close
+    (tie.spec
+    magnitude-requires
+    put-byte-requires
+    put-natural-requires
+    same-length
+    returns
+    put-natural-requires-2
+    same-length-2
+    returns-2)

@@ -1,0 +1,68 @@
+-- `put_bytes` meets its contract: after i turns the first i bytes are put.
+use Prim.Native.Nat.{_≤_, _-_}
+use denote.Ref.{now}
+use lib.ListN.{length, take}
+use lib.Seq.{take-all}
+use Rattle.text.specs.Writing.{Put}
+use Rattle.text.proofs.Writing.{put-length, put-nothing, put-past, put-more}
+use borrow.Author.Needs.{needs}
+use Rattle.text.proofs.page.put_bytes.Statement.{statement}
+use Rattle.text.proofs.page.put_bytes.Tie as tie
+
+abbrev Inv-loop : tie.InvT-loop
+Inv-loop buf₀ at s next₀ i₀ buf next i = (i ≤ length s) × Put buf₀ at (take i s) buf next
+
+abbrev μ-loop : tie.MeasureT-loop
+μ-loop buf₀ at s next₀ i₀ buf next i = length s - i
+
+returns : tie.Need-returns Inv-loop μ-loop
+returns c =
+    let a = c .before .before .before .args in
+    put-past (now (a .buf)) (a .at) (now (a .s)) (search needs)
+
+loop-holds : tie.Need-loop-holds Inv-loop μ-loop
+loop-holds c =
+    let a = c .before .before .before .args in
+    (search needs, put-nothing (now (a .buf)) (a .at) (c .if1 .left))
+
+shared-slice-read-put-byte : tie.Need-shared-slice-read-put-byte Inv-loop μ-loop
+shared-slice-read-put-byte c = search needs
+
+put-byte-requires : tie.Need-put-byte-requires Inv-loop μ-loop
+put-byte-requires c κs = search needs
+
+add-i : tie.Need-add-i Inv-loop μ-loop
+add-i c = search needs
+
+loop-less : tie.Need-loop-less Inv-loop μ-loop
+loop-less c = search needs
+
+loop-again : tie.Need-loop-again Inv-loop μ-loop
+loop-again c =
+    let p = c .before .before in
+    let l = p .before .before .before .before in
+    (search needs, put-more (now (l .before .before .before .before .args .s)) (l .loop .i) (search needs) (l .loop .inv .1) (p .put-byte .ensures))
+
+same-length : tie.Need-same-length Inv-loop μ-loop
+same-length c = put-length (c .before .loop .inv .1)
+
+returns-2 : tie.Need-returns-2 Inv-loop μ-loop
+returns-2 c =
+    let l = c .before in
+    rw (take-all (l .loop .i) (now (l .before .before .before .before .args .s)) (c .loop-test .left)) at (l .loop .inv .1)
+
+pub put-bytes-spec : {M : Type 1} → statement M
+put-bytes-spec =
+    tie.close
+    (tie.spec
+    Inv-loop
+    μ-loop
+    returns
+    loop-holds
+    shared-slice-read-put-byte
+    put-byte-requires
+    add-i
+    loop-less
+    loop-again
+    same-length
+    returns-2)

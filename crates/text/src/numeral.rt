@@ -1,0 +1,36 @@
+// Numbers written in decimal.
+use crate::page::Writing;
+ghost use mathlib.Core.Path.{_≡_};
+ghost use Rattle.text.specs.Digits.{digits, decimal};
+ghost use Rattle.text.specs.Writing.{Put, writing, bufferAfter};
+
+// The digits of n, most significant first: those of a tenth of it, and then the last.
+pub fn put_natural(buf: &mut [u8], at: usize, n: u64) -> usize
+    ensures { λ r. ⌜ Put (now (buf .entry)) at (digits n) (now (buf .exit)) r ⌝ }
+{
+    if n < 10 {
+        return crate::page::put_byte(buf, at, 48 + (n as u8));
+    }
+    let end = put_natural(buf, at, n / 10);
+    crate::page::put_byte(buf, end, 48 + ((n % 10) as u8))
+}
+
+pub fn put_decimal(buf: &mut [u8], at: usize, z: i64) -> usize
+    ensures { λ r. ⌜ Put (now (buf .entry)) at (decimal z) (now (buf .exit)) r ⌝ }
+{
+    let m = whole::magnitude(z);
+    if z < 0 {
+        let next = crate::page::put_byte(buf, at, 45);
+        return put_natural(buf, next, m);
+    }
+    put_natural(buf, at, m)
+}
+
+// z in decimal at the start of `buf`.
+pub fn write_decimal(z: i64, buf: &mut [u8]) -> Writing
+    ensures { λ r. ⌜ (r ≡ writing (decimal z) (now (buf .entry))) × (now (buf .exit) ≡ bufferAfter (decimal z) (now (buf .entry))) ⌝ }
+{
+    let mut text = [0u8; 20];
+    let n = put_decimal(&mut text, 0, z);
+    crate::page::emit(&text, n, buf)
+}

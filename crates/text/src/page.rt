@@ -1,0 +1,56 @@
+// A text put into a lent buffer. The put functions store it from a place on, as far as there is room, and answer the
+// place after it, so that one follows another; `emit` puts a whole text at the buffer's start, or refuses.
+ghost use mathlib.Core.Path.{_≡_};
+ghost use mathlib.Core.List.{[], _∷_};
+ghost use lib.ListN.{take};
+ghost use Rattle.text.specs.Writing.{Put, writing, bufferAfter};
+
+// What writing comes to: the text's length, or a refusal's number and line.
+pub enum Writing {
+    Length(usize),
+    Refused(u32, u32),
+}
+
+pub fn put_byte(buf: &mut [u8], at: usize, b: u8) -> usize
+    ensures { λ r. ⌜ Put (now (buf .entry)) at (b ∷ []) (now (buf .exit)) r ⌝ }
+{
+    if at < buf.len() {
+        buf[at] = b;
+        return at + 1;
+    }
+    buf.len()
+}
+
+pub fn put_bytes(buf: &mut [u8], at: usize, s: &[u8]) -> usize
+    ensures { λ r. ⌜ Put (now (buf .entry)) at (now (s .entry)) (now (buf .exit)) r ⌝ }
+{
+    if buf.len() < at {
+        return buf.len();
+    }
+    let mut next = at;
+    let mut i = 0;
+    while i < s.len() {
+        next = put_byte(buf, next, s[i]);
+        i += 1;
+    }
+    next
+}
+
+// The first n bytes of `text`, or all where it has fewer, at the start of `buf`.
+pub fn emit(text: &[u8], n: usize, buf: &mut [u8]) -> Writing
+    ensures { λ r. ⌜ (r ≡ writing (take n (now (text .entry))) (now (buf .entry))) × (now (buf .exit) ≡ bufferAfter (take n (now (text .entry))) (now (buf .entry))) ⌝ }
+{
+    if text.len() < n {
+        return emit_all(text, buf);
+    }
+    emit_all(&text[..n], buf)
+}
+
+fn emit_all(text: &[u8], buf: &mut [u8]) -> Writing
+    ensures { λ r. ⌜ (r ≡ writing (now (text .entry)) (now (buf .entry))) × (now (buf .exit) ≡ bufferAfter (now (text .entry)) (now (buf .entry))) ⌝ }
+{
+    if buf.len() < text.len() {
+        return Writing::Refused(7, 0);
+    }
+    Writing::Length(put_bytes(buf, 0, text))
+}
