@@ -1,0 +1,24 @@
+-- What the machine has of a signed number, and of several tests put together.
+use mathlib.Core.Path.{_≡_, ap, _∙_}
+use mathlib.Core.Bool.{Bool, false, _||_, or-false}
+use Prim.Native.Nat.{_^_, _<_}
+use lib.IntN.{ℤ}
+use lib.Signed.{mag}
+use mir.Syntax.{w64}
+use mir.Val.{toZ, ofZ}
+use mir.ValLaws.{toZ-ofZ}
+
+-- a field of 64 bits is read back as the number that it is; `mag z < 2 ^ 63` is what a struct tells of it
+pub plain : (z : ℤ) → mag z < 2 ^ 63 → toZ w64 (ofZ w64 z) ≡ z
+plain z h = toZ-ofZ w64 z (record { sfits = h })
+
+-- what a call says of a field as the machine has it, said of the field
+pub said : {A : Type 0} (f : ℤ → A) (z : ℤ) {r : A} → r ≡ f (toZ w64 (ofZ w64 z)) → mag z < 2 ^ 63 → r ≡ f z
+said f z e h = e ∙ ap f (plain z h)
+
+-- six tests by five calls of `either`
+pub any-of-six : {t₁ t₂ t₃ t₄ t₅ t₆ r₁ r₂ r₃ r₄ r₅ u₁ u₂ u₃ u₄ u₅ u₆ : Bool} →
+    r₁ ≡ (t₅ || t₆) → r₂ ≡ (t₄ || r₁) → r₃ ≡ (t₃ || r₂) → r₄ ≡ (t₂ || r₃) → r₅ ≡ (t₁ || r₄) →
+    t₁ ≡ u₁ → t₂ ≡ u₂ → t₃ ≡ u₃ → t₄ ≡ u₄ → t₅ ≡ u₅ → t₆ ≡ u₆ →
+    r₅ ≡ (u₁ || (u₂ || (u₃ || (u₄ || (u₅ || (u₆ || false))))))
+any-of-six {u₆} a b c d e f g h i j k = cc (or-false u₆)

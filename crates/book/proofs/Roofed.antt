@@ -1,0 +1,124 @@
+-- The roof of a building in order: where its part of the tables begins, and the spot that is found there.
+use mathlib.Core.Path.{_≡_, refl, sym, ap, _∙_, subst}
+use mathlib.Core.Bool.{Bool, true, false, cond}
+use Prim.Native.Nat.{ℕ, _+_, _*_, _≤_, _<_}
+use native.Mathlib.Omega.{arith}
+use lib.Dec.{T, leb, eqb, leb→le, lit≤}
+use lib.IntN.{pos, natAbs, _*ℤ_}
+use lib.ListN.{getD}
+use borrow.Author.Tests.{eqb-true, eqb-false}
+use Rattle.whole.proofs.Table.{all-at, both, both-left, both-right, each-at}
+use Rattle.book.specs.declared.faults.Sizes.{Sizes}
+use Rattle.book.specs.Line.{cellIn}
+use Rattle.book.specs.Gable.{blockOf}
+use Rattle.book.specs.Roof.{Roof, roof, roofs, roofOf, along, across, partAts, firstRow, partOf, spotIn, roofCells, roofValue}
+use Rattle.book.specs.Order.{Ranged, InOrder}
+use Rattle.book.proofs.Spot.{Good, spot-good}
+use Rattle.book.proofs.Tables.{part, roof-small, gable-small, flat-small}
+use Rattle.book.proofs.Rows.{blockOf-most}
+use Rattle.book.proofs.Between.{Between, line-between, line-small}
+
+-- ---- the range of x
+
+abbrev low : Roof → Bool
+low r = both (leb (r .least) 900) (leb (r .greatest) 900)
+
+low-at : (kind : ℕ) → T (low (roofOf kind))
+unfolding roofOf
+low-at kind = all-at low roofs (roof 0 0 false) tt tt kind
+
+pub least-most : (kind : ℕ) → roofOf kind .least ≤ 900
+least-most kind = leb→le _ 900 (both-left (leb (roofOf kind .least) 900) (leb (roofOf kind .greatest) 900) (low-at kind))
+
+pub greatest-most : (kind : ℕ) → roofOf kind .greatest ≤ 900
+greatest-most kind = leb→le _ 900 (both-right (leb (roofOf kind .least) 900) (leb (roofOf kind .greatest) 900) (low-at kind))
+
+one-of : (t : Bool) {m n k : ℕ} → 0 < m → m ≤ k → 0 < n → n ≤ k → (0 < cond t m n) × (cond t m n ≤ k)
+one-of true a b c d = (a, b)
+one-of false a b c d = (c, d)
+
+pub across-range : {s : Sizes} → Ranged s → (0 < across s) × (across s ≤ 30000)
+across-range {s} r = one-of (roofOf (s .kind) .byHeight) (omega arith) (omega arith) (omega arith) (omega arith)
+
+-- ---- the part of the tables
+
+-- a part's first row stands at the least x of its kind
+gable-begins : (k : ℕ) → k < 3 → getD (partAts k) 0 0 ≡ roofOf 1 .least
+unfolding partAts roofOf
+gable-begins = each-at (λ (k : ℕ). getD (partAts k) 0 0 ≡ roofOf 1 .least) 3 (refl, (refl, (refl, tt)))
+
+flat-begins : (kind : ℕ) → kind < 6 → getD (partAts (kind + 1)) 0 0 ≡ roofOf kind .least
+unfolding partAts roofOf
+flat-begins =
+    each-at (λ (kind : ℕ). getD (partAts (kind + 1)) 0 0 ≡ roofOf kind .least) 6 (refl, (refl, (refl, (refl, (refl, (refl, tt))))))
+
+gable-end : (k : ℕ) → k < 4 → firstRow k ≤ 22
+unfolding firstRow
+gable-end = each-at (λ (k : ℕ). firstRow k ≤ 22) 4 (lit≤ tt, (lit≤ tt, (lit≤ tt, (lit≤ tt, tt))))
+
+-- the part of a roof: a gable's is one of the first three, with the 22 rows of table 3.2.2.2.2
+pub record Covered (s : Sizes) (k : ℕ) : Type 0 where
+  pub below : k < 7
+  pub begins : getD (partAts k) 0 0 ≡ roofOf (s .kind) .least
+  pub gable : s .kind ≡ 1 → k < 3
+
+module _ (s : Sizes) (o : InOrder s) (roofed : 0 < s .kind) where
+  pub covered : Covered s (partOf s)
+  covered = go (eqb (s .kind) 1) refl
+    where
+      go : (t : Bool) → eqb (s .kind) 1 ≡ t → Covered s (cond t (blockOf (s .h) (s .b)) (s .kind + 1))
+      go true e =
+          let q = eqb-true (s .kind) 1 e in
+          let block = blockOf-most (s .h) (s .b) (o .h-over-b) in
+          record { below = omega arith; begins = gable-begins (blockOf (s .h) (s .b)) (omega arith) ∙ ap (λ (n : ℕ). roofOf n .least) (sym q); gable = λ p. omega arith }
+      go false e =
+          let q = eqb-false (s .kind) 1 e in
+          let most = o .ranged .kind-most in
+          record { below = omega arith; begins = flat-begins (s .kind) (omega arith); gable = λ p. absurd (q p) }
+
+  -- x is not before the part's first row
+  pub reached : getD (partAts (partOf s)) 0 0 * across s ≤ along s
+  reached = subst (λ (n : ℕ). n * across s ≤ along s) (sym (covered .begins)) (o .x-from)
+
+  -- the spot's rows are the part's, and its fraction is one
+  pub found : Good (firstRow (partOf s)) (firstRow (partOf s + 1)) 27000001 (spotIn (partOf s) (along s) (across s))
+  unfolding spotIn
+  found =
+      let p = part (partOf s) (covered .below) in
+      let r = spot-good 900 (firstRow (partOf s)) (partAts (partOf s)) (along s) (across s) (p .rises) (across-range (o .ranged) .0) reached in
+      let n = p .next in
+      let m = across-range (o .ranged) in
+      record { from = r .from; lower = omega arith; upper = omega arith; within = r .within; some = r .some; small = omega arith }
+
+  pub found-any : Good 0 33 27000001 (spotIn (partOf s) (along s) (across s))
+  found-any =
+      let e = part (partOf s) (covered .below) .end in
+      let f = found in
+      record { from = omega arith; lower = omega arith; upper = omega arith; within = f .within; some = f .some; small = f .small }
+
+  -- the value lies between its two rows, ends included
+  pub roof-between : (col : ℕ) → let r = spotIn (partOf s) (along s) (across s) in Between (cellIn roofCells (r .lower) col *ℤ pos 10) (cellIn roofCells (r .upper) col *ℤ pos 10) (roofValue s col)
+  unfolding roofValue
+  roof-between col =
+      let r = spotIn (partOf s) (along s) (across s) in
+      line-between (cellIn roofCells (r .lower) col) (cellIn roofCells (r .upper) col) (r .part) (r .whole) (found .within) (found .some)
+
+  -- and so is small
+  value-small : (k col : ℕ) → natAbs (cellIn roofCells (spotIn (partOf s) (along s) (across s) .lower) col) ≤ k → natAbs (cellIn roofCells (spotIn (partOf s) (along s) (across s) .upper) col) ≤ k → natAbs (roofValue s col) ≤ k * 10
+  unfolding roofValue
+  value-small k col h g =
+      let r = spotIn (partOf s) (along s) (across s) in
+      line-small (cellIn roofCells (r .lower) col) (cellIn roofCells (r .upper) col) (r .part) (r .whole) (found .within) (found .some) k h g
+
+  pub roofValue-small : (col : ℕ) → natAbs (roofValue s col) ≤ 2500
+  roofValue-small col = value-small 250 col (roof-small _ col) (roof-small _ col)
+
+  -- a zone's: any column of a gable, and a flat roof's E and F
+  pub flatValue-small : (col : ℕ) → col < 2 → natAbs (roofValue s col) ≤ 1200
+  flatValue-small col h = value-small 120 col (flat-small _ col h) (flat-small _ col h)
+
+  pub gableValue-small : s .kind ≡ 1 → (col : ℕ) → natAbs (roofValue s col) ≤ 1200
+  gableValue-small e col =
+      let m = gable-end (partOf s + 1) (omega (arith, covered .gable e)) in
+      let f = found in
+      value-small 120 col (gable-small _ col (omega arith)) (gable-small _ col (omega arith))

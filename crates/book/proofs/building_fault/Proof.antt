@@ -1,0 +1,89 @@
+-- `building_fault`: each test in its order, and after the ranges the numbers are small enough for the next two.
+use mathlib.Core.Path.{_≡_, sym, ap, _∙_, subst}
+use mathlib.Core.Bool.{false}
+use borrow.Author.Needs.{needs}
+use Rattle.book.specs.declared.faults.Sizes.{Sizes}
+use Rattle.book.specs.Roof.{outOfRoof}
+use Rattle.book.specs.Order.{Ranged}
+use Rattle.book.specs.Building.{outOfForm, outOfRange, outOfWalls, sizes, buildingFault}
+use Rattle.book.proofs.Accepted.{fields, ranged}
+use Rattle.book.proofs.building_fault.Statement.{statement}
+use Rattle.book.proofs.building_fault.Tie as tie
+
+-- what each test answered, said of the building
+in-form : (c : tie.Else1) → outOfForm (c .before .before .args .g) ≡ false
+in-form c = sym (c .before .out-of-form .ensures) ∙ c .if1 .left
+
+in-range : (c : tie.Else2) → outOfRange (c .before .before .before .before .args .g) ≡ false
+in-range c = sym (c .before .out-of-range .ensures) ∙ c .if2 .left
+
+small : (c : tie.Else2) (s : Sizes) → s ≡ sizes (c .before .before .before .before .args .g) → Ranged s
+small c s e = subst (λ (s : Sizes). Ranged s) (sym e) (ranged (fields (c .before .before .before .before .args .g) (in-range c)))
+
+walls : (c : tie.After-out-of-walls) → c .out-of-walls .result ≡ outOfWalls (sizes (c .before .before .before .before .before .before .args .g))
+walls c = c .out-of-walls .ensures ∙ ap outOfWalls (c .before .sizes-of .ensures)
+
+roof : (c : tie.After-out-of-roof) → c .out-of-roof .result ≡ outOfRoof (sizes (c .before .before .before .before .before .before .before .before .before .args .g))
+roof c = c .out-of-roof .ensures ∙ ap outOfRoof (c .before .sizes-of2 .ensures)
+
+out-of-form-requires : tie.Need-out-of-form-requires
+out-of-form-requires c κs = search needs
+
+returns : tie.Need-returns
+unfolding buildingFault
+returns c = rw (sym (c .before .out-of-form .ensures) ∙ c .if1 .taken)
+
+out-of-range-requires : tie.Need-out-of-range-requires
+out-of-range-requires c κs = search needs
+
+returns-2 : tie.Need-returns-2
+unfolding buildingFault
+returns-2 c = rw (in-form (c .before .before), sym (c .before .out-of-range .ensures) ∙ c .if2 .taken)
+
+sizes-of-requires : tie.Need-sizes-of-requires
+sizes-of-requires c κs = search needs
+
+out-of-walls-requires : tie.Need-out-of-walls-requires
+out-of-walls-requires c κs = small (c .before) (c .sizes-of .result) (c .sizes-of .ensures)
+
+returns-3 : tie.Need-returns-3
+unfolding buildingFault
+returns-3 c =
+    let d = c .before .before .before in
+    rw (in-form (d .before .before), in-range d, sym (walls (c .before)) ∙ c .if3 .taken)
+
+sizes-of-requires-2 : tie.Need-sizes-of-requires-2
+sizes-of-requires-2 c κs = search needs
+
+out-of-roof-requires : tie.Need-out-of-roof-requires
+out-of-roof-requires c κs = small (c .before .before .before .before) (c .sizes-of2 .result) (c .sizes-of2 .ensures)
+
+returns-4 : tie.Need-returns-4
+unfolding buildingFault
+returns-4 c =
+    let w = c .before .before .before in
+    let d = w .before .before .before in
+    rw (in-form (d .before .before), in-range d, sym (walls (w .before)) ∙ w .if3 .left, sym (roof (c .before)) ∙ c .if4 .taken)
+
+returns-5 : tie.Need-returns-5
+unfolding buildingFault
+returns-5 c =
+    let w = c .before .before .before in
+    let d = w .before .before .before in
+    rw (in-form (d .before .before), in-range d, sym (walls (w .before)) ∙ w .if3 .left, sym (roof (c .before)) ∙ c .if4 .left)
+
+pub building-fault-spec : {M : Type 1} → statement M
+building-fault-spec =
+    tie.close
+    (tie.spec
+    out-of-form-requires
+    returns
+    out-of-range-requires
+    returns-2
+    sizes-of-requires
+    out-of-walls-requires
+    returns-3
+    sizes-of-requires-2
+    out-of-roof-requires
+    returns-4
+    returns-5)

@@ -1,0 +1,18 @@
+-- `question::flat`: the kind is read back as it is.
+use mathlib.Core.Path.{ap}
+use mathlib.Core.Bool.{not}
+use lib.IntN.{pos}
+use borrow.Author.Needs.{needs}
+use Rattle.book.specs.Test.{beyond}
+use Rattle.book.proofs.Machine.{said}
+use Rattle.book.proofs.question.flat.Statement.{statement}
+use Rattle.book.proofs.question.flat.Tie as tie
+
+beyond-requires : tie.Need-beyond-requires
+beyond-requires c κs = search needs
+
+returns : tie.Need-returns
+returns c = ap not (said (beyond (pos 2) (pos 5)) (c .before .args .kind) (c .beyond .ensures) (c .before .fits .kind .sfits))
+
+pub flat-spec : {M : Type 1} → statement M
+flat-spec = tie.close (tie.spec beyond-requires returns)

@@ -1,0 +1,219 @@
+// Asks about every printed row of every table: at its ends, and one step to either side of each limit. tools/rows.py works out from the book what must come out.
+use book::Answer;
+use book::Building;
+
+// At b 1000: the limits of h/b and of a/b, and the places on the walls.
+const HEIGHTS: [i64; 10] = [100, 499, 500, 501, 1499, 1500, 1501, 5999, 6000, 6001];
+
+const SIDES: [i64; 9] = [999, 1000, 1001, 1499, 1500, 1501, 3999, 4000, 4001];
+
+const WALL_WINDS: [i64; 10] = [0, 0, 0, 0, 90, 90, 90, 90, 0, 45];
+
+const WALL_PLACES: [u8; 10] = [65, 66, 67, 68, 65, 66, 67, 68, 119, 65];
+
+// Gables at a 1200 and b 1000: the blocks of h/b, and the slopes in tenths of a degree.
+const BLOCKS: [i64; 5] = [500, 501, 1500, 1501, 6000];
+
+const SLOPES: [i64; 26] = [
+    0,
+    1,
+    49,
+    50,
+    51,
+    99,
+    100,
+    101,
+    199,
+    200,
+    201,
+    299,
+    300,
+    301,
+    399,
+    400,
+    401,
+    449,
+    450,
+    451,
+    499,
+    500,
+    501,
+    599,
+    600,
+    601,
+];
+
+const GABLE_WINDS: [i64; 8] = [0, 0, 0, 0, 90, 90, 90, 90];
+
+const GABLE_PLACES: [u8; 8] = [69, 70, 71, 72, 69, 70, 71, 72];
+
+// Flat roofs at h 4000, a 4800 and b 4000: kinds and numbers x.
+const KINDS: [i64; 32] = [
+    2,
+    2,
+    3,
+    3,
+    3,
+    3,
+    3,
+    3,
+    3,
+    3,
+    3,
+    4,
+    4,
+    4,
+    4,
+    4,
+    4,
+    4,
+    4,
+    4,
+    5,
+    5,
+    5,
+    5,
+    5,
+    5,
+    5,
+    5,
+    5,
+    5,
+    5,
+    5,
+];
+
+const NUMBERS: [i64; 32] = [
+    0,
+    1,
+    99,
+    100,
+    101,
+    199,
+    200,
+    201,
+    399,
+    400,
+    401,
+    199,
+    200,
+    201,
+    399,
+    400,
+    401,
+    799,
+    800,
+    801,
+    299,
+    300,
+    301,
+    449,
+    450,
+    451,
+    599,
+    600,
+    601,
+    899,
+    900,
+    901,
+];
+
+const FLAT_WINDS: [i64; 10] = [0, 0, 0, 0, 90, 90, 90, 90, 0, 90];
+
+const FLAT_PLACES: [u8; 10] = [69, 70, 49, 50, 69, 70, 49, 50, 71, 72];
+
+fn put(z: i64) {
+    if z < 0 {
+        io::write_all(1, b"-");
+    }
+    io::print_decimal(1, whole::magnitude(z));
+    io::write_all(1, b" ");
+}
+
+fn put_value(v: i32) {
+    put(v as i64);
+}
+
+fn put_answer(answer: Answer) {
+    match answer {
+        Answer::One(v) => put_value(v),
+        Answer::Two(v, w) => {
+            put_value(v);
+            put_value(w);
+        }
+        Answer::Refused(n, l) => {
+            io::write_all(1, b"refused ");
+            put(n as i64);
+            put(l as i64);
+        }
+    }
+}
+
+fn show(g: Building, direction: i64, place: u8) {
+    put(g.h);
+    put(g.a);
+    put(g.b);
+    put(g.kind);
+    put(g.x);
+    put(direction);
+    io::write_all(1, &[place, b' ']);
+    put_answer(book::outside(g, direction, place));
+    io::write_all(1, b"net ");
+    put_answer(book::net(g, direction, place, -30));
+    io::write_all(1, b"\n");
+}
+
+fn wall(n: usize) {
+    let g = Building {
+        h: HEIGHTS[n / 90 % 10],
+        a: SIDES[n / 10 % 9],
+        b: 1000,
+        density: 1250,
+        kind: 0,
+        x: 0,
+    };
+    show(g, WALL_WINDS[n % 10], WALL_PLACES[n % 10]);
+}
+
+fn gable(n: usize) {
+    let g = Building {
+        h: BLOCKS[n / 208 % 5],
+        a: 1200,
+        b: 1000,
+        density: 1250,
+        kind: 1,
+        x: SLOPES[n / 8 % 26],
+    };
+    show(g, GABLE_WINDS[n % 8], GABLE_PLACES[n % 8]);
+}
+
+fn flat(n: usize) {
+    let g = Building {
+        h: 4000,
+        a: 4800,
+        b: 4000,
+        density: 1250,
+        kind: KINDS[n / 10 % 32],
+        x: NUMBERS[n / 10 % 32],
+    };
+    show(g, FLAT_WINDS[n % 10], FLAT_PLACES[n % 10]);
+}
+
+// 900 questions on walls, 1040 on gables, 320 on flat roofs.
+fn ask(n: usize) {
+    if n < 900 {
+        return wall(n);
+    }
+    if n < 1940 {
+        return gable(n - 900);
+    }
+    flat(n - 1940);
+}
+
+fn main() {
+    let mut n: usize = 0;
+    while n < 2260 {
+        ask(n);
+        n += 1;
+    }
+}
