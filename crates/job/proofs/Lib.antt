@@ -1,0 +1,20 @@
+-- The laws: of the rules and of the walk; that the answer is the first fault; what is accepted, written and read again; and of records.
+pub mod Rules
+pub mod Building
+pub mod Lowest
+pub mod FirstFault
+pub mod Walk
+pub mod Sections
+pub mod Sheet
+pub mod Lines
+pub mod RoundTrip
+pub mod InForm
+pub mod InOrder
+pub mod Records
+pub mod Worked
+pub mod Tested
+pub mod Lower
+pub mod Slots
+pub mod Alone
+pub mod Judged
+pub mod Verdicts

@@ -1,0 +1,113 @@
+-- A section is accepted exactly if its count is within the limits and its entries are in order.
+use Prim.Native.Nat.{ℕ, _+_, _<_}
+use mathlib.Core.Path.{_≡_, refl, ap, _∙_, sym, subst}
+use mathlib.Core.List.{List, [], _∷_, _++_, append-nil}
+use native.Mathlib.Omega.{arith}
+use lib.ListN.{length, getD, take}
+use Rattle.text.specs.declared.form.Field.{Field}
+use Rattle.text.specs.declared.form.Field.the-variants.{Plus, Letter}
+use Rattle.book.specs.declared.Building.{Building}
+use Rattle.job.specs.declared.Section.{Section}
+use Rattle.job.specs.declared.Kind.{Kind}
+use Rattle.job.specs.declared.Kind.the-variants.{Count, Entry}
+use Rattle.job.specs.Carried.{Carried}
+use Rattle.job.specs.Sections.{about, rules, lineFault, entries}
+use Rattle.job.specs.Lines.{sectionOf}
+use Rattle.job.specs.Walk.{Accepted, Refused, walk}
+use Rattle.job.specs.InOrder.{Within}
+use Rattle.job.proofs.Rules.{AllSay, none, more, number, letter}
+use Rattle.job.proofs.Walk.{walk-on, walk-refused, entries-refused, accepted-line, accepted-next, accepted-some, accepted-end, line-in-order, line-says, learnAll, EntriesInOrder, entries-walk, entries-in-order, entries-there}
+
+-- ---- the count of a section
+
+abbrev pub Counted : Section → ℕ → Type 0
+Counted s n = Within (about s .least) (about s .most) n
+
+abbrev pub countLine : Section → ℕ → List Field
+countLine s n = Letter (about s .letter) ∷ Plus n ∷ []
+
+count-in-order : (s : Section) (g : Building) (n : ℕ) → Counted s n → lineFault (Count s) g (countLine s n) ≡ 0
+count-in-order s g n w =
+    let l = about s .letter in
+    line-in-order (Count s) g (countLine s n) (more (letter {lo = l} {hi = l} {b = l} (omega arith) (omega arith)) (more (number (w .low) (w .high)) none)) refl
+
+-- a count line in order is the letter and the count
+record CountLine (s : Section) (x : List Field) : Type 0 where
+  count : ℕ
+  is : x ≡ countLine s count
+  counted : Counted s count
+
+count-says : (s : Section) (x : List Field) → AllSay (rules (Count s)) x → CountLine s x
+count-says s x (more (letter {b = b} h k) (more (number {m = n} lo hi) none)) =
+    let q : b ≡ about s .letter = omega arith in
+    record { count = n; is = ap (λ (y : ℕ). Letter y ∷ Plus n ∷ []) q; counted = record { low = lo; high = hi } }
+
+pub count-counted : (s : Section) (g : Building) (n : ℕ) → lineFault (Count s) g (countLine s n) ≡ 0 → Counted s n
+count-counted s g n z =
+    let t = count-says s (countLine s n) (line-says (Count s) g (countLine s n) z) in
+    let e : n ≡ t .count = cc (t .is) in
+    subst (Counted s) (sym e) (t .counted)
+
+-- ---- a section
+
+module _ (s : Section) (ks : List Kind) (c : Carried) (line : ℕ) where
+  pub section-walk : (xs rest : List (List Field)) → Counted s (length xs) → EntriesInOrder s (c .building) xs
+      → walk (Count s ∷ ks) c line (sectionOf s xs ++ rest) ≡ walk ks (learnAll s xs c) (line + 1 + length xs) rest
+  section-walk xs rest w h =
+      walk-on (Count s) ks c line (countLine s (length xs)) (xs ++ rest) (count-in-order s (c .building) (length xs) w)
+      ∙ entries-walk s ks (c .building) xs rest c (line + 1) (λ x. refl) h
+
+  -- refused at its count, or at the first entry that is not in order
+  pub count-refused : (xs rest : List (List Field)) → (lineFault (Count s) (c .building) (countLine s (length xs)) ≡ 0 → ⊥)
+      → walk (Count s ∷ ks) c line (sectionOf s xs ++ rest) ≡ Refused (lineFault (Count s) (c .building) (countLine s (length xs))) line
+  count-refused xs rest z = walk-refused (Count s) ks c line (countLine s (length xs)) (xs ++ rest) z
+
+  pub section-refused : (xs rest : List (List Field)) (i : ℕ) → Counted s (length xs) → i < length xs → EntriesInOrder s (c .building) (take i xs)
+      → (lineFault (Entry s) (c .building) (getD xs i []) ≡ 0 → ⊥)
+      → walk (Count s ∷ ks) c line (sectionOf s xs ++ rest) ≡ Refused (lineFault (Entry s) (c .building) (getD xs i [])) (line + 1 + i)
+  section-refused xs rest i w n h z =
+      walk-on (Count s) ks c line (countLine s (length xs)) (xs ++ rest) (count-in-order s (c .building) (length xs) w)
+      ∙ entries-refused s ks (c .building) xs rest i c (line + 1) (λ x. refl) n h z
+
+  module _ (e : Carried) where
+    pub section-in-order : (xs rest : List (List Field)) → walk (Count s ∷ ks) c line (sectionOf s xs ++ rest) ≡ Accepted e
+        → Counted s (length xs) × EntriesInOrder s (c .building) xs
+    section-in-order xs rest a =
+        let x = countLine s (length xs) in (
+          count-counted s (c .building) (length xs) (accepted-line (Count s) ks c line x (xs ++ rest) a),
+          entries-in-order s ks (c .building) xs rest c e (line + 1) (λ y. refl) (accepted-next (Count s) ks c line x (xs ++ rest) a),
+        )
+
+    -- lines that are accepted begin with the section
+    pub record Begun (xs : List (List Field)) : Type 0 where
+      pub front : List (List Field)
+      pub rest : List (List Field)
+      pub is : xs ≡ sectionOf s front ++ rest
+
+    section-there : (xs : List (List Field)) → walk (Count s ∷ ks) c line xs ≡ Accepted e → Begun xs
+    section-there [] a = absurd (accepted-some (Count s) ks c e line a)
+    section-there (x ∷ xs) a =
+        let t = count-says s x (line-says (Count s) (c .building) x (accepted-line (Count s) ks c line x xs a)) in
+        let b : walk (entries s (t .count) ++ ks) c (line + 1) xs ≡ Accepted e = rw (t .is) at (accepted-next (Count s) ks c line x xs a) in
+        let u = entries-there s ks (t .count) c e (line + 1) xs b in
+        record { front = u .front; rest = u .rest; is = cc (t .is, u .is, u .many) }
+
+    -- and go on behind it
+    pub section-begun : (xs : List (List Field)) → walk (Count s ∷ ks) c line xs ≡ Accepted e
+        → (t : Begun xs) × (walk ks (learnAll s (t .front) c) (line + 1 + length (t .front)) (t .rest) ≡ Accepted e)
+    section-begun xs a =
+        let t = section-there xs a in
+        let b = subst (λ (l : List (List Field)). walk (Count s ∷ ks) c line l ≡ Accepted e) (t .is) a in
+        let u = section-in-order (t .front) (t .rest) b in
+        (t, sym (section-walk (t .front) (t .rest) (u .0) (u .1)) ∙ b)
+
+pub joined : (b : List (List Field)) {x y z : List (List Field)} → x ≡ b ++ y → y ≡ z → x ≡ b ++ z
+joined b p q = p ∙ ap (λ (l : List (List Field)). b ++ l) q
+
+-- nothing follows the last section
+pub section-last : (s : Section) (c : Carried) (line : ℕ) (e : Carried) (xs : List (List Field)) → walk (Count s ∷ []) c line xs ≡ Accepted e
+    → (front : List (List Field)) × (xs ≡ sectionOf s front)
+section-last s c line e xs a =
+    let (t, b) = section-begun s [] c line e xs a in
+    let end = accepted-end (learnAll s (t .front) c) e (line + 1 + length (t .front)) (t .rest) b in
+    (t .front, joined (sectionOf s (t .front)) (t .is) end ∙ append-nil (sectionOf s (t .front)))

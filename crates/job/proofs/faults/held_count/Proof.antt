@@ -1,0 +1,18 @@
+-- `held_count` meets its contract.
+use mathlib.Core.Path.{_≡_}
+use native.Mathlib.Omega.{arith}
+use lib.ListN.{length}
+use Rattle.lines.proofs.Held.{mapped-length, held-count}
+use borrow.Author.Needs.{needs}
+use Rattle.job.proofs.faults.held_count.Statement.{statement}
+use Rattle.job.proofs.faults.held_count.Tie as tie
+
+six : (c : tie.Start) → length (c .args .x .fields) ≡ 6
+six c = search (needs, mapped-length)
+
+pub held-count-spec : {M : Type 1} → statement M
+held-count-spec =
+    tie.close
+    (tie.spec
+    (λ c. omega (arith, held-count (c .before .before .args .x) 0 (six (c .before .before))))
+    (λ c. omega (arith, held-count (c .before .before .args .x) 0 (six (c .before .before)))))

@@ -1,0 +1,165 @@
+-- `judge_section` meets its contract: its count is in order, and so are the first i of its entries.
+use Prim.Native.Nat.{ℕ, _≤_, _<_, _-_}
+use mathlib.Core.Path.{_≡_, refl, sym, _∙_, ap}
+use mathlib.Core.List.{List, []}
+use mathlib.Core.Logic.{⊎-elim}
+use native.Mathlib.Omega.{arith}
+use lib.IntN.{ℤ}
+use lib.ListN.{length, getD, take}
+use mir.Facts.{toZ-ofZ}
+use Rattle.text.specs.declared.form.Field.{Field}
+use Rattle.lines.specs.Held.{lineOf}
+use Rattle.job.specs.declared.Section.{Section}
+use Rattle.job.specs.declared.Section.the-variants.{W, I, F}
+use Rattle.job.specs.declared.Kind.the-variants.{Entry}
+use Rattle.job.specs.declared.Job.{Job}
+use Rattle.job.specs.Carried.{carried}
+use Rattle.job.specs.Sections.{about, lineFault}
+use Rattle.job.specs.Lines.{internalFields, entriesOf}
+use Rattle.job.proofs.Walk.{EntriesInOrder}
+use Rattle.job.proofs.Sections.{Counted, countLine}
+use Rattle.job.proofs.Alone.{entryOf, entry-held, most-24, alone-count, alone-counted, alone-entry, alone-next, alone-passed}
+use borrow.Author.Needs.{needs, sfits-of}
+use Rattle.job.proofs.judge.judge_section.Statement.{statement}
+use Rattle.job.proofs.judge.judge_section.Tie as tie
+
+abbrev Inv-loop : tie.InvT-loop
+Inv-loop s line g n number winds internals faces i₀ i =
+    (i ≤ n) × EntriesInOrder s g (take i (entriesOf (carried (record { building = g; winds = winds; internals = internals; faces = faces })) s))
+
+abbrev μ-loop : tie.MeasureT-loop
+μ-loop s line g n number winds internals faces i₀ i = n - i
+
+module _ (c : tie.After-line-fault Inv-loop μ-loop) where
+  abbrev job : Job
+  job = c .before .before .before .before .args .j
+
+  abbrev section : Section
+  section = c .before .before .before .before .args .s
+
+  abbrev lines : List (List Field)
+  lines = entriesOf (carried job) section
+
+  many : c .before .before .count-of .result ≡ length lines
+  many = c .before .before .count-of .ensures
+
+  count-made : c .before .count-line .result ≡ lineOf 0 (countLine section (length lines))
+  count-made = c .before .count-line .ensures ∙ ap (λ (n : ℕ). lineOf 0 (countLine section n)) many
+
+returns : tie.Need-returns Inv-loop μ-loop
+unfolding carried
+returns c =
+    let f = c .before in
+    alone-count (section f) (carried (job f)) _ (lines f) _ _ (count-made f) (f .line-fault .ensures) (c .if1 .taken)
+
+counted : (c : tie.After-faces Inv-loop μ-loop) → Counted (section (c .before .before .before .before)) (length (lines (c .before .before .before .before)))
+unfolding carried
+counted c =
+    let t = c .before .before .before in
+    let f = t .before in
+    alone-counted (section f) (carried (job f)) 0 (lines f) _ _ (count-made f) (f .line-fault .ensures) (t .if1 .left)
+
+loop-holds : tie.Need-loop-holds Inv-loop μ-loop
+loop-holds c = (search needs, tt)
+
+-- the line that was made is entry i
+module _ (c : tie.At-match-came Inv-loop μ-loop) where
+  abbrev start : tie.After-line-fault Inv-loop μ-loop
+  start = c .before .before .before .before .before .before .before
+
+  abbrev i : ℕ
+  i = c .before .before .loop .i
+
+  made : c .match .x ≡ lineOf 0 (entryOf (job start) (section start) i)
+  made =
+      ⊎-elim (λ w. w .3 ∙ w .2 .ensures ∙ told (w .1 .given .1))
+      (⊎-elim (λ w. w .4 ∙ w .3 .ensures ∙ told (w .1 .given .1))
+      (⊎-elim (λ w. w .4 ∙ w .3 .ensures ∙ ap (λ (z : ℤ). lineOf 0 (internalFields z)) (toZ-ofZ (sfits-of (w .2 .given))) ∙ told (w .1 .given .1))
+      (λ w. w .4 ∙ w .3 .ensures ∙ told (w .1 .given .1))))
+      (c .match .came)
+    where
+      told : {t : Section} → section start ≡ t → lineOf 0 (entryOf (job start) t i) ≡ lineOf 0 (entryOf (job start) (section start) i)
+      told e = ap (λ (t : Section). lineOf 0 (entryOf (job start) t i)) (sym e)
+
+-- the machine's count and index are within the room of the section
+module _ (c : tie.In-loop Inv-loop μ-loop) where
+  abbrev here : tie.After-line-fault Inv-loop μ-loop
+  here = c .before .before .before .before .before .before
+
+  within : c .before .loop .i < length (lines here)
+  within = omega (arith, many here)
+
+  room : (t : Section) → section here ≡ t → c .before .loop .i < about t .most
+  room t e = let h = ap (λ (u : Section). about u .most) e in omega (arith, within, counted (c .before .before) .high)
+
+  small : c .before .loop .i < 24
+  small = omega (arith, room (section here) refl, most-24 (section here))
+
+-- the fault of entry i
+fault : (c : tie.After-line-fault2 Inv-loop μ-loop)
+    → c .line-fault2 .result ≡ lineFault (Entry (section (start (c .before)))) (job (start (c .before)) .building) (getD (lines (start (c .before))) (i (c .before)) [])
+fault c =
+    let m = c .before in
+    let b = start m in
+    c .line-fault2 .ensures
+    ∙ ap (lineFault (Entry (section b)) (job b .building)) (entry-held (job b) (section b) (i m) (m .match .x) (within (m .before)) (made m))
+
+returns-2 : tie.Need-returns-2 Inv-loop μ-loop
+unfolding carried
+returns-2 c =
+    let f = c .before in
+    let m = f .before in
+    let l = m .before .before in
+    let b = start m in
+    alone-entry (section b) (carried (job b)) _ (lines b) (counted (l .before)) (i m) _ (within (m .before)) (l .loop .inv .1) (fault f) (c .if2 .taken)
+
+loop-again : tie.Need-loop-again Inv-loop μ-loop
+unfolding carried
+loop-again c =
+    let f = c .before in
+    let m = f .before in
+    let l = m .before .before in
+    let b = start m in
+    (omega arith, alone-next (section b) (carried (job b)) 0 (lines b) (counted (l .before)) (i m) _ (within (m .before)) (l .loop .inv .1) (fault f) (c .if2 .left))
+
+returns-3 : tie.Need-returns-3 Inv-loop μ-loop
+unfolding carried
+returns-3 c =
+    let l = c .before in
+    let b = l .before .before .before .before .before in
+    alone-passed (section b) (carried (job b)) _ (lines b) (counted (l .before)) (l .loop .i) (omega (arith, many b)) (l .loop .inv .1)
+
+pub judge-section-spec : {M : Type 1} → statement M
+judge-section-spec =
+    tie.close
+    (tie.spec
+    Inv-loop
+    μ-loop
+    (λ c κs. search needs)
+    (λ c κs. search needs)
+    (λ c κs. search needs)
+    returns
+    loop-holds
+    (λ c. search needs)
+    (λ c. search needs)
+    (λ c κs. search needs)
+    (λ c. search needs)
+    (λ c. omega (arith, room (c .before .before) W (c .enum-told2 .given .1)))
+    (λ c. room (c .before .before) W (c .enum-told2 .given .1))
+    (λ c κs. search needs)
+    (λ c. search needs)
+    (λ c. omega (arith, room (c .before .before) I (c .enum-told3 .given .1)))
+    (λ c. room (c .before .before) I (c .enum-told3 .given .1))
+    (λ c κs. search needs)
+    (λ c. search needs)
+    (λ c. omega (arith, room (c .before .before) F (c .enum-told4 .given .1)))
+    (λ c. room (c .before .before) F (c .enum-told4 .given .1))
+    (λ c κs. search needs)
+    (λ c κs. search needs)
+    (λ c. search needs)
+    (λ c. omega (arith, small (c .before .before .before)))
+    returns-2
+    (λ c. search needs)
+    (λ c. search needs)
+    loop-again
+    returns-3)

@@ -1,0 +1,53 @@
+-- All that a sheet carries: the building, and the winds, internal coefficients and faces, each as a list.
+use mathlib.Core.Path.{_≡_}
+use mathlib.Core.List.{List, []}
+use lib.IntN.{ℤ, pos}
+use lib.ListN.{length}
+use Rattle.whole.specs.Lists.{firstOf}
+use Rattle.book.specs.declared.Building.{Building}
+use Rattle.job.specs.declared.Wind.{Wind}
+use Rattle.job.specs.declared.Face.{Face}
+use Rattle.job.specs.declared.Job.{Job}
+
+pub record Carried : Type 0 where
+  pub building : Building
+  pub winds : List Wind
+  pub internals : List ℤ
+  pub faces : List Face
+
+abbrev pub noBuilding : Building
+noBuilding = record { h = pos 0; a = pos 0; b = pos 0; density = pos 0; kind = pos 0; x = pos 0 }
+
+abbrev pub noWind : Wind
+noWind = record { direction = 0; speed = 0 }
+
+abbrev pub noFace : Face
+noFace = record { zone = 0; mark = 0; x = pos 0; y = pos 0; z = pos 0 }
+
+-- nothing read yet
+abbrev pub nothing : Carried
+nothing = record { building = noBuilding; winds = []; internals = []; faces = [] }
+
+-- what the sheet of a record carries: its entries up to each count
+unfoldable pub carried : Job → Carried
+carried j =
+    record {
+      building = j .building;
+      winds = firstOf noWind (j .winds .count) (j .winds .entry);
+      internals = firstOf (pos 0) (j .internals .count) (j .internals .entry);
+      faces = firstOf noFace (j .faces .count) (j .faces .entry);
+    }
+
+-- two records are the same job if all that their sheets carry agrees
+abbrev pub SameJob : Job → Job → Type 0
+SameJob j k = carried j ≡ carried k
+
+-- the record of what a sheet carries, with room for 8 winds, 4 internal coefficients and 24 faces: the entries after a count are zero
+unfoldable pub recorded : Carried → Job
+recorded c =
+    record {
+      building = c .building;
+      winds = record { count = length (c .winds); entry = firstOf noWind 8 (c .winds) };
+      internals = record { count = length (c .internals); entry = firstOf (pos 0) 4 (c .internals) };
+      faces = record { count = length (c .faces); entry = firstOf noFace 24 (c .faces) };
+    }

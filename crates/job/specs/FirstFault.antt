@@ -1,0 +1,52 @@
+-- "The first faulty line counts, and in it the lowest number", said by itself.
+use Prim.Native.Nat.{ℕ, zero, suc, _+_, _<_}
+use mathlib.Core.Path.{_≡_}
+use mathlib.Core.List.{List, [], _∷_, _++_, List·Memᴰ}
+use mathlib.Core.Bool.{true, false}
+use lib.ListN.{length, getD}
+use Rattle.text.specs.declared.form.Field.{Field}
+use Rattle.book.specs.declared.Building.{Building}
+use Rattle.book.specs.Building.{Fault, faults}
+use Rattle.book.specs.Question.{zoneOn}
+use Rattle.job.specs.declared.Rule.the-variants.{Mark}
+use Rattle.job.specs.declared.Section.the-variants.{B, F}
+use Rattle.job.specs.declared.Kind.{Kind}
+use Rattle.job.specs.declared.Kind.the-variants.{Entry}
+use Rattle.job.specs.Carried.{Carried}
+use Rattle.job.specs.Rules.{fieldFault}
+use Rattle.job.specs.Sections.{rules, buildingOf, letter, at, calls, learn}
+use Rattle.job.specs.Walk.{Reading, Accepted, Refused}
+
+-- a line has fault n: it has too few or too many fields, or one of its fields has it, or a test of the building it describes finds it, or its zone is not on the building
+pub data HasFault (n : ℕ) (g : Building) (fs : List Field) : Kind → Type 0 where
+  few-or-many : {k : Kind} → n ≡ 1 → (length fs ≡ length (rules k) → ⊥) → HasFault n g fs k
+  of-field : {k : Kind} (i : ℕ) → i < length (rules k) → fieldFault (getD (rules k) i Mark) (at fs i) ≡ n → HasFault n g fs k
+  of-building : (f : Fault) → List·Memᴰ f (faults (buildingOf fs)) → f .found ≡ true → f .number ≡ n → HasFault n g fs (Entry B)
+  of-zone : n ≡ 6 → zoneOn (g .kind) (letter (at fs 0)) ≡ false → HasFault n g fs (Entry F)
+
+-- line i, counted from 0, has fault n, where each line before it is taken for what was called for: a line missing or extra has fault 1
+abbrev pub FaultAt : ℕ → ℕ → List Kind → Carried → List (List Field) → Type 0
+FaultAt zero n [] c [] = ⊥
+FaultAt zero n [] c (x ∷ xs) = n ≡ 1
+FaultAt zero n (k ∷ ks) c [] = n ≡ 1
+FaultAt zero n (k ∷ ks) c (x ∷ xs) = HasFault n (c .building) x k
+FaultAt (suc i) n [] c [] = ⊥
+FaultAt (suc i) n [] c (x ∷ xs) = ⊥
+FaultAt (suc i) n (k ∷ ks) c [] = ⊥
+FaultAt (suc i) n (k ∷ ks) c (x ∷ xs) = FaultAt i n (calls k x ++ ks) (learn k x c) xs
+
+module _ (ks : List Kind) (c : Carried) (xs : List (List Field)) where
+  -- every line before line i is in order, and that line has fault n and none of a lower number
+  pub record FirstFault (n i : ℕ) : Type 0 where
+    pub some : 0 < n
+    pub has : FaultAt i n ks c xs
+    pub lowest : (m : ℕ) → 0 < m → m < n → FaultAt i m ks c xs → ⊥
+    pub first : (h m : ℕ) → h < i → 0 < m → FaultAt h m ks c xs → ⊥
+
+  abbrev pub NoFault : Type 0
+  NoFault = (i m : ℕ) → 0 < m → FaultAt i m ks c xs → ⊥
+
+  -- the answer to lines of which the first is number `line`: accepted where there is no fault, else the number and line of the first
+  pub data Answers (line : ℕ) : Reading → Type 0 where
+    in-order : (d : Carried) → NoFault → Answers line (Accepted d)
+    faulty : (n i : ℕ) → FirstFault n i → Answers line (Refused n (line + i))

@@ -1,0 +1,45 @@
+-- What an accepted sheet carries: every number in its range, every count within its limits, every face on the building.
+use Prim.Native.Nat.{ℕ, _≤_}
+use mathlib.Core.Path.{_≡_}
+use mathlib.Core.Logic.{_⊎_}
+use mathlib.Core.Bool.{true}
+use lib.ListN.{length}
+use lib.IntN.{ℤ, natAbs}
+use Rattle.whole.specs.Lists.{Every}
+use Rattle.book.specs.declared.Building.{Building}
+use Rattle.book.specs.Building.{buildingFault}
+use Rattle.book.specs.Question.{zoneOn}
+use Rattle.job.specs.declared.Wind.{Wind}
+use Rattle.job.specs.declared.Face.{Face}
+use Rattle.job.specs.Carried.{Carried}
+use Rattle.job.specs.Sections.{both}
+
+-- n lies from the first number to the second, both included
+pub record Within (least most n : ℕ) : Type 0 where
+  pub low : least ≤ n
+  pub high : n ≤ most
+
+pub record WindInOrder (w : Wind) : Type 0 where
+  pub direction : (w .direction ≡ 0) ⊎ (w .direction ≡ 90)
+  pub speed : Within 1 1000 (w .speed)
+
+abbrev pub InternalInOrder : ℤ → Type 0
+InternalInOrder i = natAbs i ≤ 100
+
+-- a zone from A to H that is on the building; a mark of 0, 90 or both
+pub record FaceInOrder (g : Building) (f : Face) : Type 0 where
+  pub zone : Within 65 72 (f .zone)
+  pub on : zoneOn (g .kind) (f .zone) ≡ true
+  pub mark : (f .mark ≡ 0) ⊎ ((f .mark ≡ 90) ⊎ (f .mark ≡ both))
+  pub x : natAbs (f .x) ≤ 100000
+  pub y : natAbs (f .y) ≤ 100000
+  pub z : natAbs (f .z) ≤ 100000
+
+pub record InOrder (c : Carried) : Type 0 where
+  pub building : buildingFault (c .building) ≡ 0
+  pub winds-counted : Within 1 8 (length (c .winds))
+  pub winds : Every WindInOrder (c .winds)
+  pub internals-counted : Within 1 4 (length (c .internals))
+  pub internals : Every InternalInOrder (c .internals)
+  pub faces-counted : Within 1 24 (length (c .faces))
+  pub faces : Every (FaceInOrder (c .building)) (c .faces)

@@ -1,0 +1,133 @@
+-- The sections of the sheet as data, and the fault of one line.
+use Prim.Native.Nat.{ℕ, zero, suc}
+use mathlib.Core.List.{List, [], _∷_, _++_}
+use mathlib.Core.Bool.{cond}
+use lib.ListN.{getD}
+use lib.Dec.{eqb}
+use lib.IntN.{ℤ, pos, negℤ}
+use Rattle.text.specs.declared.form.Field.{Field}
+use Rattle.text.specs.declared.form.Field.the-variants.{Bad, Plus, Minus, Letter, Dash}
+use Rattle.book.specs.declared.Building.{Building}
+use Rattle.book.specs.Building.{buildingFault}
+use Rattle.book.specs.Question.{zoneOn}
+use Rattle.job.specs.declared.Rule.{Rule}
+use Rattle.job.specs.declared.Rule.the-variants.{LetterFrom, NumberFrom, SizeTo, Direction, Mark}
+use Rattle.job.specs.declared.Section.{Section}
+use Rattle.job.specs.declared.Section.the-variants.{B, W, I, F}
+use Rattle.job.specs.declared.Kind.{Kind}
+use Rattle.job.specs.declared.Kind.the-variants.{Count, Entry}
+use Rattle.job.specs.declared.Wind.{Wind}
+use Rattle.job.specs.declared.Face.{Face}
+use Rattle.job.specs.Carried.{Carried}
+use Rattle.job.specs.Rules.{unless, fieldsFault}
+
+-- a section: its letter, its least and greatest count, and a rule for each field of its entries
+pub record About : Type 0 where
+  pub letter : ℕ
+  pub least : ℕ
+  pub most : ℕ
+  pub fields : List Rule
+
+-- a number in form has at most 7 digits; the building's ranges are judged with its whole line, by the book
+abbrev pub anyNumber : Rule
+anyNumber = SizeTo 1 9999999
+
+abbrev pub about : Section → About
+about B = record {
+  letter = 66;
+  least = 1;
+  most = 1;
+  fields = anyNumber ∷ anyNumber ∷ anyNumber ∷ anyNumber ∷ anyNumber ∷ anyNumber ∷ [];
+}
+about W = record { letter = 87; least = 1; most = 8; fields = Direction ∷ NumberFrom 3 1 1000 ∷ [] }
+about I = record { letter = 73; least = 1; most = 4; fields = SizeTo 3 100 ∷ [] }
+about F = record { letter = 70; least = 1; most = 24; fields = LetterFrom 65 72 ∷ Mark ∷ SizeTo 3 100000 ∷ SizeTo 3 100000 ∷ SizeTo 3 100000 ∷ [] }
+
+-- the rules of a line: a count line is the section's letter and a number within its limits, where another number is 2
+abbrev pub rules : Kind → List Rule
+rules (Count s) = LetterFrom (about s .letter) (about s .letter) ∷ NumberFrom 2 (about s .least) (about s .most) ∷ []
+rules (Entry s) = about s .fields
+
+-- ---- what fields say
+
+-- a mark that stands for both directions
+abbrev pub both : ℕ
+both = 4294967295
+
+abbrev pub number : Field → ℤ
+number (Plus m) = pos m
+number (Minus m) = negℤ (pos m)
+number (Letter b) = pos 0
+number Dash = pos 0
+number Bad = pos 0
+
+abbrev pub size : Field → ℕ
+size (Plus m) = m
+size (Minus m) = m
+size (Letter b) = 0
+size Dash = 0
+size Bad = 0
+
+abbrev pub letter : Field → ℕ
+letter (Letter b) = b
+letter (Plus m) = 0
+letter (Minus m) = 0
+letter Dash = 0
+letter Bad = 0
+
+abbrev pub mark : Field → ℕ
+mark Dash = both
+mark (Plus m) = m
+mark (Minus m) = m
+mark (Letter b) = 0
+mark Bad = 0
+
+abbrev pub at : List Field → ℕ → Field
+at fs i = getD fs i Bad
+
+abbrev pub buildingOf : List Field → Building
+buildingOf fs =
+    record { h = number (at fs 0); a = number (at fs 1); b = number (at fs 2); density = number (at fs 3); kind = number (at fs 4); x = number (at fs 5) }
+
+abbrev pub windOf : List Field → Wind
+windOf fs = record { direction = size (at fs 0); speed = size (at fs 1) }
+
+abbrev pub internalOf : List Field → ℤ
+internalOf fs = number (at fs 0)
+
+abbrev pub faceOf : List Field → Face
+faceOf fs =
+    record { zone = letter (at fs 0); mark = mark (at fs 1); x = number (at fs 2); y = number (at fs 3); z = number (at fs 4) }
+
+-- ---- the fault of a line
+
+-- the faults of a whole line: those of the building, 3, 4 and 5; a zone that is not on the building, 6
+abbrev pub ownFault : Kind → Building → List Field → ℕ
+ownFault (Count s) g fs = 0
+ownFault (Entry B) g fs = buildingFault (buildingOf fs)
+ownFault (Entry W) g fs = 0
+ownFault (Entry I) g fs = 0
+ownFault (Entry F) g fs = unless 6 (zoneOn (g .kind) (letter (at fs 0)))
+
+-- the lowest fault of a line on a building, 0 where there is none
+unfoldable pub lineFault : Kind → Building → List Field → ℕ
+lineFault k g fs = cond (eqb (fieldsFault (rules k) fs) 0) (ownFault k g fs) (fieldsFault (rules k) fs)
+
+-- ---- what a line in order brings
+
+-- the lines that it calls for: a count calls for as many entries
+abbrev pub entries : Section → ℕ → List Kind
+entries s zero = []
+entries s (suc n) = Entry s ∷ entries s n
+
+abbrev pub calls : Kind → List Field → List Kind
+calls (Count s) fs = entries s (size (at fs 1))
+calls (Entry s) fs = []
+
+-- what is carried with this line added
+abbrev pub learn : Kind → List Field → Carried → Carried
+learn (Count s) fs c = c
+learn (Entry B) fs c = record { building = buildingOf fs; winds = c .winds; internals = c .internals; faces = c .faces }
+learn (Entry W) fs c = record { building = c .building; winds = c .winds ++ (windOf fs ∷ []); internals = c .internals; faces = c .faces }
+learn (Entry I) fs c = record { building = c .building; winds = c .winds; internals = c .internals ++ (internalOf fs ∷ []); faces = c .faces }
+learn (Entry F) fs c = record { building = c .building; winds = c .winds; internals = c .internals; faces = c .faces ++ (faceOf fs ∷ []) }

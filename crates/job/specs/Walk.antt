@@ -1,0 +1,45 @@
+-- Reading lines of fields: each against the line that is called for, one by one.
+use Prim.Native.Nat.{ℕ, _+_}
+use mathlib.Core.List.{List, [], _∷_, _++_}
+use mathlib.Core.Bool.{cond}
+use lib.Dec.{eqb}
+use Rattle.text.specs.declared.form.Field.{Field}
+use Rattle.job.specs.declared.Section.the-variants.{B, W, I, F}
+use Rattle.job.specs.declared.Kind.{Kind}
+use Rattle.job.specs.declared.Kind.the-variants.{Count}
+use Rattle.job.specs.declared.Job.{Job}
+use Rattle.job.specs.declared.Verdict.{Verdict}
+use Rattle.job.specs.Carried.{Carried, nothing, carried}
+use Rattle.job.specs.Sections.{lineFault, calls, learn}
+use Rattle.job.specs.Lines.{linesOf}
+
+-- accepted with what was read, or refused with a number and a line
+pub data Reading : Type 0 where
+  Accepted : Carried → Reading
+  Refused : ℕ → ℕ → Reading
+
+-- the number and line that a reading answers, both 0 where it is accepted
+abbrev pub verdict : Reading → Verdict
+verdict (Accepted c) = record { number = 0; line = 0 }
+verdict (Refused number line) = record { number = number; line = line }
+
+-- the lines from number `line` on against the lines still called for, with what was read before them: a line missing or extra is 1
+unfoldable pub walk : List Kind → Carried → ℕ → List (List Field) → Reading
+walk [] c line [] = Accepted c
+walk [] c line (x ∷ xs) = Refused 1 line
+walk (k ∷ ks) c line [] = Refused 1 line
+walk (k ∷ ks) c line (x ∷ xs) =
+    cond (eqb (lineFault k (c .building) x) 0)
+    (walk (calls k x ++ ks) (learn k x c) (line + 1) xs)
+    (Refused (lineFault k (c .building) x) line)
+
+-- the counts of the sections, in order
+abbrev pub sheet : List Kind
+sheet = Count B ∷ Count W ∷ Count I ∷ Count F ∷ []
+
+unfoldable pub readLines : List (List Field) → Reading
+readLines xs = walk sheet nothing 1 xs
+
+-- a job given as a record gets the number and line that its sheet would get
+unfoldable pub judged : Job → Reading
+judged j = readLines (linesOf (carried j))
