@@ -1,0 +1,74 @@
+-- The line of a building in order is short: its numbers have no sign, and at most 5, 5, 5, 4, 1 and 4 digits.
+use Prim.Native.Nat.{ℕ, zero, suc, _*_, _≤_, _<_, _^_}
+use mathlib.Core.Path.{_≡_}
+use mathlib.Core.Bool.{false, cond}
+use mathlib.Core.List.{List}
+use native.Mathlib.Nat.{mul-le-mul-right}
+use native.Mathlib.Omega.{arith}
+use lib.IntN.{pos, natAbs}
+use lib.Dec.{leb, leb→le}
+use lib.ListN.{length}
+use Rattle.whole.proofs.Tests.{by-test}
+use Rattle.whole.proofs.Table.{all-at}
+use Rattle.text.specs.declared.form.Field.{Field}
+use Rattle.text.specs.declared.form.Field.the-variants.{Plus}
+use Rattle.lines.specs.Lines.{fieldText}
+use Rattle.text.proofs.Digits.{digits-length}
+use Rattle.book.specs.declared.Building.{Building}
+use Rattle.book.specs.Roof.{Roof, roof, roofs, roofOf}
+use Rattle.book.specs.Building.{buildingFault}
+use Rattle.book.proofs.Accepted.{good-fields, in-order}
+use Rattle.job.specs.declared.Section.the-variants.{B}
+use Rattle.job.specs.declared.Kind.the-variants.{Entry}
+use Rattle.job.specs.Sections.{number, anyNumber, rules, buildingOf}
+use Rattle.job.proofs.Rules.{Says, plus, minus, AllSay, none, more}
+use Rattle.sheet.proofs.Bytes.{bytes}
+
+-- ---- each number by itself
+
+-- a field that is 0 or more has no sign
+plain : {f : Field} (m : ℕ) → Says anyNumber f → pos m ≡ number f → f ≡ Plus m
+plain m (plus h) e = cc
+plain m (minus {m = zero} p h) e = absurd (omega arith)
+plain m (minus {m = suc n} p h) e = absurd (let q : _≡_ {A = ℕ} 0 1 = cc in omega arith)
+
+short : {f : Field} (k : ℕ) → Says anyNumber f → pos (natAbs (number f)) ≡ number f → natAbs (number f) < 10 ^ suc k → length (fieldText f) ≤ suc k
+short {f} k s e h = rw (plain (natAbs (number f)) s e) (digits-length k (natAbs (number f)) h)
+
+-- ---- x, which the roof limits further
+
+-- at most 900, or 200 thousandths of h
+roof-x : (r : Roof) (h x : ℕ) → r .greatest ≤ cond (r .byHeight) 200 900 → h ≤ 30000 → cond (r .byHeight) (1000 * x) x ≤ r .greatest * cond (r .byHeight) h 1 → x ≤ 6000
+roof-x r h x g l u =
+    by-test (r .byHeight)
+    (λ e.
+    let v : 1000 * x ≤ r .greatest * h = rw e at u in
+    let w : r .greatest ≤ 200 = rw e at g in
+    omega (arith, mul-le-mul-right h w))
+    (λ e.
+    let v : x ≤ r .greatest * 1 = rw e at u in
+    let w : r .greatest ≤ 900 = rw e at g in
+    omega arith)
+
+roof-most : (kind : ℕ) → roofOf kind .greatest ≤ cond (roofOf kind .byHeight) 200 900
+unfolding roofOf
+roof-most kind = leb→le _ _ (all-at (λ r. leb (r .greatest) (cond (r .byHeight) 200 900)) roofs (roof 0 0 false) tt tt kind)
+
+x-most : (g : Building) → buildingFault g ≡ 0 → natAbs (g .x) ≤ 6000
+x-most g z =
+    roof-x (roofOf (natAbs (g .kind))) (natAbs (g .h)) (natAbs (g .x)) (roof-most (natAbs (g .kind))) (good-fields g z .h .to) (in-order g z .x-to)
+
+-- ---- the line
+
+pub building-bytes : {fs : List Field} → AllSay (rules (Entry B)) fs → buildingFault (buildingOf fs) ≡ 0 → bytes fs ≤ 30
+building-bytes {fs} (more h (more a (more b (more density (more kind (more x none)))))) z =
+    let n = good-fields (buildingOf fs) z in
+    omega (
+      arith,
+      short 4 h (n .h .plain) (omega (arith, n .h .to)),
+      short 4 a (n .a .plain) (omega (arith, n .a .to)),
+      short 4 b (n .b .plain) (omega (arith, n .b .to)),
+      short 3 density (n .density .plain) (omega (arith, n .density .to)),
+      short 0 kind (n .kind .plain) (omega (arith, n .kind .to)),
+      short 3 x (n .x .plain) (omega (arith, x-most (buildingOf fs) z)),
+    )

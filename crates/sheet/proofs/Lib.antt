@@ -1,0 +1,14 @@
+-- Laws of the sheet: how long a line and a sheet can be, and that a part of a text decides; that reading and writing undo each other;
+-- what the code needs for each of its steps; and worked sheets.
+pub mod Bytes
+pub mod OutOfForm
+pub mod Building
+pub mod Longest
+pub mod Part
+pub mod RoundTrip
+pub mod Learn
+pub mod Going
+pub mod Steps
+pub mod Put
+pub mod Written
+pub mod Worked

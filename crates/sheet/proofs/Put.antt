@@ -1,0 +1,42 @@
+-- Laws of a section written line by line: its count, and after that its entries, one behind the other.
+use Prim.Native.Nat.{ℕ, _+_, _≤_, _<_}
+use mathlib.Core.Path.{_≡_}
+use mathlib.Core.List.{List, [], _∷_, _++_}
+use native.Mathlib.Numerals.{add-one}
+use native.Mathlib.Omega.{arith}
+use lib.ListN.{length, getD, take}
+use lib.Seq.{take-suc, take-all}
+use Rattle.text.specs.declared.form.Field.{Field}
+use Rattle.lines.specs.declared.row.Line.{Line}
+use Rattle.lines.specs.Lines.{textOf}
+use Rattle.lines.specs.Held.{held, lineOf}
+use Rattle.text.specs.Writing.{Put}
+use Rattle.lines.proofs.Held.{held-all}
+use Rattle.lines.proofs.Round.{textOf-append}
+use Rattle.text.proofs.Writing.{then, put-nothing, put-length}
+use Rattle.job.specs.declared.Section.{Section}
+use Rattle.job.specs.Lines.{sectionOf}
+use Rattle.job.proofs.Sections.{countLine}
+
+-- lines, and then others from where they ended
+pub then-lines : {l m n : List ℕ} {at r r′ : ℕ} (xs ys : List (List Field)) → Put l at (textOf xs) m r → Put m r (textOf ys) n r′ → Put l at (textOf (xs ++ ys)) n r′
+then-lines xs ys v w = rw textOf-append (then v w)
+
+-- no entry yet, from where the count ended
+pub put-none : {l m : List ℕ} {at r : ℕ} {s : List ℕ} → Put l at s m r → Put m r (textOf []) m r
+unfolding textOf
+put-none {l} {m} {at} {r} w = put-nothing m r (omega (arith, w .end, put-length w))
+
+-- one entry more
+pub put-entry : {l m n : List ℕ} {at r r′ : ℕ} (es : List (List Field)) (i : ℕ) (x : Line) → i < length es → held x ≡ getD es i []
+    → Put l at (textOf (take i es)) m r → Put m r (textOf (held x ∷ [])) n r′ → Put l at (textOf (take (i + 1) es)) n r′
+put-entry {l} {n = n} {at} {r′ = r′} es i x h e v w =
+    let q : take i es ++ (held x ∷ []) ≡ take (i + 1) es = rw (add-one, take-suc es i [], e) in
+    rw q at (then-lines (take i es) (held x ∷ []) v w)
+
+-- all of them: the section
+pub put-all : {l m n : List ℕ} {at r r′ : ℕ} (s : Section) (es : List (List Field)) (i : ℕ) (x : Line) → length es ≤ i → x ≡ lineOf 0 (countLine s (length es))
+    → Put l at (textOf (held x ∷ [])) m r → Put m r (textOf (take i es)) n r′ → Put l at (textOf (sectionOf s es)) n r′
+put-all s es i x h e v w =
+    let c : held x ≡ countLine s (length es) = rw e (held-all 0 (countLine s (length es)) (omega arith) .0) in
+    then-lines (countLine s (length es) ∷ []) es (rw c at v) (rw (take-all i es h) at w)

@@ -1,0 +1,129 @@
+-- Worked sheets: a text, and the number and line that it gets, as paper 01 has them.
+use Prim.Native.Nat.{ℕ, zero, suc}
+use Prim.Native.Char.{code}
+use Prim.Native.String.{String, [] as none, _∷_ as _then_, _++_ as _&_}
+use mathlib.Core.Path.{_≡_, refl}
+use mathlib.Core.List.{List, [], _∷_, map}
+use lib.ListN.{length}
+use Rattle.text.specs.Digits.{allDigits, valueAfter, value}
+use Rattle.text.specs.Field.{digitsInForm, unsigned, negative, number, field}
+use Rattle.lines.specs.Lines.{split, fieldsOf, rowsOf, rows}
+use Rattle.book.specs.Building.{buildingFault, outOfForm, outOfRange, outOfWalls, tooLong}
+use Rattle.book.specs.Roof.{outOfRoof, roofOf}
+use Rattle.book.specs.Question.{zoneOn}
+use Rattle.book.specs.Test.{beyond}
+use Rattle.job.specs.Rules.{fieldFault, lower, lowest, fieldsFault}
+use Rattle.job.specs.Sections.{lineFault}
+use Rattle.job.specs.Walk.{walk, verdict, readLines}
+use Rattle.sheet.specs.Sheet.{reading}
+
+-- the bytes of a quoted text
+abbrev bytes : String → List ℕ
+bytes none = []
+bytes (c then s) = code c ∷ bytes s
+
+-- a text, and the number and line that it gets
+record Case : Type 0 where
+  text : String
+  number : ℕ
+  line : ℕ
+
+abbrev case : String → ℕ → ℕ → Case
+case text number line = record { text = text; number = number; line = line }
+
+-- paper 01's sheet up to its faces, and its faces; and a small sheet around one line of each kind
+abbrev start : String
+start = "B 1\n500 1200 1000 1250 2 0\nW 1\n0 400\nI 2\n20\n-30\nF 3\n"
+
+abbrev faces : String
+faces = "A 0 1000 0 0\nB - -1000 0 0\nF 0 0 0 -2000\n"
+
+abbrev building : String → String
+building line = "B 1\n" & line & "\nW 1\n0 400\nI 1\n0\nF 1\nA 0 1 0 0\n"
+
+abbrev count : String → String
+count line = "B 1\n500 1200 1000 1250 2 0\n" & line & "\n0 400\nI 1\n0\nF 1\nA 0 1 0 0\n"
+
+abbrev wind : String → String
+wind line = "B 1\n500 1200 1000 1250 2 0\nW 1\n" & line & "\nI 1\n0\nF 1\nA 0 1 0 0\n"
+
+abbrev face : String → String
+face line = "B 1\n500 1200 1000 1250 2 0\nW 1\n0 400\nI 1\n0\nF 1\n" & line & "\n"
+
+-- the longest sheet
+abbrev times : ℕ → String → String
+times zero s = ""
+times (suc n) s = s & times n s
+
+abbrev longest : String
+longest =
+    "B 1\n30000 30000 10000 1000 4 6000\nW 8\n" & times 8 "90 1000\n" & "I 4\n" & times 4 "-100\n" & "F 24\n" & times 24 "A 90 -100000 -100000 -100000\n"
+
+longest-is : length (bytes longest) ≡ 827
+longest-is = refl
+
+abbrev cases : List Case
+cases =
+    -- accepted: number 0, line 0
+    case (start & faces) 0 0
+    ∷ case longest 0 0
+    -- missing, unended and extra lines
+    ∷ case "" 1 1
+    ∷ case "\n" 1 1
+    ∷ case "B 2" 1 1
+    ∷ case "B 2\n" 2 1
+    ∷ case start 1 9
+    ∷ case (start & "A 0 1000 0 0\nB - -1000 0 0\nF 0 0 0 -2000") 1 11
+    ∷ case (start & faces & "\n") 1 12
+    ∷ case (start & faces & " ") 1 12
+    ∷ case (start & faces & "A 0 0 0 0\n") 1 12
+    -- fields not in form
+    ∷ case (" " & start & faces) 1 1
+    ∷ case "B  1\n" 1 1
+    ∷ case "B 1 \n" 1 1
+    ∷ case "B 1\r\n" 1 1
+    ∷ case "B 01\n" 1 1
+    ∷ case "b 1\n" 1 1
+    -- a count is a number
+    ∷ case "B -1\n" 2 1
+    ∷ case (count "W -1") 2 3
+    ∷ case (count "W 0") 2 3
+    ∷ case (count "W 9") 2 3
+    ∷ case (count "W 9999999") 2 3
+    ∷ case (count "W 10000000") 1 3
+    ∷ case (count "I 1") 1 3
+    -- the building: the lowest number of its line
+    ∷ case (building "99 1000 1000 1250 2 01") 1 2
+    ∷ case (building "10000000 1200 1000 1250 2 0") 1 2
+    ∷ case (building "9999999 1200 1000 1250 2 0") 3 2
+    ∷ case (building "-500 1200 1000 1250 2 0") 3 2
+    ∷ case (building "99 1000 1000 1250 2 1") 3 2
+    ∷ case (building "500 1000 1000 1250 2 1") 4 2
+    ∷ case (building "500 1200 1000 1250 2 1") 5 2
+    ∷ case (building "500 1200 1000 1250 2") 1 2
+    -- a direction is a number
+    ∷ case (wind "-90 400") 3 4
+    ∷ case (wind "45 400") 3 4
+    ∷ case (wind "- 400") 1 4
+    ∷ case (wind "90 1001") 3 4
+    ∷ case (wind "90 0") 3 4
+    -- a mark may be a dash
+    ∷ case (face "A - 1 0 0") 0 0
+    ∷ case (face "A 90 1 0 0") 0 0
+    ∷ case (face "A -90 1 0 0") 3 8
+    ∷ case (face "A 45 1 0 0") 3 8
+    ∷ case (face "A -0 1 0 0") 1 8
+    ∷ case (face "A 00 1 0 0") 1 8
+    ∷ case (face "A +0 1 0 0") 1 8
+    ∷ case (face "A -- 1 0 0") 1 8
+    -- a zone letter that is no zone, a zone that is not on the building, and a lower number beside it
+    ∷ case (face "I 0 1 0 0") 1 8
+    ∷ case (face "G 0 1 0 0") 6 8
+    ∷ case (face "G 45 1 0 0") 3 8
+    ∷ case (face "G 0 1 0 -100001") 3 8
+    ∷ case (face "F 0 1 0 -100000") 0 0
+    ∷ []
+
+cases-right : map (λ c. verdict (reading (bytes (c .text)))) cases ≡ map (λ c. record { number = c .number; line = c .line }) cases
+unfolding reading rows rowsOf split fieldsOf field number unsigned negative digitsInForm allDigits valueAfter value readLines walk lineFault fieldsFault lowest lower fieldFault buildingFault outOfForm outOfRange outOfWalls outOfRoof roofOf tooLong beyond zoneOn
+cases-right = refl

@@ -1,0 +1,180 @@
+-- `put_section` meets its contract: the count is written, and so are the first i entries.
+use Prim.Native.Nat.{ℕ, _≤_, _<_, _-_}
+use mathlib.Core.Path.{_≡_, sym, _∙_, ap, subst}
+use mathlib.Core.Logic.{⊎-elim}
+use native.Mathlib.Omega.{arith}
+use lib.IntN.{ℤ}
+use lib.ListN.{length, take}
+use mir.Facts.{toZ-ofZ}
+use Rattle.lines.specs.Lines.{textOf}
+use Rattle.lines.specs.Held.{lineOf}
+use Rattle.text.specs.Writing.{Put}
+use Rattle.text.proofs.Writing.{put-length}
+use Rattle.job.specs.declared.Section.{Section}
+use Rattle.job.specs.declared.Section.the-variants.{W, I, F}
+use Rattle.job.specs.declared.Job.{Job}
+use Rattle.job.specs.Carried.{carried}
+use Rattle.job.specs.Sections.{about}
+use Rattle.job.specs.Lines.{internalFields, entriesOf}
+use Rattle.job.proofs.Sections.{countLine}
+use Rattle.job.proofs.Alone.{entryOf, entry-held, most-24}
+use Rattle.sheet.proofs.Put.{put-none, put-entry, put-all}
+use borrow.Author.Needs.{needs, sfits-of}
+use Rattle.sheet.proofs.write.put_section.Statement.{statement}
+use Rattle.sheet.proofs.write.put_section.Tie as tie
+
+abbrev Inv-loop : tie.InvT-loop
+Inv-loop buf₀ at sec n g winds internals faces next₀ i₀ buf next i =
+    (i ≤ n) × Put buf₀ next₀ (textOf (take i (entriesOf (carried (record { building = g; winds = winds; internals = internals; faces = faces })) sec))) buf next
+
+abbrev μ-loop : tie.MeasureT-loop
+μ-loop buf₀ at sec n g winds internals faces next₀ i₀ buf next i = n - i
+
+-- entry i is one of the section, which has room for it
+module _ (c : tie.In-loop Inv-loop μ-loop) where
+  abbrev start : tie.Start Inv-loop μ-loop
+  start = c .before .before .before .before .before .before .before .before .before .before .before .before
+
+  abbrev i : ℕ
+  i = c .before .loop .i
+
+  below : (t : Section) → start .args .sec ≡ t → i < about t .most
+  below t e = subst (λ (u : Section). i < about u .most) e (omega (arith, c .loop-test .taken, start .pre .1))
+
+  below-24 : i < 24
+  below-24 = omega (arith, c .loop-test .taken, start .pre .1, most-24 (start .args .sec))
+
+count-line-requires : tie.Need-count-line-requires Inv-loop μ-loop
+count-line-requires c κs = search needs
+
+put-line-requires : tie.Need-put-line-requires Inv-loop μ-loop
+put-line-requires c κs = search needs
+
+loop-holds : tie.Need-loop-holds Inv-loop μ-loop
+loop-holds c = (search needs, put-none (c .before .before .put-line .ensures))
+
+cast-k : tie.Need-cast-k Inv-loop μ-loop
+cast-k c = record { fits = omega (arith, below-24 c) }
+
+enum-told : tie.Need-enum-told Inv-loop μ-loop
+enum-told c = search needs
+
+building-line-requires : tie.Need-building-line-requires Inv-loop μ-loop
+building-line-requires c κs = search needs
+
+enum-told-2 : tie.Need-enum-told-2 Inv-loop μ-loop
+enum-told-2 c = search needs
+
+mul-w : tie.Need-mul-w Inv-loop μ-loop
+mul-w c = record { fits = omega (arith, below-24 (c .before .before)) }
+
+element-copy-out-w : tie.Need-element-copy-out-w Inv-loop μ-loop
+element-copy-out-w c = below (c .before .before) W (c .enum-told2 .given .1)
+
+wind-line-requires : tie.Need-wind-line-requires Inv-loop μ-loop
+wind-line-requires c κs = search needs
+
+enum-told-3 : tie.Need-enum-told-3 Inv-loop μ-loop
+enum-told-3 c = search needs
+
+mul-z : tie.Need-mul-z Inv-loop μ-loop
+mul-z c = record { fits = omega (arith, below-24 (c .before .before)) }
+
+element-copy-out-z : tie.Need-element-copy-out-z Inv-loop μ-loop
+element-copy-out-z c = below (c .before .before) I (c .enum-told3 .given .1)
+
+internal-line-requires : tie.Need-internal-line-requires Inv-loop μ-loop
+internal-line-requires c κs = search needs
+
+enum-told-4 : tie.Need-enum-told-4 Inv-loop μ-loop
+enum-told-4 c = search needs
+
+mul-f : tie.Need-mul-f Inv-loop μ-loop
+mul-f c = record { fits = omega (arith, below-24 (c .before .before)) }
+
+element-copy-out-f : tie.Need-element-copy-out-f Inv-loop μ-loop
+element-copy-out-f c = below (c .before .before) F (c .enum-told4 .given .1)
+
+face-line-requires : tie.Need-face-line-requires Inv-loop μ-loop
+face-line-requires c κs = search needs
+
+-- the line that was made is entry i
+module _ (c : tie.At-match-came Inv-loop μ-loop) where
+  abbrev job : Job
+  job = start (c .before) .args .j
+
+  abbrev section : Section
+  section = start (c .before) .args .sec
+
+  made : c .match .x ≡ lineOf 0 (entryOf job section (i (c .before)))
+  made =
+      ⊎-elim (λ w. w .3 ∙ w .2 .ensures ∙ told (w .1 .given .1))
+      (⊎-elim (λ w. w .4 ∙ w .3 .ensures ∙ told (w .1 .given .1))
+      (⊎-elim (λ w. w .4 ∙ w .3 .ensures ∙ ap (λ (z : ℤ). lineOf 0 (internalFields z)) (toZ-ofZ (sfits-of (w .2 .given))) ∙ told (w .1 .given .1))
+      (λ w. w .4 ∙ w .3 .ensures ∙ told (w .1 .given .1))))
+      (c .match .came)
+    where
+      told : {t : Section} → section ≡ t → lineOf 0 (entryOf job t (i (c .before))) ≡ lineOf 0 (entryOf job section (i (c .before)))
+      told e = ap (λ (t : Section). lineOf 0 (entryOf job t (i (c .before)))) (sym e)
+
+put-line-requires-2 : tie.Need-put-line-requires-2 Inv-loop μ-loop
+put-line-requires-2 c κs = search needs
+
+add-i : tie.Need-add-i Inv-loop μ-loop
+add-i c = record { fits = omega (arith, below-24 (c .before .before .before .before .before)) }
+
+loop-less : tie.Need-loop-less Inv-loop μ-loop
+loop-less c = search needs
+
+loop-again : tie.Need-loop-again Inv-loop μ-loop
+loop-again c =
+    let p = c .before .before in
+    let m = p .before .before in
+    let t = m .before in
+    let h : i t < length (entriesOf (carried (job m)) (section m)) = omega (arith, t .loop-test .taken, start t .pre .0) in
+    (omega arith, put-entry (entriesOf (carried (job m)) (section m)) (i t) (m .match .x) h (entry-held (job m) (section m) (i t) (m .match .x) h (made m)) (t .before .loop .inv .1) (p .put-line2 .ensures))
+
+same-length : tie.Need-same-length Inv-loop μ-loop
+same-length c =
+    let p = c .before .before .before .before in
+    put-length (c .before .loop .inv .1) ∙ put-length (p .put-line .ensures)
+
+returns : tie.Need-returns Inv-loop μ-loop
+returns c =
+    let p = c .before .before .before .before in
+    let n = p .before in
+    let s = n .before .before .before .before .before .before .before in
+    let es = entriesOf (carried (s .args .j)) (s .args .sec) in
+    put-all (s .args .sec) es (c .before .loop .i) (n .count-line .result) (omega (arith, c .loop-test .left, s .pre .0))
+    (n .count-line .ensures ∙ ap (λ (k : ℕ). lineOf 0 (countLine (s .args .sec) k)) (s .pre .0)) (p .put-line .ensures) (c .before .loop .inv .1)
+
+pub put-section-spec : {M : Type 1} → statement M
+put-section-spec =
+    tie.close
+    (tie.spec
+    Inv-loop
+    μ-loop
+    count-line-requires
+    put-line-requires
+    loop-holds
+    cast-k
+    enum-told
+    building-line-requires
+    enum-told-2
+    mul-w
+    element-copy-out-w
+    wind-line-requires
+    enum-told-3
+    mul-z
+    element-copy-out-z
+    internal-line-requires
+    enum-told-4
+    mul-f
+    element-copy-out-f
+    face-line-requires
+    put-line-requires-2
+    add-i
+    loop-less
+    loop-again
+    same-length
+    returns)

@@ -1,0 +1,57 @@
+-- `write_sheet` meets its contract.
+use mathlib.Core.Path.{refl, _∙_}
+use Rattle.sheet.proofs.Written.{job-refused, job-roomed, job-written}
+use borrow.Author.Needs.{needs}
+use Rattle.sheet.proofs.write.write_sheet.Statement.{statement}
+use Rattle.sheet.proofs.write.write_sheet.Tie as tie
+
+judge-requires : tie.Need-judge-requires
+judge-requires c κs = search needs
+
+returns : tie.Need-returns
+returns c =
+    let v = c .before .before in
+    let s = v .before .before in
+    job-refused (s .args .j) (v .judge .result) (v .judge .ensures) (c .if1 .taken) (s .args .buf .now)
+
+slice-aggregate-put-sheet : tie.Need-slice-aggregate-put-sheet
+slice-aggregate-put-sheet c = search needs
+
+put-sheet-requires : tie.Need-put-sheet-requires
+put-sheet-requires c κs =
+    let e = c .before in
+    let v = e .before .before in
+    let s = v .before .before in
+    job-roomed (s .args .j) (v .judge .result) (v .judge .ensures) (e .if1 .left)
+
+slice-aggregate-emit : tie.Need-slice-aggregate-emit
+slice-aggregate-emit c = search needs
+
+emit-requires : tie.Need-emit-requires
+emit-requires c κs = search needs
+
+same-length : tie.Need-same-length
+same-length c = search needs
+
+returns-2 : tie.Need-returns-2
+returns-2 c =
+    let m = c .before .before in
+    let p = m .before .before .before .before in
+    let e = p .before .before in
+    let v = e .before .before in
+    let s = v .before .before in
+    let t = job-written (s .args .j) (v .judge .result) (v .judge .ensures) (e .if1 .left) (p .put-sheet .ensures) refl (s .args .buf .now) in
+    (m .emit .ensures .0 ∙ t .0, m .emit .ensures .1 ∙ t .1)
+
+pub write-sheet-spec : {M : Type 1} → statement M
+write-sheet-spec =
+    tie.close
+    (tie.spec
+    judge-requires
+    returns
+    slice-aggregate-put-sheet
+    put-sheet-requires
+    slice-aggregate-emit
+    emit-requires
+    same-length
+    returns-2)
