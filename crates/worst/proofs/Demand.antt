@@ -1,0 +1,109 @@
+-- The third demand for what a job gives: more winds and internal coefficients show no less, and faster winds show no less on their side of zero.
+use mathlib.Core.Path.{_≡_, sym, ap, _∙_, subst}
+use mathlib.Core.Bool.{Bool, true, false, cond}
+use mathlib.Core.List.{List, [], _∷_, List·Memᴰ}
+use Prim.Native.Nat.{ℕ, zero, _+_, _-_, _*_, _≤_, _<_}
+use native.Mathlib.Nat.{mul-le-mul, mul-pos}
+use native.Mathlib.Omega.{arith}
+use lib.IntN.{ℤ, pos, _*ℤ_, *ℤ-comm, zero-*ℤ}
+use lib.ListN.{length, getD}
+use Rattle.whole.proofs.Order.{*ℤ-assoc}
+use Rattle.worst.specs.declared.Side.{Side}
+use Rattle.worst.specs.declared.Axis.{Axis}
+use Rattle.job.specs.declared.Wind.{Wind}
+use Rattle.job.specs.declared.Face.{Face}
+use Rattle.worst.specs.Best.{Within, at}
+use Rattle.worst.specs.Cases.{Case, numbers, worst}
+use Rattle.job.specs.Carried.{noWind}
+use Rattle.worst.specs.Forces.{Given, acts, alternatives, outsides, net, pressure, area, force, windAt, internalAt, loads}
+use Rattle.worst.proofs.Lists.{numbers-member, member-numbers, getD-member, member-getD}
+use Rattle.worst.proofs.Scale.{Raised}
+use Rattle.worst.proofs.Growth.{worst-more, worst-faster}
+
+-- ---- what two jobs have in common
+
+-- the same building and the same faces
+pub record SameSite (g g′ : Given) : Type 0 where
+  pub density : g .density ≡ g′ .density
+  pub outside : g .outside ≡ g′ .outside
+  pub faces : g .faces ≡ g′ .faces
+
+-- every wind of g has its like in g′, and so its number
+module _ {X : Type 0} (Like : X → X → Type 0) where
+  abbrev pub AllIn : List X → List X → Type 0
+  AllIn xs ys = (x : X) → List·Memᴰ x xs → (y : X) × List·Memᴰ y ys × Like x y
+
+  numbered : (d : X) (xs ys : List X) → AllIn xs ys → (n : ℕ) → List·Memᴰ n (numbers (length xs) 1) → (m : ℕ) × List·Memᴰ m (numbers (length ys) 1) × Like (getD xs (n - 1) d) (getD ys (m - 1) d)
+  numbered d xs ys h n mn =
+      let b = numbers-member (length xs) 1 mn in
+      let y = h (getD xs (n - 1) d) (getD-member xs (n - 1) d (omega arith)) in
+      let r = member-getD ys d (y .1) in
+      let i = r .1 in (
+        r .0 + 1,
+        member-numbers (r .0 + 1) (length ys) 1 (record { low = omega arith; high = omega arith }),
+        subst (Like (getD xs (n - 1) d)) (sym (ap (λ k. getD ys k d) (back (r .0)) ∙ r .2)) (y .2),
+      )
+    where
+      back : (k : ℕ) → k + 1 - 1 ≡ k
+      back k = omega arith
+
+-- ---- more winds and internal coefficients
+
+pub given-more : (s : Side) (axis : Axis) (g g′ : Given) → SameSite g g′ → AllIn _≡_ (g .winds) (g′ .winds) → AllIn _≡_ (g .internals) (g′ .internals)
+    → (v : ℤ) (c : Case ℕ ℕ ℕ) (v′ : ℤ) (c′ : Case ℕ ℕ ℕ) → worst s (loads axis g) ≡ at v c → worst s (loads axis g′) ≡ at v′ c′
+    → Within s v v′
+given-more s axis g g′ same hw hi v c v′ c′ e e′ =
+    worst-more (loads axis g) (loads axis g′) (λ w w′. windAt g w ≡ windAt g′ w′) (λ i i′. internalAt g i ≡ internalAt g′ i′) s v c v′ c′ e e′
+    (record {
+      faces = same .faces;
+      wind = numbered _≡_ noWind (g .winds) (g′ .winds) hw;
+      internal = numbered _≡_ (pos 0) (g .internals) (g′ .internals) hi;
+      alternatives = λ w w′ r f. λ j. cond (acts f (r j .direction)) (numbers (length (same .outside j (r j .direction) (f .zone))) 1) (1 ∷ []);
+    })
+    (λ w w′ i i′ r q f k. λ j. cond (acts f (r j .direction)) (net (getD (same .outside j (r j .direction) (f .zone)) (k - 1) (pos 0)) (q j) *ℤ pressure (same .density j) (r j) *ℤ area axis f) (pos 0))
+
+-- ---- faster winds
+
+-- the same direction at a speed that is no lower
+pub record Faster (w w′ : Wind) : Type 0 where
+  pub direction : w .direction ≡ w′ .direction
+  pub some : 0 < w .speed
+  pub risen : w .speed ≤ w′ .speed
+
+-- the speed squared is a factor of the force
+force-squared : (n d a : ℤ) (q : ℕ) → n *ℤ (d *ℤ pos q) *ℤ a ≡ n *ℤ d *ℤ a *ℤ pos q
+force-squared n d a q =
+    ap (λ z. z *ℤ a) (sym (*ℤ-assoc n d (pos q)))
+    ∙ *ℤ-assoc (n *ℤ d) (pos q) a
+    ∙ ap (λ z. n *ℤ d *ℤ z) (*ℤ-comm (pos q) a)
+    ∙ sym (*ℤ-assoc (n *ℤ d) a (pos q))
+
+module _ (axis : Axis) (g g′ : Given) (same : SameSite g g′) where
+  raised : (w w′ : Wind) (i : ℤ) → Faster w w′ → Raised (force axis g w i) (force axis g′ w′ i)
+  raised w w′ i h =
+      record {
+        unit = λ f k. cond (acts f (w .direction)) (net (getD (outsides g w f) (k - 1) (pos 0)) i *ℤ g .density *ℤ area axis f) (pos 0);
+        factor = w .speed * w .speed;
+        factor′ = w′ .speed * w′ .speed;
+        some = mul-pos (h .some) (h .some);
+        risen = mul-le-mul (h .risen) (h .risen);
+        was = λ f k. factor w f (acts f (w .direction)) (net (getD (outsides g w f) (k - 1) (pos 0)) i);
+        becomes = λ f k. (λ j. cond (acts f (sym (h .direction) j)) (net (getD (sym (same .outside) j (sym (h .direction) j) (f .zone)) (k - 1) (pos 0)) i *ℤ pressure (sym (same .density) j) w′ *ℤ area axis f) (pos 0)) ∙ factor w′ f (acts f (w .direction)) (net (getD (outsides g w f) (k - 1) (pos 0)) i);
+      }
+    where
+      factor : (u : Wind) (f : Face) (t : Bool) (n : ℤ) → cond t (n *ℤ pressure (g .density) u *ℤ area axis f) (pos 0) ≡ cond t (n *ℤ g .density *ℤ area axis f) (pos 0) *ℤ pos (u .speed * u .speed)
+      factor u f true n = force-squared n (g .density) (area axis f) (u .speed * u .speed)
+      factor u f false n = sym (zero-*ℤ (pos (u .speed * u .speed)))
+
+  pub given-faster : (s : Side) → AllIn Faster (g .winds) (g′ .winds) → AllIn _≡_ (g .internals) (g′ .internals)
+      → (v : ℤ) (c : Case ℕ ℕ ℕ) (v′ : ℤ) (c′ : Case ℕ ℕ ℕ) → worst s (loads axis g) ≡ at v c → worst s (loads axis g′) ≡ at v′ c′
+      → Within s (pos 0) v → Within s v v′
+  given-faster s hw hi v c v′ c′ e e′ =
+      worst-faster (loads axis g) (loads axis g′) (λ w w′. Faster (windAt g w) (windAt g′ w′)) (λ i i′. internalAt g i ≡ internalAt g′ i′) s v c v′ c′ e e′
+      (record {
+        faces = same .faces;
+        wind = numbered Faster noWind (g .winds) (g′ .winds) hw;
+        internal = numbered _≡_ (pos 0) (g .internals) (g′ .internals) hi;
+        alternatives = λ w w′ r f. λ j. cond (acts f (r .direction j)) (numbers (length (same .outside j (r .direction j) (f .zone))) 1) (1 ∷ []);
+      })
+      (λ w w′ i i′ r q. subst (λ x. Raised (force axis g (windAt g w) (internalAt g i)) (force axis g′ (windAt g′ w′) x)) q (raised (windAt g w) (windAt g′ w′) (internalAt g i) r))

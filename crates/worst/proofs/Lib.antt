@@ -1,0 +1,25 @@
+-- The laws: of sides, of the best of a list, of cases, and of the quick way that the engine goes.
+pub mod Sides
+pub mod Better
+pub mod Meaning
+pub mod Members
+pub mod Scale
+pub mod Growth
+pub mod Quick
+pub mod Lists
+pub mod Furthest
+pub mod Sums
+pub mod Kept
+pub mod Runs
+pub mod Padded
+pub mod Found
+pub mod Planned
+pub mod Demand
+pub mod Ranges
+pub mod Example
+pub mod Filled
+pub mod Surfaces
+pub mod Prepared
+pub mod Accepted
+pub mod Promises
+pub mod Reckoned

@@ -1,0 +1,73 @@
+-- The force of a face on an axis, formula [3.2.8]: net coefficient × pressure number × projected area. From it, the cases of a job with their totals.
+use mathlib.Core.Bool.{Bool, cond, _||_}
+use mathlib.Core.List.{List, [], _∷_}
+use Prim.Native.Nat.{ℕ, _-_, _*_}
+use lib.Dec.{eqb}
+use lib.IntN.{ℤ, pos, _-ℤ_, _*ℤ_}
+use lib.ListN.{length, getD}
+use Rattle.worst.specs.declared.Axis.{Axis}
+use Rattle.worst.specs.declared.Axis.the-variants.{X, Y, Z}
+use Rattle.job.specs.declared.Wind.{Wind}
+use Rattle.job.specs.declared.Face.{Face}
+use Rattle.job.specs.Carried.{noWind}
+use Rattle.job.specs.Sections.{both}
+use Rattle.worst.specs.Cases.{Loads, numbers}
+
+-- what a job gives: of its building the air density, and the outside coefficients of a zone under a direction, in thousandths
+pub record Given : Type 0 where
+  pub density : ℤ
+  pub outside : ℕ → ℕ → List ℤ
+  pub winds : List Wind
+  pub internals : List ℤ
+  pub faces : List Face
+
+-- ---- one face
+
+-- a face marked for one direction adds nothing under the other
+abbrev pub acts : Face → ℕ → Bool
+acts f direction = eqb (f .mark) both || eqb (f .mark) direction
+
+abbrev pub outsides : Given → Wind → Face → List ℤ
+outsides g w f = g .outside (w .direction) (f .zone)
+
+-- the numbers of its alternatives: as many as it has outside coefficients, and one where it adds nothing
+abbrev pub alternatives : Given → Wind → Face → List ℕ
+alternatives g w f = cond (acts f (w .direction)) (numbers (length (outsides g w f)) 1) (1 ∷ [])
+
+-- outside minus internal, which is in hundredths
+abbrev pub net : ℤ → ℤ → ℤ
+net outside internal = outside -ℤ internal *ℤ pos 10
+
+-- P = density × V²
+abbrev pub pressure : ℤ → Wind → ℤ
+pressure density w = density *ℤ pos (w .speed * w .speed)
+
+abbrev pub area : Axis → Face → ℤ
+area X f = f .x
+area Y f = f .y
+area Z f = f .z
+
+-- at its alternative k
+abbrev pub force : Axis → Given → Wind → ℤ → Face → ℕ → ℤ
+force axis g w internal f k =
+    cond (acts f (w .direction)) (net (getD (outsides g w f) (k - 1) (pos 0)) internal *ℤ pressure (g .density) w *ℤ area axis f) (pos 0)
+
+-- ---- all of them
+
+-- the wind and the internal coefficient of a number, from 1
+abbrev pub windAt : Given → ℕ → Wind
+windAt g w = getD (g .winds) (w - 1) noWind
+
+abbrev pub internalAt : Given → ℕ → ℤ
+internalAt g i = getD (g .internals) (i - 1) (pos 0)
+
+-- winds, internal coefficients and alternatives by their numbers
+abbrev pub loads : Axis → Given → Loads ℕ ℕ Face ℕ
+loads axis g =
+    record {
+      winds = numbers (length (g .winds)) 1;
+      internals = numbers (length (g .internals)) 1;
+      faces = g .faces;
+      alternatives = λ w f. alternatives g (windAt g w) f;
+      force = λ w i f k. force axis g (windAt g w) (internalAt g i) f k;
+    }

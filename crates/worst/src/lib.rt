@@ -1,0 +1,62 @@
+// The worst cases of a job: on each axis the greatest and the least total over every permitted case, with the first case that reaches it.
+ghost use mathlib.Core.Path.{_≡_};
+ghost use Rattle.worst.specs.Worst.{worstOf};
+use job::Job;
+
+mod surface; // a face as a wind's direction meets it
+mod cell; // the sums of one wind and one internal coefficient
+mod tops; // the best cell so far
+mod cells; // every wind and internal coefficient in order
+mod chosen; // the alternatives of the best choice
+mod engine; // the six extremes
+mod prepare; // from a job to its plan
+mod reckon; // a refusal, or the six extremes
+
+pub enum Side {
+    Greatest,
+    Least,
+}
+
+pub enum Axis {
+    X,
+    Y,
+    Z,
+}
+
+// A total with the first case that reaches it: the numbers of its wind and its internal coefficient, from 1, and
+// each face's alternative, with zeros past the last face.
+pub struct Extreme {
+    pub total: i64,
+    pub wind: u32,
+    pub internal: u32,
+    pub faces: u32,
+    pub alternative: [u8; 24],
+}
+
+// The two extremes of one axis.
+pub struct Extremes {
+    pub greatest: Extreme,
+    pub least: Extreme,
+}
+
+// The six extremes of a job.
+pub struct Six {
+    pub x: Extremes,
+    pub y: Extremes,
+    pub z: Extremes,
+}
+
+// The number and line of a job's refusal, with zeros for extremes; or 0, 0 and the six.
+pub struct Reckoning {
+    pub number: u32,
+    pub line: u32,
+    pub six: Six,
+}
+
+// A job's own refusal, or its six extremes.
+pub fn worst_cases(job: Job) -> Reckoning
+    ensures { λ r. ⌜ r ≡ worstOf job ⌝ }
+{
+    let v = job::judge::judge(job);
+    reckon::reckon_by(job, v)
+}
