@@ -1,0 +1,184 @@
+// Questions and records at the corners of paper 01, each with its answer.
+use book::Answer;
+use book::Building;
+use job::Face;
+use job::Faces;
+use job::Internals;
+use job::Job;
+use job::Wind;
+use job::Winds;
+use text::page::Writing;
+
+fn print(s: &[u8]) {
+    io::write_all(libc::STDOUT_FILENO, s);
+}
+
+fn print_number(z: i64) {
+    let mut digits = [0u8; 20];
+    let written = text::numeral::write_decimal(z, &mut digits);
+    let Writing::Length(n) = written else {
+        return;
+    };
+    if n <= 20 {
+        print(b" ");
+        print(&digits[..n]);
+    }
+}
+
+fn print_value(v: i32) {
+    print_number(v as i64);
+}
+
+fn print_values(v: i32, w: i32) {
+    print_value(v);
+    print_value(w);
+}
+
+fn print_refusal(number: u32, line: u32) {
+    print_number(number as i64);
+    print_number(line as i64);
+}
+
+fn print_answer(title: &[u8], a: Answer) {
+    print(title);
+    match a {
+        Answer::One(v) => print_value(v),
+        Answer::Two(v, w) => print_values(v, w),
+        Answer::Refused(number, line) => print_refusal(number, line),
+    }
+    print(b"\n");
+}
+
+fn building(h: i64, kind: i64, x: i64) -> Building {
+    Building {
+        h,
+        a: 4800,
+        b: 4000,
+        density: 1250,
+        kind,
+        x,
+    }
+}
+
+fn outside_questions() {
+    print_answer(
+        b"point 18: curved, zone E, exactly -0.3995:",
+        book::outside(building(4000, 4, 201), 0, b'E'),
+    );
+    print_answer(
+        b"flat, zone F:",
+        book::outside(building(4000, 2, 0), 90, b'F'),
+    );
+    print_answer(
+        b"point 6: zone I:",
+        book::outside(building(4000, 2, 0), 0, b'I'),
+    );
+    print_answer(
+        b"zone G on a flat roof:",
+        book::outside(building(4000, 2, 0), 0, b'G'),
+    );
+    print_answer(
+        b"L1 on a gable:",
+        book::outside(building(4000, 1, 0), 0, b'1'),
+    );
+    print_answer(
+        b"point 7: h 10000000:",
+        book::outside(building(10000000, 2, 0), 0, b'E'),
+    );
+    print_answer(
+        b"point 7: h -9999999:",
+        book::outside(building(-9999999, 2, 0), 0, b'E'),
+    );
+    print_answer(
+        b"point 7: direction 1000000000000, for a local too:",
+        book::outside(building(4000, 2, 0), 1000000000000, b'w'),
+    );
+}
+
+fn net_questions() {
+    let g = Building {
+        h: 1600,
+        a: 1200,
+        b: 1000,
+        density: 1250,
+        kind: 4,
+        x: 82,
+    };
+    print_answer(
+        b"point 11: rounded first, then the internal coefficient comes off:",
+        book::net(g, 0, b'E', -100),
+    );
+    print_answer(
+        b"point 12: the net of the wall local:",
+        book::net(g, 0, b'w', 20),
+    );
+    print_answer(b"point 7: internal 101:", book::net(g, 0, b'E', 101));
+    print_answer(
+        b"6 before 3: zone H with internal 101:",
+        book::net(g, 0, b'H', 101),
+    );
+}
+
+pub(crate) fn questions() {
+    outside_questions();
+    net_questions();
+}
+
+// A job of one wind, one internal coefficient and one face, with these counts, this zone and this mark.
+fn record(winds: u32, faces: u32, zone: u8, mark: u32) -> Job {
+    let wind = Wind {
+        direction: 0,
+        speed: 400,
+    };
+    let face = Face {
+        zone,
+        mark,
+        x: 1000,
+        y: 0,
+        z: 0,
+    };
+    let w = Winds {
+        count: winds,
+        entry: [wind; 8],
+    };
+    let i = Internals {
+        count: 1,
+        entry: [20; 4],
+    };
+    let f = Faces {
+        count: faces,
+        entry: [face; 24],
+    };
+    Job {
+        building: building(2000, 0, 0),
+        winds: w,
+        internals: i,
+        faces: f,
+    }
+}
+
+fn print_verdict(title: &[u8], j: Job) {
+    let v = job::judge::judge(j);
+    print(title);
+    print_refusal(v.number, v.line);
+    print(b"\n");
+}
+
+pub(crate) fn records() {
+    print_verdict(b"a record in order:", record(1, 1, b'A', 0));
+    print_verdict(b"a record marked for both:", record(8, 24, b'A', job::BOTH));
+    print_verdict(b"point 8: nine winds:", record(9, 1, b'A', 0));
+    print_verdict(
+        b"point 8: 4000000000 faces:",
+        record(1, 4000000000, b'A', 0),
+    );
+    print_verdict(
+        b"point 9: a zeroed entry inside the count:",
+        record(1, 1, 0, 0),
+    );
+    print_verdict(b"point 9: mark 45:", record(1, 1, b'A', 45));
+    print_verdict(
+        b"point 9: mark 10000000, which no sheet carries:",
+        record(1, 1, b'A', 10000000),
+    );
+}

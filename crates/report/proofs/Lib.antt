@@ -1,0 +1,3 @@
+-- The laws of the lines' text, and of a report as its job is judged.
+pub mod Lines
+pub mod Reports

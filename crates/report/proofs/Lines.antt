@@ -1,0 +1,85 @@
+-- The numbers of a case, one after the other.
+use mathlib.Core.Path.{_≡_, refl, sym, ap, _∙_}
+use mathlib.Core.List.{List, [], _∷_, _++_, append-assoc}
+use Prim.Native.Nat.{ℕ, suc, _+_, _*_, _^_, _≤_, _<_}
+use native.Mathlib.Numerals.{add-one}
+use native.Mathlib.Omega.{arith}
+use lib.Signed.{mag}
+use lib.ListN.{length, take, getD, length-append}
+use mir.Syntax.{w8, w32}
+use mir.Val.{Fits}
+use lib.Seq.{take-suc}
+use Rattle.text.specs.Digits.{digits, decimal}
+use Rattle.text.specs.Writing.{Put}
+use Rattle.text.proofs.Digits.{digits-length, decimal-length}
+use Rattle.text.proofs.Writing.{then}
+use Rattle.worst.specs.declared.Extreme.{Extreme}
+use Rattle.worst.specs.declared.Extremes.{Extremes}
+use Rattle.worst.specs.declared.Six.{Six}
+use Rattle.report.specs.Lines.{spaced, caseNumbers, lineText, axisText, sixText, x, y, z, max, min}
+
+pub spaced-none : spaced [] ≡ []
+unfolding spaced
+spaced-none = refl
+
+pub spaced-one : (n : ℕ) → spaced (n ∷ []) ≡ (32 ∷ []) ++ digits n
+unfolding spaced
+spaced-one n = ap (λ (l : List ℕ). 32 ∷ l) (append-nil (digits n))
+  where
+    append-nil : (l : List ℕ) → l ++ [] ≡ l
+    append-nil [] = refl
+    append-nil (x ∷ l) = ap (λ (m : List ℕ). x ∷ m) (append-nil l)
+
+pub spaced-append : (ns ms : List ℕ) → spaced (ns ++ ms) ≡ spaced ns ++ spaced ms
+unfolding spaced
+spaced-append [] ms = refl
+spaced-append (n ∷ ns) ms =
+    ap (λ (l : List ℕ). 32 ∷ digits n ++ l) (spaced-append ns ms) ∙ ap (λ (l : List ℕ). 32 ∷ l) (sym (append-assoc (digits n) (spaced ns) (spaced ms)))
+
+pub spaced-case : (w i : ℕ) (ks : List ℕ) → spaced (w ∷ i ∷ ks) ≡ (spaced (w ∷ []) ++ spaced (i ∷ [])) ++ spaced ks
+spaced-case w i ks =
+    spaced-append (w ∷ i ∷ []) ks ∙ ap (λ (l : List ℕ). l ++ spaced ks) (spaced-append (w ∷ []) (i ∷ []))
+
+-- a line and the six lines, in the order in which their parts are put
+pub line-parts : (axis : ℕ) (word : List ℕ) (e : Extreme)
+    → lineText axis word e ≡ ((((axis ∷ []) ++ word) ++ decimal (e .total)) ++ spaced (caseNumbers e)) ++ (10 ∷ [])
+unfolding lineText
+line-parts axis word e = simp append-assoc
+
+pub axis-parts : (axis : ℕ) (e : Extremes) → axisText axis e ≡ lineText axis max (e .greatest) ++ lineText axis min (e .least)
+unfolding axisText
+axis-parts axis e = refl
+
+pub six-parts : (s : Six) → sixText s ≡ (axisText x (s .x) ++ axisText y (s .y)) ++ axisText z (s .z)
+unfolding sixText
+six-parts s = sym (append-assoc (axisText x (s .x)) (axisText y (s .y)) (axisText z (s .z)))
+
+-- one number more
+pub numbers-more : {l m n : List ℕ} {at r r′ : ℕ} (ns : List ℕ) (i : ℕ) → i < length ns
+    → Put l at (spaced (take i ns)) m r → Put m r (spaced (getD ns i 0 ∷ [])) n r′ → Put l at (spaced (take (i + 1) ns)) n r′
+numbers-more ns i h p q =
+    rw (ap (λ (k : ℕ). spaced (take k ns)) (add-one i) ∙ ap spaced (take-suc ns i 0 h) ∙ spaced-append (take i ns) (getD ns i 0 ∷ [])) (then p q)
+
+-- ---- how long
+
+-- a text of bounded length, and then another
+pub then≤ : {l m n : List ℕ} {at r r′ a b : ℕ} {s t : List ℕ} → Put l at s m r × (length s ≤ a) → Put m r t n r′ × (length t ≤ b)
+    → Put l at (s ++ t) n r′ × (length (s ++ t) ≤ a + b)
+then≤ {s = s} {t} p q = (then (p .0) (q .0), omega (arith, length-append s t, p .1, q .1))
+
+spaced-size : (k : ℕ) (n : ℕ) → n < 10 ^ suc k → (ns : List ℕ) → length (spaced (n ∷ ns)) ≤ suc (suc k) + length (spaced ns)
+unfolding spaced
+spaced-size k n h ns = omega (arith, length-append (digits n) (spaced ns), digits-length k n h)
+
+pub spaced-u32 : (n : ℕ) → Fits w32 n → length (spaced (n ∷ [])) ≤ 11
+spaced-u32 n f = omega (arith, spaced-size 9 n (omega (arith, f .fits)) [], ap length spaced-none)
+
+pub spaced-bytes : (ns : List ℕ) → ((k : ℕ) → Fits w8 (getD ns k 0)) → length (spaced ns) ≤ 4 * length ns
+spaced-bytes [] f = omega (arith, ap length spaced-none)
+spaced-bytes (n ∷ ns) f =
+    omega (arith, spaced-size 2 n (omega (arith, f 0 .fits)) ns, spaced-bytes ns (λ k. f (suc k)))
+
+pub line-length : (axis : ℕ) (word : List ℕ) (e : Extreme) → length word ≡ 5 → mag (e .total) < 2 ^ 63 → length (spaced (caseNumbers e)) ≤ 118
+    → length (lineText axis word e) ≤ 145
+line-length axis word e h t k =
+    rw line-parts (simp length-append (omega (arith, h, k, decimal-length (e .total) t)))

@@ -1,0 +1,22 @@
+-- `put_axis` meets its contract: the greatest, then the least.
+use borrow.Author.Needs.{needs}
+use Rattle.report.proofs.Lines.{axis-parts, then≤}
+use Rattle.report.proofs.six.put_axis.Statement.{statement}
+use Rattle.report.proofs.six.put_axis.Tie as tie
+
+put-line-requires : tie.Need-put-line-requires
+put-line-requires c κs = search needs
+
+put-line-requires-2 : tie.Need-put-line-requires-2
+put-line-requires-2 c κs = search needs
+
+same-length : tie.Need-same-length
+same-length c = search needs
+
+returns : tie.Need-returns
+returns c =
+    let least = c .before .before in
+    rw axis-parts (then≤ (least .before .before .before .before .before .put-line .ensures) (least .put-line2 .ensures))
+
+pub put-axis-spec : {M : Type 1} → statement M
+put-axis-spec = tie.close (tie.spec put-line-requires put-line-requires-2 same-length returns)

@@ -1,0 +1,56 @@
+-- `put_line` meets its contract: the parts of a line, one after the other.
+use borrow.Author.Needs.{needs}
+use denote.Ref.{now}
+use mir.Syntax.{w64}
+use mir.ValLaws.{toZ-ofZ}
+use Rattle.text.proofs.Writing.{then}
+use Rattle.report.proofs.Lines.{line-parts, line-length}
+use Rattle.report.proofs.six.put_line.Statement.{statement}
+use Rattle.report.proofs.six.put_line.Tie as tie
+
+put-byte-requires : tie.Need-put-byte-requires
+put-byte-requires c κs = search needs
+
+put-bytes-requires : tie.Need-put-bytes-requires
+put-bytes-requires c κs = search needs
+
+put-decimal-requires : tie.Need-put-decimal-requires
+put-decimal-requires c κs = search needs
+
+put-case-requires : tie.Need-put-case-requires
+put-case-requires c κs = search needs
+
+put-byte-requires-2 : tie.Need-put-byte-requires-2
+put-byte-requires-2 c κs = search needs
+
+same-length : tie.Need-same-length
+same-length c = search needs
+
+returns : tie.Need-returns
+returns c =
+    let end = c .before .before in
+    let case = end .before .before .before .before in
+    let total = case .before .before .before .before in
+    let word = total .before .before .before .before .before in
+    let axis = word .before .before .before .before .before in
+    let e = axis .before .before .before .args .e in
+    let read = toZ-ofZ w64 (e .total) (record { sfits = total .before .struct-told .given .0 .1 }) in
+    let a = axis .before .before .before .args in (
+      rw line-parts
+          (then
+          (then (then (then (axis .put-byte .ensures) (word .put-bytes .ensures)) (rw read at (total .put-decimal .ensures))) (case .put-case .ensures .0))
+          (end .put-byte2 .ensures)),
+      line-length (a .axis) (now (a .word)) (a .e) (search needs) (total .before .struct-told .given .0 .1) (case .put-case .ensures .1),
+    )
+
+pub put-line-spec : {M : Type 1} → statement M
+put-line-spec =
+    tie.close
+    (tie.spec
+    put-byte-requires
+    put-bytes-requires
+    put-decimal-requires
+    put-case-requires
+    put-byte-requires-2
+    same-length
+    returns)

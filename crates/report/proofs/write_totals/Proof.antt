@@ -1,0 +1,62 @@
+-- `write_totals` meets its contract: what is read is refused in one line, or reported.
+use mathlib.Core.Path.{_∙_, sym, ap}
+use mathlib.Core.List.{List}
+use Prim.Native.Nat.{ℕ}
+use denote.Ref.{now}
+use borrow.Author.Needs.{needs}
+use Rattle.text.specs.Writing.{writing, bufferAfter}
+use Rattle.job.specs.Walk.{Reading}
+use Rattle.sheet.specs.Sheet.{jobWriting, jobBuffer}
+use Rattle.report.specs.Report.{reportText, totalsText}
+use Rattle.report.proofs.Reports.{totals-refused, totals-accepted}
+use Rattle.report.proofs.write_totals.Statement.{statement}
+use Rattle.report.proofs.write_totals.Tie as tie
+
+read-sheet-requires : tie.Need-read-sheet-requires
+read-sheet-requires c κs = search needs
+
+write-refused-requires : tie.Need-write-refused-requires
+write-refused-requires c κs = search needs
+
+same-length : tie.Need-same-length
+same-length c = search needs
+
+returns : tie.Need-returns
+returns c =
+    let w = c .before .before in
+    let t = w .before .before in
+    let r = t .before .before in
+    let a = r .before .before .before .args in
+    let b = now (a .buf) in
+    let e = totals-refused (now (a .s)) (r .read-sheet .result) (r .read-sheet .ensures) (t .if1 .taken) in
+    rw e (w .write-refused .ensures)
+
+write-report-requires : tie.Need-write-report-requires
+write-report-requires c κs = search needs
+
+same-length-2 : tie.Need-same-length-2
+same-length-2 c = search needs
+
+returns-2 : tie.Need-returns-2
+returns-2 c =
+    let w = c .before .before in
+    let t = w .before .before in
+    let r = t .before .before in
+    let a = r .before .before .before .args in
+    let b = now (a .buf) in
+    let e = totals-accepted (now (a .s)) (r .read-sheet .result) (r .read-sheet .ensures) (t .if1 .left) in (
+      w .write-report .ensures .0 ∙ ap (λ (x : Reading). jobWriting reportText x b) (e .2) ∙ sym (ap (λ (x : Reading). writing (totalsText x) b) (e .1)),
+      w .write-report .ensures .1 ∙ ap (λ (x : Reading). jobBuffer reportText x b) (e .2) ∙ sym (ap (λ (x : Reading). bufferAfter (totalsText x) b) (e .1)),
+    )
+
+pub write-totals-spec : {M : Type 1} → statement M
+write-totals-spec =
+    tie.close
+    (tie.spec
+    read-sheet-requires
+    write-refused-requires
+    same-length
+    returns
+    write-report-requires
+    same-length-2
+    returns-2)
