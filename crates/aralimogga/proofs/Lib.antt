@@ -1,0 +1,2 @@
+-- What comes of a sheet that was read.
+pub mod Readings

@@ -1,0 +1,36 @@
+-- `answers::coefficient_of`: each arm is a clause of `coefficientOf`, and a value is read back as it is.
+use mathlib.Core.Path.{sym, ap, ap₂, _∙_}
+use mir.Syntax.{w32}
+use Rattle.whole.proofs.Size.{returned}
+use Rattle.book.specs.declared.Answer.the-variants.{One, Two}
+use Rattle.aralimogga.specs.Answers.{coefficientOf}
+use borrow.Author.Needs.{needs}
+use Rattle.aralimogga.proofs.answers.coefficient_of.Statement.{statement}
+use Rattle.aralimogga.proofs.answers.coefficient_of.Tie as tie
+
+enum-known-a : tie.Need-enum-known-a
+enum-known-a c = search needs
+
+enum-known-a-2 : tie.Need-enum-known-a-2
+enum-known-a-2 c = search needs
+
+enum-known-a-3 : tie.Need-enum-known-a-3
+enum-known-a-3 c = search needs
+
+returns : tie.Need-returns
+returns c =
+    let a = c .before .a .given in
+    ap coefficientOf (ap One (returned w32 (a .0 .0) (c .known-told .given .0 .1) .same) ∙ sym (a .1))
+
+returns-2 : tie.Need-returns-2
+returns-2 c =
+    let a = c .before .a2 .given in
+    let k = c .known-told2 .given in
+    ap coefficientOf (ap₂ Two (returned w32 (a .0 .0) (k .0 .1) .same) (returned w32 (a .0 .1 .0) (k .1 .0 .1) .same) ∙ sym (a .1))
+
+returns-3 : tie.Need-returns-3
+returns-3 c = ap coefficientOf (sym (c .before .a3 .given .1))
+
+pub coefficient-of-spec : {M : Type 1} → statement M
+coefficient-of-spec =
+    tie.close (tie.spec enum-known-a enum-known-a-2 enum-known-a-3 returns returns-2 returns-3)

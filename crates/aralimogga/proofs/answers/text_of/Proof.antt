@@ -1,0 +1,24 @@
+-- `answers::text_of`: each arm is a clause of `textOf`.
+use mathlib.Core.Path.{sym, ap, _∙_}
+use Rattle.aralimogga.specs.Answers.{textOf}
+use borrow.Author.Needs.{needs}
+use Rattle.aralimogga.proofs.answers.text_of.Statement.{statement}
+use Rattle.aralimogga.proofs.answers.text_of.Tie as tie
+
+enum-known-w : tie.Need-enum-known-w
+enum-known-w c = search needs
+
+enum-known-w-2 : tie.Need-enum-known-w-2
+enum-known-w-2 c = search needs
+
+no-text-requires : tie.Need-no-text-requires
+no-text-requires c κs = search needs
+
+returns : tie.Need-returns
+returns c = ap textOf (sym (c .before .w .given .1))
+
+returns-2 : tie.Need-returns-2
+returns-2 c = c .no-text .ensures ∙ ap textOf (sym (c .before .before .w2 .given .1))
+
+pub text-of-spec : {M : Type 1} → statement M
+text-of-spec = tie.close (tie.spec enum-known-w enum-known-w-2 no-text-requires returns returns-2)

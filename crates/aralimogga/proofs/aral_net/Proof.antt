@@ -1,0 +1,25 @@
+-- `aral_net`: each number is read back as it is.
+use mathlib.Core.Path.{ap, _∙_}
+use Rattle.whole.proofs.Size.{param}
+use Rattle.aralimogga.specs.Answers.{coefficientOf}
+use borrow.Author.Needs.{needs}
+use Rattle.aralimogga.proofs.aral_net.Statement.{statement}
+use Rattle.aralimogga.proofs.aral_net.Tie as tie
+
+net-requires : tie.Need-net-requires
+net-requires c κs = search needs
+
+coefficient-of-requires : tie.Need-coefficient-of-requires
+coefficient-of-requires c κs = search needs
+
+returns : tie.Need-returns
+returns c =
+    let g = c .before in
+    let f = g .before .fits in
+    let e =
+    rw (param (f .h) .same, param (f .a) .same, param (f .b) .same, param (f .density) .same, param (f .kind) .same, param (f .x) .same, param (f .direction) .same, param (f .internal) .same)
+    at (g .net .ensures) in
+    c .coefficient-of .ensures ∙ ap coefficientOf e
+
+pub aral-net-spec : {M : Type 1} → statement M
+aral-net-spec = tie.close (tie.spec net-requires coefficient-of-requires returns)

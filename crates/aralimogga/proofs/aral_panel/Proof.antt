@@ -1,0 +1,22 @@
+-- `aral_panel`: the total is read back as it is.
+use mathlib.Core.Path.{ap, _∙_}
+use Rattle.whole.proofs.Size.{param}
+use Rattle.panel.specs.Bracket.{panelOf}
+use Rattle.aralimogga.specs.Answers.{doubleOf}
+use borrow.Author.Needs.{needs}
+use Rattle.aralimogga.proofs.aral_panel.Statement.{statement}
+use Rattle.aralimogga.proofs.aral_panel.Tie as tie
+
+panel-of-requires : tie.Need-panel-of-requires
+panel-of-requires c κs = search needs
+
+double-of-requires : tie.Need-double-of-requires
+double-of-requires c κs = search needs
+
+returns : tie.Need-returns
+returns c =
+    let p = c .before in
+    c .double-of .ensures ∙ ap doubleOf (p .panel-of .ensures ∙ ap panelOf (param (p .before .fits .total) .same))
+
+pub aral-panel-spec : {M : Type 1} → statement M
+aral-panel-spec = tie.close (tie.spec panel-of-requires double-of-requires returns)

@@ -1,0 +1,51 @@
+-- `aral_rewrite`: the refusal of what was read, or the text of the job that it carries.
+use denote.Ref.{now}
+use mathlib.Core.Path.{_∙_}
+use Rattle.sheet.specs.Sheet.{sheetText}
+use Rattle.aralimogga.proofs.Readings.{text-refused, text-accepted}
+use borrow.Author.Needs.{needs}
+use Rattle.aralimogga.proofs.aral_rewrite.Statement.{statement}
+use Rattle.aralimogga.proofs.aral_rewrite.Tie as tie
+
+read-sheet-requires : tie.Need-read-sheet-requires
+read-sheet-requires c κs = search needs
+
+no-text-requires : tie.Need-no-text-requires
+no-text-requires c κs = search needs
+
+returns : tie.Need-returns
+returns c =
+    let t = c .before in
+    let r = t .before .before in
+    let a = r .before .before .before .args in
+    let u = text-refused (now (a .sheet)) (r .read-sheet .result) (r .read-sheet .ensures) sheetText (now (a .out)) (t .if1 .taken) in
+    (c .no-text .ensures ∙ u .0, u .1)
+
+write-sheet-requires : tie.Need-write-sheet-requires
+write-sheet-requires c κs = search needs
+
+text-of-requires : tie.Need-text-of-requires
+text-of-requires c κs = search needs
+
+same-length : tie.Need-same-length
+same-length c = search needs
+
+returns-2 : tie.Need-returns-2
+returns-2 c =
+    let w = c .before .before .before in
+    let t = w .before .before in
+    let r = t .before .before in
+    let a = r .before .before .before .args in
+    text-accepted (now (a .sheet)) (r .read-sheet .result) (r .read-sheet .ensures) sheetText (now (a .out)) (t .if1 .left) (c .text-of .ensures) (w .write-sheet .ensures)
+
+pub aral-rewrite-spec : {M : Type 1} → statement M
+aral-rewrite-spec =
+    tie.close
+    (tie.spec
+    read-sheet-requires
+    no-text-requires
+    returns
+    write-sheet-requires
+    text-of-requires
+    same-length
+    returns-2)

@@ -1,0 +1,78 @@
+-- The records of include/aralimogga.h for each answer: 0 and 0 with what was asked for, or a refusal's number and line with zeros.
+use Prim.Native.Nat.{ℕ}
+use mathlib.Core.Bool.{cond}
+use mathlib.Core.List.{[], _∷_}
+use lib.Dec.{eqb}
+use lib.IntN.{ℤ, pos, negsuc}
+use lib.ListN.{replicate}
+use Rattle.text.specs.declared.page.Writing.{Writing}
+use Rattle.text.specs.declared.page.Writing.the-variants as written
+use Rattle.book.specs.declared.Answer as book
+use Rattle.book.specs.declared.Answer.the-variants as asked
+use Rattle.panel.specs.declared.Panel.{Panel}
+use Rattle.panel.specs.declared.Panel.the-variants.{Exact, Between}
+use Rattle.job.specs.Walk.{Reading, Accepted, Refused}
+use Rattle.worst.specs.declared.Extreme as worst
+use Rattle.worst.specs.declared.Six.{Six}
+use Rattle.worst.specs.Worst.{sixExtremes}
+use Rattle.aralimogga.specs.declared.answers.Answer.{Answer}
+use Rattle.aralimogga.specs.declared.answers.Text.{Text}
+use Rattle.aralimogga.specs.declared.answers.Coefficient.{Coefficient}
+use Rattle.aralimogga.specs.declared.answers.Extreme.{Extreme}
+use Rattle.aralimogga.specs.declared.answers.Double.{Double}
+
+abbrev pub answerOf : Reading → Answer
+answerOf (Accepted c) = record { number = 0; line = 0 }
+answerOf (Refused number line) = record { number = number; line = line }
+
+-- ---- a text
+
+abbrev pub noText : ℕ → ℕ → Text
+noText number line = record { number = number; line = line; length = 0 }
+
+abbrev pub textOf : Writing → Text
+textOf (written.Length n) = record { number = 0; line = 0; length = n }
+textOf (written.Refused number line) = noText number line
+
+-- ---- a coefficient
+
+abbrev pub coefficientOf : book.Answer → Coefficient
+coefficientOf (asked.One v) = record { number = 0; line = 0; count = 1; value = v ∷ pos 0 ∷ [] }
+coefficientOf (asked.Two v w) = record { number = 0; line = 0; count = 2; value = v ∷ w ∷ [] }
+coefficientOf (asked.Refused number line) = record { number = number; line = line; count = 0; value = pos 0 ∷ pos 0 ∷ [] }
+
+-- ---- a double
+
+abbrev pub doubleOf : Panel → Double
+doubleOf (Exact x) = record { exact = 1; low = x; high = x }
+doubleOf (Between low high) = record { exact = 0; low = low; high = high }
+
+-- ---- a line of the report
+
+abbrev pub noExtreme : ℕ → ℕ → Extreme
+noExtreme number line =
+    record { number = number; line = line; total = pos 0; wind = 0; internal = 0; faces = 0; alternative = replicate 24 0 }
+
+abbrev pub extremeOf : worst.Extreme → Extreme
+extremeOf e =
+    record { number = 0; line = 0; total = e .total; wind = e .wind; internal = e .internal; faces = e .faces; alternative = e .alternative }
+
+-- x max, x min, y max, y min, z max, z min; no other line
+unfoldable pub onLine : Six → ℕ → Extreme
+onLine s n =
+    cond (eqb n 1) (extremeOf (s .x .greatest))
+    (cond (eqb n 2) (extremeOf (s .x .least))
+    (cond (eqb n 3) (extremeOf (s .y .greatest))
+    (cond (eqb n 4) (extremeOf (s .y .least))
+    (cond (eqb n 5) (extremeOf (s .z .greatest))
+    (cond (eqb n 6) (extremeOf (s .z .least))
+    (noExtreme 3 0))))))
+
+abbrev pub lineOf : Six → ℤ → Extreme
+lineOf s (pos n) = onLine s n
+lineOf s (negsuc n) = noExtreme 3 0
+
+-- the sheet's own refusal first
+abbrev pub totalOf : Reading → ℤ → Extreme
+totalOf (Accepted c) line = lineOf (sixExtremes c) line
+totalOf (Refused number line) l = noExtreme number line

@@ -1,0 +1,2 @@
+-- What the records of a host program in C say.
+pub mod Answers

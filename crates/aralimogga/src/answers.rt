@@ -1,0 +1,178 @@
+// The records that a host program in C gets, as include/aralimogga.h lays them out, and how an answer is turned into one.
+use panel::Panel;
+use text::page::Writing;
+ghost use mathlib.Core.Path.{_≡_};
+ghost use Rattle.aralimogga.specs.Answers as told;
+
+// The number of a refusal and its line, both 0 where the sheet is accepted.
+#[repr(C)]
+pub struct Answer {
+    pub number: u32,
+    pub line: u32,
+}
+
+// And the length of a text that is written, 0 where it is refused.
+#[repr(C)]
+pub struct Text {
+    pub number: u32,
+    pub line: u32,
+    pub length: u64,
+}
+
+// And as many coefficients in thousandths as the count says, then zeros.
+#[repr(C)]
+pub struct Coefficient {
+    pub number: u32,
+    pub line: u32,
+    pub count: u32,
+    pub value: [i32; 2],
+}
+
+// And a total with the first case that reaches it, all zero where it is refused.
+#[repr(C)]
+pub struct Extreme {
+    pub number: u32,
+    pub line: u32,
+    pub total: i64,
+    pub wind: u32,
+    pub internal: u32,
+    pub faces: u32,
+    pub alternative: [u8; 24],
+}
+
+// Where exact is 1, low and high are the number.
+#[repr(C)]
+pub struct Double {
+    pub exact: u32,
+    pub low: f64,
+    pub high: f64,
+}
+
+pub(crate) fn no_text(number: u32, line: u32) -> Text
+    ensures { λ r. ⌜ r ≡ told.noText number line ⌝ }
+{
+    Text {
+        number: number,
+        line: line,
+        length: 0,
+    }
+}
+
+pub(crate) fn text_of(w: Writing) -> Text
+    ensures { λ r. ⌜ r ≡ told.textOf w ⌝ }
+{
+    match w {
+        Writing::Length(n) => Text {
+            number: 0,
+            line: 0,
+            length: n as u64,
+        },
+        Writing::Refused(number, line) => no_text(number, line),
+    }
+}
+
+pub(crate) fn coefficient_of(a: book::Answer) -> Coefficient
+    ensures { λ r. ⌜ r ≡ told.coefficientOf a ⌝ }
+{
+    match a {
+        book::Answer::One(v) => Coefficient {
+            number: 0,
+            line: 0,
+            count: 1,
+            value: [v, 0],
+        },
+        book::Answer::Two(v, w) => Coefficient {
+            number: 0,
+            line: 0,
+            count: 2,
+            value: [v, w],
+        },
+        book::Answer::Refused(number, line) => Coefficient {
+            number: number,
+            line: line,
+            count: 0,
+            value: [0, 0],
+        },
+    }
+}
+
+pub(crate) fn double_of(p: Panel) -> Double
+    ensures { λ r. ⌜ r ≡ told.doubleOf p ⌝ }
+{
+    match p {
+        Panel::Exact(x) => Double {
+            exact: 1,
+            low: x,
+            high: x,
+        },
+        Panel::Between(low, high) => Double {
+            exact: 0,
+            low: low,
+            high: high,
+        },
+    }
+}
+
+pub(crate) fn no_extreme(number: u32, line: u32) -> Extreme
+    ensures { λ r. ⌜ r ≡ told.noExtreme number line ⌝ }
+{
+    let alternative = [0u8; 24];
+    Extreme {
+        number: number,
+        line: line,
+        total: 0,
+        wind: 0,
+        internal: 0,
+        faces: 0,
+        alternative,
+    }
+}
+
+fn extreme_of(e: worst::Extreme) -> Extreme
+    ensures { λ r. ⌜ r ≡ told.extremeOf e ⌝ }
+{
+    let alternative = e.alternative;
+    Extreme {
+        number: 0,
+        line: 0,
+        total: e.total,
+        wind: e.wind,
+        internal: e.internal,
+        faces: e.faces,
+        alternative,
+    }
+}
+
+// One line of the report, counted from 1.
+fn on_line(six: worst::Six, n: u64) -> Extreme
+    ensures { λ r. ⌜ r ≡ told.onLine six n ⌝ }
+{
+    if n == 1 {
+        return extreme_of(six.x.greatest);
+    }
+    if n == 2 {
+        return extreme_of(six.x.least);
+    }
+    if n == 3 {
+        return extreme_of(six.y.greatest);
+    }
+    if n == 4 {
+        return extreme_of(six.y.least);
+    }
+    if n == 5 {
+        return extreme_of(six.z.greatest);
+    }
+    if n == 6 {
+        return extreme_of(six.z.least);
+    }
+    no_extreme(3, 0)
+}
+
+pub(crate) fn line_of(six: worst::Six, line: i64) -> Extreme
+    ensures { λ r. ⌜ r ≡ told.lineOf six line ⌝ }
+{
+    if line < 0 {
+        return no_extreme(3, 0);
+    }
+    on_line(six, whole::magnitude(line))
+}

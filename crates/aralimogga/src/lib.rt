@@ -1,0 +1,142 @@
+// The entry points for a host program in C (include/aralimogga.h). None trusts its caller, and none keeps anything between calls.
+use book::Building;
+use panel::Point;
+ghost use mathlib.Core.Path.{_≡_};
+ghost use Rattle.text.specs.Digits.{decimal};
+ghost use Rattle.text.specs.Writing.{writing, bufferAfter};
+ghost use Rattle.book.specs.Question.{outsideOf, netOf};
+ghost use Rattle.panel.specs.Bracket.{panelOf};
+ghost use Rattle.panel.specs.Chart.{pointOf};
+ghost use Rattle.sheet.specs.Sheet.{reading, sheetText, jobWriting, jobBuffer};
+ghost use Rattle.report.specs.Report.{reportText};
+ghost use Rattle.aralimogga.specs.Answers.{answerOf, textOf, coefficientOf, doubleOf, totalOf};
+
+mod answers;
+
+// ---- about a sheet
+
+// Whether the sheet is accepted.
+#[no_mangle]
+pub extern "C" fn aral_read(sheet: &[u8]) -> answers::Answer
+    ensures { λ r. ⌜ r ≡ answerOf (reading (now (sheet .entry))) ⌝ }
+{
+    let r = sheet::read::read_sheet(sheet);
+    answers::Answer {
+        number: r.number,
+        line: r.line,
+    }
+}
+
+// The sheet read, and written again.
+#[no_mangle]
+pub extern "C" fn aral_rewrite(sheet: &[u8], out: &mut [u8]) -> answers::Text
+    ensures { λ r. ⌜ (r ≡ textOf (jobWriting sheetText (reading (now (sheet .entry))) (now (out .entry)))) × (now (out .exit) ≡ jobBuffer sheetText (reading (now (sheet .entry))) (now (out .entry))) ⌝ }
+{
+    let r = sheet::read::read_sheet(sheet);
+    if r.number != 0 {
+        return answers::no_text(r.number, r.line);
+    }
+    answers::text_of(sheet::write::write_sheet(r.job, out))
+}
+
+// Its report.
+#[no_mangle]
+pub extern "C" fn aral_report(sheet: &[u8], out: &mut [u8]) -> answers::Text
+    ensures { λ r. ⌜ (r ≡ textOf (jobWriting reportText (reading (now (sheet .entry))) (now (out .entry)))) × (now (out .exit) ≡ jobBuffer reportText (reading (now (sheet .entry))) (now (out .entry))) ⌝ }
+{
+    let r = sheet::read::read_sheet(sheet);
+    if r.number != 0 {
+        return answers::no_text(r.number, r.line);
+    }
+    answers::text_of(report::write_report(r.job, out))
+}
+
+// One line of its report: 1 is x max, 2 x min, up to 6, z min.
+#[no_mangle]
+pub extern "C" fn aral_total(sheet: &[u8], line: i64) -> answers::Extreme
+    ensures { λ r. ⌜ r ≡ totalOf (reading (now (sheet .entry))) line ⌝ }
+{
+    let r = sheet::read::read_sheet(sheet);
+    if r.number != 0 {
+        return answers::no_extreme(r.number, r.line);
+    }
+    let w = worst::worst_cases(r.job);
+    answers::line_of(w.six, line)
+}
+
+// ---- about one place of a building
+
+#[no_mangle]
+pub extern "C" fn aral_outside(
+    h: i64,
+    a: i64,
+    b: i64,
+    density: i64,
+    kind: i64,
+    x: i64,
+    direction: i64,
+    place: u8,
+) -> answers::Coefficient
+    ensures { λ r. ⌜ r ≡ coefficientOf (outsideOf (record { h = h; a = a; b = b; density = density; kind = kind; x = x }) direction place) ⌝ }
+{
+    let g = Building {
+        h: h,
+        a: a,
+        b: b,
+        density: density,
+        kind: kind,
+        x: x,
+    };
+    answers::coefficient_of(book::outside(g, direction, place))
+}
+
+#[no_mangle]
+pub extern "C" fn aral_net(
+    h: i64,
+    a: i64,
+    b: i64,
+    density: i64,
+    kind: i64,
+    x: i64,
+    direction: i64,
+    place: u8,
+    internal: i64,
+) -> answers::Coefficient
+    ensures { λ r. ⌜ r ≡ coefficientOf (netOf (record { h = h; a = a; b = b; density = density; kind = kind; x = x }) direction place internal) ⌝ }
+{
+    let g = Building {
+        h: h,
+        a: a,
+        b: b,
+        density: density,
+        kind: kind,
+        x: x,
+    };
+    answers::coefficient_of(book::net(g, direction, place, internal))
+}
+
+// ---- about numbers
+
+// A number in decimal.
+#[no_mangle]
+pub extern "C" fn aral_digits(number: i64, out: &mut [u8]) -> answers::Text
+    ensures { λ r. ⌜ (r ≡ textOf (writing (decimal number) (now (out .entry)))) × (now (out .exit) ≡ bufferAfter (decimal number) (now (out .entry))) ⌝ }
+{
+    answers::text_of(text::numeral::write_decimal(number, out))
+}
+
+// The doubles of a total.
+#[no_mangle]
+pub extern "C" fn aral_panel(total: i64) -> answers::Double
+    ensures { λ r. ⌜ r ≡ doubleOf (panelOf total) ⌝ }
+{
+    answers::double_of(panel::panel_of(total))
+}
+
+// The chart point of three totals.
+#[no_mangle]
+pub extern "C" fn aral_chart(x: i64, y: i64, z: i64) -> Point
+    ensures { λ r. ⌜ r ≡ pointOf x y z ⌝ }
+{
+    panel::chart(x, y, z)
+}

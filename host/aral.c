@@ -1,0 +1,245 @@
+/* aral: the calculator on the command line, for people. It links libaralimogga.a and reckons nothing itself. */
+#include "aralimogga.h"
+#include "words.h"
+#include <errno.h>
+#include <inttypes.h>
+#include <stdio.h>
+#include <stdlib.h>
+#include <string.h>
+
+enum { ACCEPTED, REFUSED, MISUSED };
+
+static const char help[] =
+    "aral: the forces of wind on a building, by the tables of ROM 0.4-95\n"
+    "\n"
+    "  aral totals FILE   the six worst totals: axis, max or min, total, wind, internal, each face's alternative\n"
+    "  aral check FILE    whether the sheet is accepted, and if not, which line is wrong and what it may say\n"
+    "  aral panel FILE    the six totals in newtons, and the doubles that a panel shows for them\n"
+    "  aral ask WORDS     one coefficient, as:  aral ask h 500 a 1200 b 1000 kind 1 x 123 wind 0 zone E internal -30\n"
+    "  aral help          this text\n"
+    "\n"
+    "FILE is a sheet, or - for standard input. A total is in units of 0.00000000005 N: 20000000000 of them are 1 N.\n"
+    "In `ask`: h, a, b in cm (height, longer side, shorter side); kind and x are the roof's, 0 where left out:\n"
+    "  kind 0 none; 1 gable, x the slope in tenths of a degree; 2 flat, straight eaves; 3 parapet, x its height\n"
+    "  in cm; 4 curved eaves, x the radius in cm; 5 mansard, x its angle in tenths of a degree;\n"
+    "wind is 0 or 90; zone is A to H, or local is wall, L1 or L2; internal, in hundredths, asks for the net too.\n"
+    "\n"
+    "The exit status is 0, or 1 where the sheet or the question is refused, or 2 where the command is none of these.\n";
+
+/* ---- Sheets ---- */
+
+/* The longest acceptable sheet has 827 bytes, so what lies past this much of a text changes no answer. */
+static uint8_t sheet[1 << 16];
+static size_t length;
+
+static int load(const char *name)
+{
+    FILE *file = strcmp(name, "-") ? fopen(name, "rb") : stdin;
+    if (!file) {
+        fprintf(stderr, "aral: %s can't be opened\n", name);
+        return 0;
+    }
+    length = fread(sheet, 1, sizeof sheet, file);
+    int good = !ferror(file);
+    if (!good) fprintf(stderr, "aral: %s can't be read\n", name);
+    if (file != stdin) fclose(file);
+    return good;
+}
+
+static int totals(void)
+{
+    static uint8_t out[1024];
+    aral_text report = aral_report(sheet, length, out, sizeof out);
+    if (report.number) {
+        printf("refused %u %u\n", report.number, report.line);
+        fprintf(stderr, "aral: `aral check` says why\n");
+        return REFUSED;
+    }
+    fwrite(out, 1, report.length, stdout);
+    return ACCEPTED;
+}
+
+static int check(void)
+{
+    aral_answer answer = aral_read(sheet, length);
+    if (answer.number) {
+        explain(sheet, length, answer);
+        return REFUSED;
+    }
+    describe(sheet, length);
+    return ACCEPTED;
+}
+
+/* A total in newtons to three decimals, the rest cut off. */
+static void print_newtons(int64_t total)
+{
+    uint64_t size = total < 0 ? 0 - (uint64_t)total : (uint64_t)total, milli = size / 20000000;
+    char text[40];
+    snprintf(text, sizeof text, "%s%" PRIu64 ".%03d", total < 0 ? "-" : "", milli / 1000, (int)(milli % 1000));
+    printf("%16s N", text);
+}
+
+static int panel(void)
+{
+    static const char *const name[] = {"x max", "x min", "y max", "y min", "z max", "z min"};
+    for (int line = 1; line <= 6; line++) {
+        aral_extreme e = aral_total(sheet, length, line);
+        if (e.number) {
+            explain(sheet, length, (aral_answer){e.number, e.line});
+            return REFUSED;
+        }
+        aral_double d = aral_panel(e.total);
+        printf("%s ", name[line - 1]);
+        print_newtons(e.total);
+        if (d.exact) printf("   exactly %.0f units", d.low);
+        else printf("   between %.0f and %.0f units", d.low, d.high);
+        printf(", wind %u, internal %u, alternatives", e.wind, e.internal);
+        for (uint32_t i = 0; i < e.faces; i++) printf(" %u", e.alternative[i]);
+        printf("\n");
+    }
+    printf("\nPositive pushes along the axis, negative against it; z is up. One newton is 20000000000 units;\n"
+           "the newtons here are cut to three decimals, the units are whole.\n");
+    return ACCEPTED;
+}
+
+/* ---- Questions ---- */
+
+enum { H, A, B, KIND, X, WIND, DENSITY, INTERNAL, NUMBERS };
+typedef struct { int64_t number[NUMBERS]; int given[NUMBERS]; uint8_t place; } question;
+
+static int misused(const char *what, const char *word)
+{
+    fprintf(stderr, "aral: %s %s; `aral help` shows how\n", what, word);
+    return MISUSED;
+}
+
+static uint8_t place_of(const char *kind, const char *word)
+{
+    if (!strcmp(kind, "zone")) return word[0] >= 'A' && word[0] <= 'H' && !word[1] ? (uint8_t)word[0] : 0;
+    return !strcmp(word, "wall") ? 'w' : !strcmp(word, "L1") ? '1' : !strcmp(word, "L2") ? '2' : 0;
+}
+
+/* Takes the words two by two; 0, or the status of a misuse. */
+static int take_words(int count, char **word, question *q)
+{
+    static const char *const name[] = {"h", "a", "b", "kind", "x", "wind", "density", "internal"};
+    for (int i = 0; i < count; i += 2) {
+        int k = 0;
+        char *end = "";
+        if (i + 1 == count) return misused("nothing stands after", word[i]);
+        if (!strcmp(word[i], "zone") || !strcmp(word[i], "local")) {
+            q->place = place_of(word[i], word[i + 1]);
+            if (!q->place) return misused("not a zone A to H or a local wall, L1 or L2:", word[i + 1]);
+            continue;
+        }
+        while (k < NUMBERS && strcmp(word[i], name[k])) k++;
+        if (k == NUMBERS) return misused("not a word of a question:", word[i]);
+        errno = 0;
+        q->number[k] = strtoll(word[i + 1], &end, 10);
+        if (end == word[i + 1] || *end || errno) return misused("not a whole number:", word[i + 1]);
+        q->given[k] = 1;
+    }
+    for (int k = H; k <= WIND; k++)
+        if (!q->given[k] && k != KIND && k != X) return misused("the question does not say", name[k]);
+    return q->place ? 0 : misused("the question does not say", "which zone or local");
+}
+
+static void print_thousandths(int32_t value)
+{
+    int size = value < 0 ? -value : value;
+    printf("%s%d.%03d", value < 0 ? "-" : value > 0 ? "+" : "", size / 1000, size % 1000);
+}
+
+static int is_local(uint8_t place) { return place == 'w' || place == '1' || place == '2'; }
+
+static void print_place(uint8_t place)
+{
+    if (place == 'w') printf("The local coefficient of the walls");
+    else if (is_local(place)) printf("The local coefficient L%c", place);
+    else printf("Zone %c", place);
+}
+
+static void print_values(const char *which, const aral_coefficient *c)
+{
+    printf("%s ", which);
+    print_thousandths(c->value[0]);
+    if (c->count == 2) {
+        printf(" (alternative 1) or ");
+        print_thousandths(c->value[1]);
+        printf(" (alternative 2)");
+    }
+}
+
+static int refuse_question(const question *q, const aral_coefficient *c)
+{
+    const int64_t *v = q->number;
+    if (c->line == 2) {
+        char building[200];
+        int n = snprintf(building, sizeof building,
+                         "B 1\n%" PRId64 " %" PRId64 " %" PRId64 " %" PRId64 " %" PRId64 " %" PRId64 "\n",
+                         v[H], v[A], v[B], v[DENSITY], v[KIND], v[X]);
+        printf("The building is refused as line 2 of its sheet would be:\n");
+        explain((const uint8_t *)building, (size_t)n, (aral_answer){c->number, 2});
+        return REFUSED;
+    }
+    printf("refused with %u: ", c->number);
+    if (c->number == 6) {
+        print_place(q->place);
+        printf(" is not on a building with ");
+        print_roof(v[KIND], v[X]);
+        printf(": its zones are %s, its locals wall%s\n", zones_of(v[KIND]), v[KIND] >= 2 ? ", L1 and L2" : " alone");
+    } else if (v[WIND] != 0 && v[WIND] != 90) {
+        printf("the wind is %" PRId64 "; it must be 0 or 90\n", v[WIND]);
+    } else {
+        printf("the internal coefficient is %" PRId64 " hundredths; it must be -100 to 100\n", v[INTERNAL]);
+    }
+    return REFUSED;
+}
+
+static void answer_question(const question *q, const aral_coefficient *outside, const aral_coefficient *net)
+{
+    print_place(q->place);
+    printf(" of a building with ");
+    print_roof(q->number[KIND], q->number[X]);
+    printf(", wind %d:\n", (int)q->number[WIND]);
+    print_values("  outside", outside);
+    printf("\n");
+    if (q->given[INTERNAL]) {
+        print_values("  net", net);
+        printf(", the outside less the internal ");
+        print_thousandths(10 * (int32_t)q->number[INTERNAL]);
+        printf("\n");
+    }
+    printf("A coefficient is the part of the wind's pressure that acts: positive pushes the surface, negative sucks.\n");
+    if (outside->count == 2) printf("Of two alternatives each face takes the one that is worse for the total.\n");
+    if (is_local(q->place)) printf("Local coefficients are for secondary elements and enter no total.\n");
+}
+
+static int ask(int count, char **word)
+{
+    question q = {.number = {[DENSITY] = 1250}};
+    const int64_t *v = q.number;
+    int status = take_words(count, word, &q);
+    if (status) return status;
+    aral_coefficient outside = aral_outside(v[H], v[A], v[B], v[DENSITY], v[KIND], v[X], v[WIND], q.place);
+    aral_coefficient net = aral_net(v[H], v[A], v[B], v[DENSITY], v[KIND], v[X], v[WIND], q.place, v[INTERNAL]);
+    if (outside.number) return refuse_question(&q, &outside);
+    if (net.number) return refuse_question(&q, &net);
+    answer_question(&q, &outside, &net);
+    return ACCEPTED;
+}
+
+int main(int argc, char **argv)
+{
+    static const struct { const char *name; int (*run)(void); } command[] = {
+        {"totals", totals}, {"check", check}, {"panel", panel}};
+    if (argc == 2 && (!strcmp(argv[1], "help") || !strcmp(argv[1], "--help"))) {
+        fputs(help, stdout);
+        return ACCEPTED;
+    }
+    if (argc >= 2 && !strcmp(argv[1], "ask")) return ask(argc - 2, argv + 2);
+    for (int i = 0; argc == 3 && i < 3; i++)
+        if (!strcmp(argv[1], command[i].name)) return load(argv[2]) ? command[i].run() : MISUSED;
+    fputs(help, stderr);
+    return MISUSED;
+}

@@ -1,0 +1,294 @@
+/* Compares the library with the plain calculator, and both with a walk through every case, on sheets, damaged sheets,
+   questions and numbers from a printed seed: compare SEED SHEETS QUESTIONS NUMBERS. It stops at the first difference. */
+#include "aralimogga.h"
+#include "plain.h"
+#include "sheets.h"
+#include "walk.h"
+#include <inttypes.h>
+#include <math.h>
+#include <stdio.h>
+#include <stdlib.h>
+#include <string.h>
+
+enum { OUT = 1024, WALKED = 4096, LONGEST_SHEET = 827, LONGEST_REPORT = 474 };
+static struct { unsigned long sheets, accepted, refused[8], walked, questions, answered, numbers, calls; } tally;
+static dice die;
+
+static void show(const text *t)
+{
+    for (size_t i = 0; i < t->length && i < 3000; i++) {
+        uint8_t byte = t->byte[i];
+        if (byte == '\n' || (byte >= ' ' && byte < 127)) putchar(byte);
+        else printf("<%02x>", byte);
+    }
+    printf("<end, %zu bytes>\n", t->length);
+}
+
+static void differ(const char *what, const text *t)
+{
+    printf("DIFFERENT: %s\n", what);
+    if (t) show(t);
+    exit(1);
+}
+
+static int same_extreme(const aral_extreme *p, const aral_extreme *q)
+{
+    return p->number == q->number && p->line == q->line && p->total == q->total && p->wind == q->wind
+        && p->internal == q->internal && p->faces == q->faces && !memcmp(p->alternative, q->alternative, 24);
+}
+
+static int same_text(aral_text p, aral_text q)
+{
+    return p.number == q.number && p.line == q.line && p.length == q.length;
+}
+
+/* ---- Sheets ---- */
+
+typedef aral_text writes(const uint8_t *, size_t, uint8_t *, size_t);
+
+/* Both write into buffers that held the same bytes; answers and every byte must agree. */
+static aral_text compare_writing(const char *what, writes *ours, writes *theirs, const text *t, size_t room)
+{
+    static uint8_t mine[OUT], other[OUT];
+    memset(mine, (int)(roll(&die) & 255), OUT);
+    memcpy(other, mine, OUT);
+    aral_text p = ours(t->byte, t->length, mine, room), q = theirs(t->byte, t->length, other, room);
+    tally.calls++;
+    if (!same_text(p, q) || memcmp(mine, other, OUT)) {
+        printf("library %u %u %" PRIu64 ", plain %u %u %" PRIu64 ", room %zu\n", p.number, p.line, p.length, q.number,
+               q.line, q.length, room);
+        differ(what, t);
+    }
+    if (p.number == 0 && ours == aral_rewrite && (p.length != t->length || memcmp(mine, t->byte, p.length)))
+        differ("an accepted sheet and the sheet written again", t);
+    if (p.length > (ours == aral_rewrite ? LONGEST_SHEET : LONGEST_REPORT)) differ("a length and the header's", t);
+    return p;
+}
+
+static void compare_rooms(const char *what, writes *ours, writes *theirs, const text *t)
+{
+    aral_text whole = compare_writing(what, ours, theirs, t, OUT);
+    if (whole.number) {
+        compare_writing(what, ours, theirs, t, 0);
+        return;
+    }
+    compare_writing(what, ours, theirs, t, whole.length);
+    if (compare_writing(what, ours, theirs, t, whole.length - 1).number != 7) differ("a room one short", t);
+    compare_writing(what, ours, theirs, t, (size_t)pick(&die, 0, OUT));
+}
+
+static void compare_total(const text *t, int64_t line)
+{
+    aral_extreme p = aral_total(t->byte, t->length, line), q = plain_total(t->byte, t->length, line);
+    tally.calls++;
+    if (same_extreme(&p, &q)) return;
+    printf("line %" PRId64 ": library %u %u %" PRId64 ", plain %u %u %" PRId64 "\n", line, p.number, p.line, p.total,
+           q.number, q.line, q.total);
+    differ("a total", t);
+}
+
+static aral_answer compare_sheet(const text *t)
+{
+    aral_answer p = aral_read(t->byte, t->length), q = plain_read(t->byte, t->length);
+    tally.calls++;
+    tally.sheets++;
+    if (p.number != q.number || p.line != q.line) {
+        printf("library %u %u, plain %u %u\n", p.number, p.line, q.number, q.line);
+        differ("reading", t);
+    }
+    if (p.number == 0) tally.accepted++;
+    else tally.refused[p.number]++;
+    compare_rooms("a sheet written again", aral_rewrite, plain_rewrite, t);
+    compare_rooms("a report", aral_report, plain_report, t);
+    if (p.number) compare_total(t, pick(&die, 0, 7));
+    else
+        for (int64_t line = 0; line <= 7; line++) compare_total(t, line);
+    compare_total(t, edge_of(&die, 1));
+    return p;
+}
+
+/* On a job with few cases the totals are those of walking them all. */
+static void compare_walk(const sample *s, const text *t)
+{
+    aral_extreme best[6];
+    if (!walk(s, WALKED, best)) return;
+    tally.walked++;
+    for (int k = 0; k < 6; k++) {
+        aral_extreme p = aral_total(t->byte, t->length, k + 1), q = plain_total(t->byte, t->length, k + 1);
+        if (!same_extreme(&q, &best[k])) differ("the plain calculator and the walk through every case", t);
+        if (!same_extreme(&p, &best[k])) differ("the library and the walk through every case", t);
+    }
+}
+
+/* By turns an acceptable job, one with a number that is not allowed, and two with damage to the text. */
+static void compare_sheets(unsigned long count)
+{
+    static sample s;
+    static text t;
+    for (unsigned long i = 0; i < count; i++) {
+        make_sample(&die, &s);
+        if (i % 4 == 1) spoil(&die, &s);
+        write_sample(&s, &t);
+        if (i % 4 >= 2) damage(&die, &t);
+        if (i % 16 == 15) damage(&die, &t);
+        aral_answer answer = compare_sheet(&t);
+        if (i % 4 == 0 && answer.number) differ("a sheet that should be acceptable was refused", &t);
+        if (i % 4 == 0) compare_walk(&s, &t);
+    }
+}
+
+/* ---- Questions ---- */
+
+static int same_coefficient(const aral_coefficient *p, const aral_coefficient *q)
+{
+    return p->number == q->number && p->line == q->line && p->count == q->count && p->value[0] == q->value[0]
+        && p->value[1] == q->value[1];
+}
+
+static void ask_both(const sample *s, int64_t direction, uint8_t place, int64_t internal)
+{
+    aral_coefficient p[2], q[2];
+    p[0] = aral_outside(s->h, s->a, s->b, s->density, s->kind, s->x, direction, place);
+    q[0] = plain_outside(s->h, s->a, s->b, s->density, s->kind, s->x, direction, place);
+    p[1] = aral_net(s->h, s->a, s->b, s->density, s->kind, s->x, direction, place, internal);
+    q[1] = plain_net(s->h, s->a, s->b, s->density, s->kind, s->x, direction, place, internal);
+    tally.calls += 2;
+    tally.questions++;
+    tally.answered += p[0].number == 0;
+    for (int net = 0; net < 2; net++) {
+        if (same_coefficient(&p[net], &q[net])) continue;
+        printf("%s of %" PRId64 " %" PRId64 " %" PRId64 " %" PRId64 " %" PRId64 " %" PRId64, net ? "net" : "outside",
+               s->h, s->a, s->b, s->density, s->kind, s->x);
+        printf(", direction %" PRId64 ", place %u, internal %" PRId64 "\n", direction, place, internal);
+        printf("library %u %u %u %d %d, ", p[net].number, p[net].line, p[net].count, p[net].value[0], p[net].value[1]);
+        printf("plain %u %u %u %d %d\n", q[net].number, q[net].line, q[net].count, q[net].value[0], q[net].value[1]);
+        differ("a question", NULL);
+    }
+}
+
+static uint8_t some_place(void)
+{
+    return pick(&die, 0, 3) ? (uint8_t)"ABCDEFGHw12"[pick(&die, 0, 10)] : (uint8_t)roll(&die);
+}
+
+/* An acceptable question, with none, one or more of its numbers off. */
+static void compare_questions(unsigned long count)
+{
+    for (unsigned long i = 0; i < count; i++) {
+        sample s;
+        make_building(&die, &s);
+        int64_t direction = pick(&die, 0, 1) ? 90 : 0, internal = pick(&die, -100, 100);
+        int64_t *number[] = {&s.h, &s.a, &s.b, &s.density, &s.kind, &s.x, &direction, &internal};
+        for (int64_t slips = pick(&die, 0, 2); slips > 0; slips--) {
+            int64_t *slip = number[pick(&die, 0, 7)];
+            *slip = edge_of(&die, *slip);
+        }
+        ask_both(&s, direction, some_place(), internal);
+    }
+}
+
+/* Every place of one building under both winds. */
+static void ask_all(const sample *s)
+{
+    for (const char *place = "ABCDEFGHw12"; *place; place++)
+        for (int64_t direction = 0; direction <= 90; direction += 90) ask_both(s, direction, (uint8_t)*place, -100);
+}
+
+/* Every slope and every mansard's angle in every block of the walls' table, and a grid of parapets and curved eaves. */
+static void compare_tables(void)
+{
+    static const int64_t tall[] = {100, 500, 501, 1500, 1501, 6000}, wide[] = {1001, 1500, 1501, 4000};
+    for (int i = 0; i < 24; i++) {
+        sample s = {.h = tall[i / 4], .a = wide[i % 4], .b = 1000, .density = 1250, .kind = 1};
+        for (s.x = i % 4; s.x <= 604; s.x += 4) ask_all(&s);
+        s.kind = 5;
+        for (s.x = 296 + i % 4; s.x <= 904; s.x += 4) ask_all(&s);
+    }
+    for (int64_t kind = 3; kind <= 4; kind++)
+        for (int64_t h = 100; h <= 30000; h += h < 1000 ? 100 : 2900) {
+            sample s = {.h = h, .a = 12000, .b = 10000, .density = 1250, .kind = kind};
+            for (s.x = 0; s.x <= h / 5 + 1; s.x++)
+                for (const char *place = "E12"; *place; place++) ask_both(&s, 0, (uint8_t)*place, 100);
+        }
+}
+
+/* ---- Numbers ---- */
+
+/* Around a power of two or of ten, of any length, or anything. */
+static int64_t some_number(void)
+{
+    int64_t near = pick(&die, -3, 3), sign = pick(&die, 0, 1) ? 1 : -1, power = 1;
+    uint64_t bits = roll(&die);
+    switch (pick(&die, 0, 4)) {
+    case 0: return sign * ((int64_t)1 << pick(&die, 0, 62)) + near;
+    case 1: return near < 0 ? INT64_MAX + near + 1 : INT64_MIN + near;
+    case 2:
+        for (int64_t n = pick(&die, 0, 18); n > 0; n--) power *= 10;
+        return sign * power + near;
+    case 3: return sign * (int64_t)(bits >> pick(&die, 1, 63));
+    default: return sign * (int64_t)((bits >> pick(&die, 1, 11)) & ~((uint64_t)0x7ff >> pick(&die, 0, 11)));
+    }
+}
+
+/* That the doubles are right by themselves: a long double holds every number of 64 bits. */
+static int right_doubles(int64_t n, const aral_double *d)
+{
+    long double low = d->low, high = d->high, exact = (long double)n;
+    if (d->exact) return d->exact == 1 && low == exact && high == exact && !(n == 0 && signbit(d->low));
+    return low < exact && exact < high && nextafter(d->low, INFINITY) == d->high;
+}
+
+static void compare_digits(int64_t n, size_t room)
+{
+    uint8_t mine[40], other[40];
+    char expected[40];
+    memset(mine, 'x', sizeof mine);
+    memset(other, 'x', sizeof other);
+    aral_text p = aral_digits(n, mine, room), q = plain_digits(n, other, room);
+    int length = snprintf(expected, sizeof expected, "%" PRId64, n);
+    int right = p.number ? p.number == 7 && room < (size_t)length : !memcmp(mine, expected, (size_t)length);
+    if (same_text(p, q) && !memcmp(mine, other, sizeof mine) && right) return;
+    printf("%" PRId64 " in a room of %zu\n", n, room);
+    differ("digits", NULL);
+}
+
+static void compare_numbers(unsigned long count)
+{
+    for (unsigned long i = 0; i < count; i++) {
+        int64_t x = some_number(), y = some_number(), z = some_number();
+        aral_double p = aral_panel(x), q = plain_panel(x);
+        aral_point v = aral_chart(x, y, z), w = plain_chart(x, y, z);
+        tally.calls += 3;
+        tally.numbers++;
+        if (p.exact != q.exact || memcmp(&p.low, &q.low, 2 * sizeof p.low) || !right_doubles(x, &p)) {
+            printf("%" PRId64 ": library %u %a %a, ", x, p.exact, p.low, p.high);
+            printf("plain %u %a %a\n", q.exact, q.low, q.high);
+            differ("a number's doubles", NULL);
+        }
+        if (memcmp(&v, &w, sizeof v)) {
+            printf("%" PRId64 " %" PRId64 " %" PRId64 "\n", x, y, z);
+            differ("a chart point", NULL);
+        }
+        compare_digits(x, (size_t)pick(&die, 0, 24));
+    }
+}
+
+int main(int argc, char **argv)
+{
+    if (argc != 5) {
+        fprintf(stderr, "compare SEED SHEETS QUESTIONS NUMBERS\n");
+        return 2;
+    }
+    die.state = strtoull(argv[1], NULL, 10);
+    printf("seed %s\n", argv[1]);
+    compare_tables();
+    compare_sheets(strtoul(argv[2], NULL, 10));
+    compare_questions(strtoul(argv[3], NULL, 10));
+    compare_numbers(strtoul(argv[4], NULL, 10));
+    printf("%lu sheets: %lu accepted, refused by number", tally.sheets, tally.accepted);
+    for (int number = 1; number < 7; number++) printf(" %d: %lu", number, tally.refused[number]);
+    printf("\n%lu jobs walked through every case\n", tally.walked);
+    printf("%lu questions, %lu of them answered; %lu numbers; %lu calls compared: all the same\n", tally.questions,
+           tally.answered, tally.numbers, tally.calls);
+    return 0;
+}

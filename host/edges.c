@@ -1,0 +1,206 @@
+/* Lends the library buffers that lie against pages which can't be touched: edges SEED CASES. A byte read or written
+   outside a buffer ends the program. Refused calls leave every byte, and accepted ones every byte after the text. */
+#define _DEFAULT_SOURCE
+#include "aralimogga.h"
+#include "plain.h"
+#include "sheets.h"
+#include <stdio.h>
+#include <stdlib.h>
+#include <string.h>
+#include <sys/mman.h>
+
+enum { PAGE = 65536, WATCHED = 4096, FILL = 0xa5, LONGEST = 827 }; /* PAGE: a multiple of any machine's page */
+typedef struct { uint8_t *start, *end; } fence; /* bytes between two pages that can't be touched */
+static fence input, output;
+static unsigned long calls;
+
+static void fail(const char *what)
+{
+    printf("FAILED: %s\n", what);
+    exit(1);
+}
+
+static fence make_fence(size_t size)
+{
+    uint8_t *all = mmap(NULL, size + 2 * PAGE, PROT_NONE, MAP_PRIVATE | MAP_ANONYMOUS, -1, 0);
+    if (all == MAP_FAILED || mprotect(all + PAGE, size, PROT_READ | PROT_WRITE)) fail("no memory to be had");
+    return (fence){all + PAGE, all + PAGE + size};
+}
+
+/* A copy of the text that can only be read, against the page after it or the page before it. */
+static const uint8_t *lend(const uint8_t *bytes, size_t n, int after)
+{
+    size_t size = (size_t)(input.end - input.start);
+    uint8_t *at = after ? input.end - n : input.start;
+    mprotect(input.start, size, PROT_READ | PROT_WRITE);
+    memcpy(at, bytes, n);
+    mprotect(input.start, size, PROT_READ);
+    return at;
+}
+
+static int filled(const uint8_t *from, const uint8_t *to)
+{
+    while (from < to)
+        if (*from++ != FILL) return 0;
+    return 1;
+}
+
+typedef aral_text writes(const uint8_t *, size_t, uint8_t *, size_t);
+
+/* One call with a buffer of this room; what it answers and leaves is what the plain calculator does. */
+static void write_at(writes *ours, writes *theirs, const uint8_t *sheet, size_t n, size_t room, int after)
+{
+    static uint8_t expected[WATCHED];
+    uint8_t *from = after ? output.end - WATCHED : output.start, *to = from + WATCHED;
+    uint8_t *at = after ? output.end - room : output.start;
+    memset(from, FILL, WATCHED);
+    memset(expected, FILL, WATCHED);
+    aral_text p = ours(sheet, n, at, room), q = theirs(sheet, n, expected, room);
+    calls++;
+    if (p.number != q.number || p.line != q.line || p.length != q.length) fail("the answer at an edge");
+    if (p.number && p.length) fail("a length where it is refused");
+    if (memcmp(at, expected, p.length)) fail("the text at an edge");
+    if (!filled(from, at) || !filled(at + p.length, to)) fail("a byte that should have stayed");
+}
+
+static void write_rooms(writes *ours, writes *theirs, const uint8_t *sheet, size_t n, size_t length)
+{
+    for (size_t room = 0; room <= length + 2; room++) {
+        write_at(ours, theirs, sheet, n, room, 1);
+        write_at(ours, theirs, sheet, n, room, 0);
+    }
+}
+
+static aral_text digits_of(const uint8_t *sheet, size_t n, uint8_t *out, size_t room)
+{
+    int64_t number;
+    (void)n;
+    memcpy(&number, sheet, sizeof number);
+    return aral_digits(number, out, room);
+}
+
+static aral_text plain_digits_of(const uint8_t *sheet, size_t n, uint8_t *out, size_t room)
+{
+    int64_t number;
+    (void)n;
+    memcpy(&number, sheet, sizeof number);
+    return plain_digits(number, out, room);
+}
+
+static void read_at(const uint8_t *bytes, size_t n, int after)
+{
+    const uint8_t *sheet = lend(bytes, n, after);
+    aral_answer p = aral_read(sheet, n), q = plain_read(sheet, n);
+    aral_extreme e = aral_total(sheet, n, 6), f = plain_total(sheet, n, 6);
+    calls += 2;
+    if (p.number != q.number || p.line != q.line) fail("reading at an edge");
+    if (e.number != f.number || e.line != f.line || e.total != f.total) fail("a total at an edge");
+    write_at(aral_rewrite, plain_rewrite, sheet, n, 900, after);
+    write_at(aral_report, plain_report, sheet, n, 900, after);
+    write_at(aral_report, plain_report, sheet, n, 0, after);
+}
+
+/* Every part of the sheet from its start, and every room around each text's length. */
+static void every_length(const text *t)
+{
+    static uint8_t out[WATCHED];
+    for (size_t n = 0; n <= t->length; n++) {
+        read_at(t->byte, n, 1);
+        read_at(t->byte, n, 0);
+    }
+    const uint8_t *sheet = lend(t->byte, t->length, 1);
+    write_rooms(aral_rewrite, plain_rewrite, sheet, t->length, t->length);
+    write_rooms(aral_report, plain_report, sheet, t->length, plain_report(sheet, t->length, out, sizeof out).length);
+}
+
+static void every_digit(void)
+{
+    int64_t number[64] = {0, -1, INT64_MAX, INT64_MIN};
+    for (int i = 4; i < 22; i++) {
+        number[i] = i == 4 ? 9 : number[i - 1] / 9 * 90 + 9;
+        number[i + 18] = number[i] + 1;
+        number[i + 36] = -number[i];
+    }
+    for (int i = 0; i < 58; i++) write_rooms(digits_of, plain_digits_of, (const uint8_t *)&number[i], 8, 20);
+}
+
+/* The longest acceptable sheet: every count and every field as long as it may be. */
+static void longest(text *t)
+{
+    static sample s = {.h = 12000, .a = 12000, .b = 10000, .density = 1250, .kind = 4, .x = 1200, .winds = 8,
+                       .internals = 4, .faces = 24};
+    for (int i = 0; i < 8; i++) {
+        s.direction[i] = 90;
+        s.speed[i] = 1000;
+    }
+    for (int i = 0; i < 4; i++) s.internal[i] = -100;
+    for (int i = 0; i < 24; i++) {
+        s.zone[i] = 'F';
+        s.mark[i] = 90;
+        for (int axis = 0; axis < 3; axis++) s.area[i][axis] = -100000;
+    }
+    write_sample(&s, t);
+    if (t->length != LONGEST || aral_read(t->byte, t->length).number) fail("the longest sheet");
+}
+
+static void no_pointers(const text *t)
+{
+    aral_answer a = aral_read(NULL, 0);
+    aral_text w = aral_rewrite(NULL, 0, NULL, 0), r = aral_report(NULL, 0, NULL, 0);
+    aral_text d = aral_digits(INT64_MIN, NULL, 0), v = aral_report(t->byte, t->length, NULL, 0);
+    aral_text u = aral_rewrite(t->byte, t->length, NULL, 0);
+    aral_extreme e = aral_total(NULL, 0, 1);
+    calls += 7;
+    if (a.number != 1 || a.line != 1 || e.number != 1 || e.line != 1) fail("nothing read through no pointer");
+    if (w.number != 1 || w.line != 1 || r.number != 1 || r.line != 1) fail("nothing written again through no pointer");
+    if (d.number != 7 || v.number != 7 || u.number != 7) fail("no room through no pointer");
+    if (d.line || v.line || u.line) fail("a line where there is no room");
+}
+
+/* Texts far longer than any sheet: one byte over and over, and a good sheet before it. */
+static void very_long(const text *t)
+{
+    size_t n = (size_t)64 << 20;
+    fence big = make_fence(n);
+    for (const char *byte = "B1 \n-0\r9"; *byte; byte++) {
+        memset(big.start, *byte, n);
+        aral_answer a = aral_read(big.start, n);
+        if (a.number != 1 || a.line != 1) fail("a very long text");
+        memcpy(big.start, t->byte, t->length);
+        aral_answer p = aral_read(big.start, n), q = plain_read(big.start, n);
+        aral_text r = aral_report(big.start, n, output.start, 900);
+        if (p.number != 1 || p.line != q.line || r.number != 1 || r.line != q.line) fail("a very long tail");
+        calls += 3;
+    }
+    munmap(big.start - PAGE, n + 2 * PAGE);
+}
+
+int main(int argc, char **argv)
+{
+    static sample s;
+    static text t;
+    if (argc != 3) {
+        fprintf(stderr, "edges SEED CASES\n");
+        return 2;
+    }
+    dice die = {strtoull(argv[1], NULL, 10)};
+    input = make_fence(TEXT_ROOM);
+    output = make_fence(PAGE);
+    printf("seed %s\n", argv[1]);
+    longest(&t);
+    no_pointers(&t);
+    very_long(&t);
+    every_length(&t);
+    every_digit();
+    for (unsigned long i = 0, cases = strtoul(argv[2], NULL, 10); i < cases; i++) {
+        make_sample(&die, &s);
+        write_sample(&s, &t);
+        if (i % 64 == 0) every_length(&t);
+        for (int slips = 0; slips < 8; slips++) {
+            damage(&die, &t);
+            read_at(t.byte, t.length, slips % 2);
+        }
+    }
+    printf("%lu calls against pages that can't be touched: every byte as it should be\n", calls);
+    return 0;
+}

@@ -1,0 +1,527 @@
+/* The plain calculator: an ordinary C program for the same entry points, written from the build definition alone. It
+   shares no code and no table with the proved crates, so that where the two differ one of them misread the paper.
+   With -DSTAND_IN its functions carry the library's own names, and tests can be tried without the library. */
+#include "plain.h"
+#include <math.h>
+#include <string.h>
+
+#ifdef STAND_IN
+#define ENTRY(name) aral_##name
+#else
+#define ENTRY(name) plain_##name
+#endif
+
+enum { WINDS = 8, INTERNALS = 4, FACES = 24 };
+enum { BOTH = 99999999 }; /* a face's mark `-`: no number in form is so large */
+enum { FORM = 1, COUNT, RANGE, RATIO, ROOF, PLACE, ROOM };
+enum { NO_ROOF, GABLE, STRAIGHT, PARAPET, CURVED, MANSARD };
+
+typedef struct { int64_t h, a, b, density, kind, x; } building;
+typedef struct { char zone; int mark, area[3]; } face;
+typedef struct {
+    building house;
+    int winds, internals, faces;
+    int direction[WINDS], speed[WINDS], internal[INTERNALS];
+    face face[FACES];
+} job;
+
+static int within(int64_t value, int64_t least, int64_t greatest) { return least <= value && value <= greatest; }
+
+/* ---- The printed tables, in hundredths ---- */
+
+/* Walls: by h/b, then by a/b; wind 0 and wind 90 on A, B, C, D; the local. */
+static const struct { int general[2][4], local; } walls[3][2] = {
+    {{{{70, -20, -50, -50}, {-50, -50, 70, -20}}, -80}, {{{70, -25, -60, -60}, {-50, -50, 70, -10}}, -100}},
+    {{{{70, -25, -60, -60}, {-60, -60, 70, -25}}, -110}, {{{70, -30, -70, -70}, {-50, -50, 70, -10}}, -110}},
+    {{{{80, -25, -80, -80}, {-80, -80, 80, -25}}, -120}, {{{70, -40, -70, -70}, {-50, -50, 80, -10}}, -120}},
+};
+
+/* Gables: by h/b; rows at slopes in tenths of a degree; wind 0 EF, wind 0 GH, wind 90 EG, wind 90 FH. */
+typedef struct { int slope, value[4]; } gable_row;
+static const gable_row gables[3][8] = {
+    {{0, {-80, -40, -80, -40}},
+     {50, {-90, -40, -80, -40}},
+     {100, {-120, -40, -80, -60}},
+     {200, {-40, -40, -70, -60}},
+     {300, {0, -40, -70, -60}},
+     {450, {30, -50, -70, -60}},
+     {600, {70, -60, -70, -60}}},
+    {{0, {-80, -60, -100, -60}},
+     {50, {-90, -60, -90, -60}},
+     {100, {-110, -60, -80, -60}},
+     {200, {-70, -50, -80, -60}},
+     {300, {-20, -50, -80, -80}},
+     {450, {20, -50, -80, -80}},
+     {600, {60, -50, -80, -80}}},
+    {{0, {-70, -60, -90, -70}},
+     {50, {-70, -60, -80, -80}},
+     {100, {-70, -60, -80, -80}},
+     {200, {-80, -60, -80, -80}},
+     {300, {-100, -50, -80, -70}},
+     {400, {-20, -50, -80, -70}},
+     {500, {20, -50, -80, -70}},
+     {600, {50, -50, -80, -70}}},
+};
+
+/* Flat roofs: rows at thousandths of h, or at tenths of a degree for a mansard; E, L1, L2. */
+typedef struct { int at, value[3]; } flat_row;
+static const flat_row straight_row[] = {{0, {-70, -250, -200}}};
+static const flat_row parapet_rows[] = {{25, {-70, -220, -180}}, {50, {-70, -200, -160}}, {100, {-70, -180, -140}}};
+static const flat_row curved_rows[] = {{50, {-40, -150, -180}}, {100, {-30, -120, -140}}, {200, {-30, -80, -80}}};
+static const flat_row mansard_rows[] = {
+    {300, {-30, -150, -150}}, {450, {-40, -180, -190}}, {600, {-50, -190, -190}}, {900, {-70, -250, -200}}};
+
+static int flat(const building *house) { return house->kind >= STRAIGHT; }
+
+/* 0 for h/b to 1/2, 1 for to 3/2, 2 above. */
+static int height_block(const building *house)
+{
+    return 2 * house->h <= house->b ? 0 : 2 * house->h <= 3 * house->b ? 1 : 2;
+}
+
+static int side_block(const building *house) { return 2 * house->a > 3 * house->b; }
+
+/* The line from v at s to w at t, met at x: hundredths in, thousandths out, rounded once, a half away from zero. */
+static int on_line(int64_t s, int v, int64_t t, int w, int64_t x)
+{
+    int64_t width = t - s, exact = 10 * (v * (t - x) + w * (x - s)), size = exact < 0 ? -exact : exact;
+    int rounded = (int)((2 * size + width) / (2 * width));
+    return exact < 0 ? -rounded : rounded;
+}
+
+static int gable_value(const building *house, int column)
+{
+    const gable_row *row = gables[height_block(house)];
+    while (house->x > row[1].slope) row++;
+    return on_line(row[0].slope, row[0].value[column], row[1].slope, row[1].value[column], house->x);
+}
+
+static int flat_value(const building *house, int column)
+{
+    const flat_row *row = house->kind == PARAPET ? parapet_rows : house->kind == CURVED ? curved_rows : mansard_rows;
+    int64_t unit = house->kind == MANSARD ? 1 : house->h, x = house->kind == MANSARD ? house->x : 1000 * house->x;
+    if (house->kind == STRAIGHT) return 10 * straight_row[0].value[column];
+    while (x > row[1].at * unit) row++;
+    return on_line(row[0].at * unit, row[0].value[column], row[1].at * unit, row[1].value[column], x);
+}
+
+/* The outside coefficients of a place in thousandths, and how many; 0 where the building has no such place. */
+static int outside(const building *house, int direction, uint8_t place, int value[2])
+{
+    int ninety = direction == 90;
+    value[0] = value[1] = 0;
+    if ('A' <= place && place <= 'D') {
+        value[0] = 10 * walls[height_block(house)][side_block(house)].general[ninety][place - 'A'];
+    } else if (place == 'w') {
+        value[0] = 10 * walls[height_block(house)][side_block(house)].local;
+    } else if (house->kind == GABLE && 'E' <= place && place <= 'H') {
+        int second = ninety ? place == 'F' || place == 'H' : place >= 'G';
+        value[0] = gable_value(house, 2 * ninety + second);
+    } else if (flat(house) && place == 'F') {
+        value[0] = 200;
+        value[1] = -200;
+        return 2;
+    } else if (flat(house) && (place == 'E' || place == '1' || place == '2')) {
+        value[0] = flat_value(house, place == 'E' ? 0 : place - '0');
+    } else {
+        return 0;
+    }
+    return 1;
+}
+
+static int zone_exists(const building *house, char zone)
+{
+    return zone <= 'D' || house->kind == GABLE || (flat(house) && zone <= 'F');
+}
+
+/* ---- The building's own faults ---- */
+
+static int roof_number_fits(const building *house)
+{
+    int64_t h = house->h, x = house->x;
+    switch (house->kind) {
+    case GABLE: return x <= 600;
+    case PARAPET: return 40 * x >= h && 10 * x <= h;
+    case CURVED: return 20 * x >= h && 5 * x <= h;
+    case MANSARD: return within(x, 300, 900);
+    default: return x == 0;
+    }
+}
+
+static int building_fault(const building *house)
+{
+    if (!within(house->h, 100, 30000) || !within(house->a, 100, 30000) || !within(house->b, 100, 30000)
+        || !within(house->density, 1000, 1500) || !within(house->kind, 0, 5) || !within(house->x, 0, 30000))
+        return RANGE;
+    if (house->h > 6 * house->b || house->a <= house->b || house->a > 4 * house->b) return RATIO;
+    return roof_number_fits(house) ? 0 : ROOF;
+}
+
+/* ---- Reading ---- */
+
+typedef struct { const uint8_t *text; size_t length, at; uint32_t line; } reader;
+
+static int peek(const reader *r) { return r->at < r->length ? r->text[r->at] : -1; }
+
+static int take(reader *r, int byte)
+{
+    if (peek(r) != byte) return 0;
+    r->at++;
+    return 1;
+}
+
+/* Takes a number in form: at most 7 digits, no plus, no leading zero, no -0. */
+static int number(reader *r, int *value)
+{
+    int negative = take(r, '-'), first = peek(r), digits = 0, size = 0;
+    while (digits < 8 && within(peek(r), '0', '9')) {
+        size = 10 * size + (r->text[r->at++] - '0');
+        digits++;
+    }
+    *value = negative ? -size : size;
+    return within(digits, 1, 7) && !(first == '0' && (digits > 1 || negative));
+}
+
+/* Takes `count` numbers with one space between them, and the line's end. */
+static int numbers(reader *r, int count, int *value)
+{
+    for (int i = 0; i < count; i++)
+        if ((i > 0 && !take(r, ' ')) || !number(r, &value[i])) return 0;
+    return take(r, '\n');
+}
+
+static int read_count(reader *r, char letter, int greatest, int *count)
+{
+    r->line++;
+    if (!take(r, letter) || !take(r, ' ') || !numbers(r, 1, count)) return FORM;
+    return within(*count, 1, greatest) ? 0 : COUNT;
+}
+
+static int read_building(reader *r, building *house)
+{
+    int value[6];
+    r->line++;
+    if (!numbers(r, 6, value)) return FORM;
+    *house = (building){value[0], value[1], value[2], value[3], value[4], value[5]};
+    return building_fault(house);
+}
+
+static int read_winds(reader *r, job *j)
+{
+    int fault = read_count(r, 'W', WINDS, &j->winds);
+    for (int i = 0; !fault && i < j->winds; i++) {
+        int value[2];
+        r->line++;
+        if (!numbers(r, 2, value)) return FORM;
+        if ((value[0] != 0 && value[0] != 90) || !within(value[1], 1, 1000)) return RANGE;
+        j->direction[i] = value[0];
+        j->speed[i] = value[1];
+    }
+    return fault;
+}
+
+static int read_internals(reader *r, job *j)
+{
+    int fault = read_count(r, 'I', INTERNALS, &j->internals);
+    for (int i = 0; !fault && i < j->internals; i++) {
+        r->line++;
+        if (!numbers(r, 1, &j->internal[i])) return FORM;
+        if (!within(j->internal[i], -100, 100)) return RANGE;
+    }
+    return fault;
+}
+
+/* A mark is a number, or a dash before a space. */
+static int read_mark(reader *r, int *mark)
+{
+    if (peek(r) == '-' && r->at + 1 < r->length && r->text[r->at + 1] == ' ') {
+        r->at++;
+        *mark = BOTH;
+        return 1;
+    }
+    return number(r, mark);
+}
+
+static int read_face(reader *r, const building *house, face *f)
+{
+    r->line++;
+    if (!within(peek(r), 'A', 'H')) return FORM;
+    f->zone = (char)r->text[r->at++];
+    if (!take(r, ' ') || !read_mark(r, &f->mark) || !take(r, ' ') || !numbers(r, 3, f->area)) return FORM;
+    if (f->mark != 0 && f->mark != 90 && f->mark != BOTH) return RANGE;
+    for (int axis = 0; axis < 3; axis++)
+        if (!within(f->area[axis], -100000, 100000)) return RANGE;
+    return zone_exists(house, f->zone) ? 0 : PLACE;
+}
+
+static int read_faces(reader *r, job *j)
+{
+    int fault = read_count(r, 'F', FACES, &j->faces);
+    for (int i = 0; !fault && i < j->faces; i++) fault = read_face(r, &j->house, &j->face[i]);
+    return fault;
+}
+
+static aral_answer read_job(const uint8_t *sheet, size_t n, job *j)
+{
+    reader r = {sheet, n, 0, 0};
+    int count, fault = read_count(&r, 'B', 1, &count);
+    if (!fault) fault = read_building(&r, &j->house);
+    if (!fault) fault = read_winds(&r, j);
+    if (!fault) fault = read_internals(&r, j);
+    if (!fault) fault = read_faces(&r, j);
+    if (!fault && r.at < n) {
+        r.line++;
+        fault = FORM;
+    }
+    return fault ? (aral_answer){(uint32_t)fault, r.line} : (aral_answer){0, 0};
+}
+
+/* ---- Writing ---- */
+
+typedef struct { char text[1024]; size_t length; } writer;
+
+static void put(writer *w, char byte) { w->text[w->length++] = byte; }
+
+static void put_number(writer *w, int64_t value)
+{
+    char digit[20];
+    int count = 0;
+    uint64_t size = value < 0 ? 0 - (uint64_t)value : (uint64_t)value;
+    if (value < 0) put(w, '-');
+    do digit[count++] = (char)('0' + size % 10);
+    while (size /= 10);
+    while (count > 0) put(w, digit[--count]);
+}
+
+static void put_after_space(writer *w, int64_t value)
+{
+    put(w, ' ');
+    put_number(w, value);
+}
+
+static void put_count(writer *w, char letter, int count)
+{
+    put(w, letter);
+    put_after_space(w, count);
+    put(w, '\n');
+}
+
+/* Numbers with one space between them, and the line's end. */
+static void put_numbers(writer *w, int count, const int64_t *value)
+{
+    put_number(w, value[0]);
+    for (int i = 1; i < count; i++) put_after_space(w, value[i]);
+    put(w, '\n');
+}
+
+static aral_text hand_over(const writer *w, uint8_t *out, size_t room)
+{
+    if (w->length > room) return (aral_text){ROOM, 0, 0};
+    memcpy(out, w->text, w->length);
+    return (aral_text){0, 0, w->length};
+}
+
+static void put_face(writer *w, const face *f)
+{
+    put(w, f->zone);
+    put(w, ' ');
+    if (f->mark == BOTH) put(w, '-');
+    else put_number(w, f->mark);
+    put(w, ' ');
+    put_numbers(w, 3, (int64_t[]){f->area[0], f->area[1], f->area[2]});
+}
+
+static void put_sheet(writer *w, const job *j)
+{
+    const building *house = &j->house;
+    put_count(w, 'B', 1);
+    put_numbers(w, 6, (int64_t[]){house->h, house->a, house->b, house->density, house->kind, house->x});
+    put_count(w, 'W', j->winds);
+    for (int i = 0; i < j->winds; i++) put_numbers(w, 2, (int64_t[]){j->direction[i], j->speed[i]});
+    put_count(w, 'I', j->internals);
+    for (int i = 0; i < j->internals; i++) put_numbers(w, 1, (int64_t[]){j->internal[i]});
+    put_count(w, 'F', j->faces);
+    for (int i = 0; i < j->faces; i++) put_face(w, &j->face[i]);
+}
+
+/* ---- The worst cases ---- */
+
+/* What a face offers under one direction: no alternative where it is marked for the other. */
+typedef struct { int count, value[2]; } offer;
+typedef struct { int64_t total; int wind, internal; } best;
+typedef struct { offer offer[FACES][2]; best best[6]; } worst;
+
+static void gather_offers(const job *j, worst *w)
+{
+    int used[2] = {0, 0};
+    for (int i = 0; i < j->winds; i++) used[j->direction[i] == 90] = 1;
+    for (int i = 0; i < j->faces; i++) {
+        const face *f = &j->face[i];
+        for (int ninety = 0; ninety < 2; ninety++) {
+            offer *o = &w->offer[i][ninety];
+            if (!used[ninety] || (f->mark != BOTH && f->mark != 90 * ninety)) o->count = 0;
+            else o->count = outside(&j->house, 90 * ninety, (uint8_t)f->zone, o->value);
+        }
+    }
+}
+
+/* The greatest and the least sum of net coefficient times area on each axis: each face chooses by itself. */
+static void sum_case(const job *j, const worst *w, int wind, int internal, int64_t sum[6])
+{
+    int ninety = j->direction[wind] == 90, inside = 10 * j->internal[internal];
+    memset(sum, 0, 6 * sizeof *sum);
+    for (int i = 0; i < j->faces; i++) {
+        const offer *o = &w->offer[i][ninety];
+        if (o->count == 0) continue;
+        for (int axis = 0; axis < 3; axis++) {
+            int64_t area = j->face[i].area[axis], first = (o->value[0] - inside) * area, second = first;
+            if (o->count == 2) second = (o->value[1] - inside) * area;
+            sum[2 * axis] += first > second ? first : second;
+            sum[2 * axis + 1] += first < second ? first : second;
+        }
+    }
+}
+
+/* Report lines 0, 2 and 4 want the greatest, the others the least. */
+static int beats(int k, int64_t total, int64_t than) { return k % 2 == 0 ? total > than : total < than; }
+
+static void find_worst(const job *j, worst *w)
+{
+    gather_offers(j, w);
+    for (int wind = 0; wind < j->winds; wind++) {
+        int64_t pressure = j->house.density * j->speed[wind] * j->speed[wind];
+        for (int internal = 0; internal < j->internals; internal++) {
+            int64_t sum[6];
+            sum_case(j, w, wind, internal, sum);
+            for (int k = 0; k < 6; k++) {
+                best found = {sum[k] * pressure, wind, internal};
+                if ((wind == 0 && internal == 0) || beats(k, found.total, w->best[k].total)) w->best[k] = found;
+            }
+        }
+    }
+}
+
+/* The alternative that face i takes in the case found for report line k: the first that is as good as any. */
+static int alternative(const job *j, const worst *w, int k, int i)
+{
+    const best *b = &w->best[k];
+    const offer *o = &w->offer[i][j->direction[b->wind] == 90];
+    if (o->count < 2) return 1;
+    int64_t area = j->face[i].area[k / 2], inside = 10 * j->internal[b->internal];
+    int64_t first = (o->value[0] - inside) * area, second = (o->value[1] - inside) * area;
+    return beats(k, second, first) ? 2 : 1;
+}
+
+static void put_report(writer *out, const job *j, const worst *w)
+{
+    for (int k = 0; k < 6; k++) {
+        put(out, "xyz"[k / 2]);
+        for (const char *side = k % 2 == 0 ? " max" : " min"; *side; side++) put(out, *side);
+        put_after_space(out, w->best[k].total);
+        put_after_space(out, w->best[k].wind + 1);
+        put_after_space(out, w->best[k].internal + 1);
+        for (int i = 0; i < j->faces; i++) put_after_space(out, alternative(j, w, k, i));
+        put(out, '\n');
+    }
+}
+
+/* ---- The entry points ---- */
+
+aral_answer ENTRY(read)(const uint8_t *sheet, size_t n)
+{
+    job j;
+    return read_job(sheet, n, &j);
+}
+
+aral_text ENTRY(rewrite)(const uint8_t *sheet, size_t n, uint8_t *out, size_t room)
+{
+    job j;
+    aral_answer answer = read_job(sheet, n, &j);
+    if (answer.number) return (aral_text){answer.number, answer.line, 0};
+    writer w;
+    w.length = 0;
+    put_sheet(&w, &j);
+    return hand_over(&w, out, room);
+}
+
+aral_text ENTRY(report)(const uint8_t *sheet, size_t n, uint8_t *out, size_t room)
+{
+    job j;
+    worst found;
+    aral_answer answer = read_job(sheet, n, &j);
+    if (answer.number) return (aral_text){answer.number, answer.line, 0};
+    find_worst(&j, &found);
+    writer w;
+    w.length = 0;
+    put_report(&w, &j, &found);
+    return hand_over(&w, out, room);
+}
+
+aral_extreme ENTRY(total)(const uint8_t *sheet, size_t n, int64_t line)
+{
+    job j;
+    worst found;
+    aral_extreme e = {0};
+    aral_answer answer = read_job(sheet, n, &j);
+    if (!answer.number && !within(line, 1, 6)) answer.number = RANGE;
+    e.number = answer.number;
+    e.line = answer.line;
+    if (answer.number) return e;
+    find_worst(&j, &found);
+    int k = (int)line - 1;
+    e.total = found.best[k].total;
+    e.wind = (uint32_t)found.best[k].wind + 1;
+    e.internal = (uint32_t)found.best[k].internal + 1;
+    e.faces = (uint32_t)j.faces;
+    for (int i = 0; i < j.faces; i++) e.alternative[i] = (uint8_t)alternative(&j, &found, k, i);
+    return e;
+}
+
+aral_text ENTRY(digits)(int64_t number, uint8_t *out, size_t room)
+{
+    writer w;
+    w.length = 0;
+    put_number(&w, number);
+    return hand_over(&w, out, room);
+}
+
+aral_coefficient ENTRY(outside)(int64_t h, int64_t a, int64_t b, int64_t density, int64_t kind, int64_t x,
+                                int64_t direction, uint8_t place)
+{
+    building house = {h, a, b, density, kind, x};
+    int64_t number[6] = {h, a, b, density, kind, x};
+    int value[2], fault = 0;
+    for (int i = 0; i < 6; i++)
+        if (!within(number[i], -9999999, 9999999)) fault = FORM;
+    if (!fault) fault = building_fault(&house);
+    if (fault) return (aral_coefficient){(uint32_t)fault, 2, 0, {0, 0}};
+    if (direction != 0 && direction != 90) return (aral_coefficient){RANGE, 0, 0, {0, 0}};
+    int count = outside(&house, (int)direction, place, value);
+    if (count == 0) return (aral_coefficient){PLACE, 0, 0, {0, 0}};
+    return (aral_coefficient){0, 0, (uint32_t)count, {value[0], value[1]}};
+}
+
+aral_coefficient ENTRY(net)(int64_t h, int64_t a, int64_t b, int64_t density, int64_t kind, int64_t x,
+                            int64_t direction, uint8_t place, int64_t internal)
+{
+    aral_coefficient c = ENTRY(outside)(h, a, b, density, kind, x, direction, place);
+    if (c.number) return c;
+    if (!within(internal, -100, 100)) return (aral_coefficient){RANGE, 0, 0, {0, 0}};
+    for (uint32_t i = 0; i < c.count; i++) c.value[i] -= 10 * (int32_t)internal;
+    return c;
+}
+
+aral_double ENTRY(panel)(int64_t total)
+{
+    const double top = 9223372036854775808.0; /* 2^63, where a total just below it rounds to */
+    double near = (double)total;
+    if (near < top && (int64_t)near == total) return (aral_double){1, near, near};
+    if (near < top && (int64_t)near < total) return (aral_double){0, near, nextafter(near, INFINITY)};
+    return (aral_double){0, nextafter(near, -INFINITY), near};
+}
+
+aral_point ENTRY(chart)(int64_t x, int64_t y, int64_t z)
+{
+    aral_double dx = ENTRY(panel)(x), dy = ENTRY(panel)(y), dz = ENTRY(panel)(z);
+    return (aral_point){dx.low, dx.high, dy.low, dy.high, dz.low, dz.high};
+}

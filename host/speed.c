@@ -1,0 +1,49 @@
+/* Makes reports over and over, for the benchmark: speed library|plain WINDS INTERNALS FACES REPORTS [timed].
+   The sheets are six, one of each roof kind, taken in turn, and read anew for each report; the buffer is not cleared
+   between reports. Prints a sum over what was written, which is the same for both calculators, or with `timed` reports
+   per second of processor time. */
+#define _POSIX_C_SOURCE 199309L
+#include "aralimogga.h"
+#include "plain.h"
+#include "sheets.h"
+#include <stdio.h>
+#include <stdlib.h>
+#include <string.h>
+#include <time.h>
+
+typedef aral_text reports(const uint8_t *, size_t, uint8_t *, size_t);
+
+static double seconds(void)
+{
+    struct timespec t;
+    clock_gettime(CLOCK_PROCESS_CPUTIME_ID, &t);
+    return (double)t.tv_sec + (double)t.tv_nsec / 1e9;
+}
+
+int main(int argc, char **argv)
+{
+    static text sheet[6];
+    static sample s;
+    uint8_t out[1024];
+    uint64_t sum = 0;
+    dice die = {1};
+    if (argc < 6 || (strcmp(argv[1], "library") && strcmp(argv[1], "plain"))) {
+        fprintf(stderr, "speed library|plain WINDS INTERNALS FACES REPORTS [timed]\n");
+        return 2;
+    }
+    reports *report = strcmp(argv[1], "plain") ? aral_report : plain_report;
+    for (int kind = 0; kind < 6; kind++) {
+        make_sized(&die, &s, kind, atoi(argv[2]), atoi(argv[3]), atoi(argv[4]));
+        write_sample(&s, &sheet[kind]);
+    }
+    unsigned long count = strtoul(argv[5], NULL, 10);
+    double start = seconds();
+    for (unsigned long i = 0; i < count; i++) {
+        const text *t = &sheet[i % 6];
+        aral_text r = report(t->byte, t->length, out, sizeof out);
+        sum = sum * 31 + r.length + out[r.length / 2];
+    }
+    if (argc > 6) printf("%.0f\n", (double)count / (seconds() - start));
+    else printf("%016llx\n", (unsigned long long)sum);
+    return 0;
+}

@@ -1,0 +1,66 @@
+/* Walks every case of a job in order (wind, internal, alternatives of faces 1, 2 and on) and keeps the first greatest
+   and the first least total on each axis. It knows nothing of the fact that each face may choose by itself. */
+#include "walk.h"
+#include "plain.h"
+#include <string.h>
+
+typedef struct { int count; int64_t force[2][3]; } part; /* a face in one wind and internal: its alternatives' forces */
+
+static void face_part(const sample *s, int wind, int internal, int i, part *p)
+{
+    int direction = s->direction[wind];
+    int64_t pressure = s->density * s->speed[wind] * s->speed[wind];
+    memset(p, 0, sizeof *p);
+    p->count = 1;
+    if (s->mark[i] != DASH && s->mark[i] != direction) return;
+    aral_coefficient c = plain_net(s->h, s->a, s->b, s->density, s->kind, s->x, direction, (uint8_t)s->zone[i],
+                                   s->internal[internal]);
+    p->count = (int)c.count;
+    for (int k = 0; k < p->count; k++)
+        for (int axis = 0; axis < 3; axis++) p->force[k][axis] = c.value[k] * pressure * s->area[i][axis];
+}
+
+/* The next choice of alternatives, the last face's changing first; 0 after the last. */
+static int next_choice(int faces, const part *p, uint8_t *alternative)
+{
+    for (int i = faces - 1; i >= 0; i--) {
+        if (alternative[i] < p[i].count) {
+            alternative[i]++;
+            return 1;
+        }
+        alternative[i] = 1;
+    }
+    return 0;
+}
+
+static void judge(int faces, const part *p, const aral_extreme *now, int first, aral_extreme best[6])
+{
+    int64_t total[3] = {0, 0, 0};
+    for (int i = 0; i < faces; i++)
+        for (int axis = 0; axis < 3; axis++) total[axis] += p[i].force[now->alternative[i] - 1][axis];
+    for (int k = 0; k < 6; k++) {
+        int64_t t = total[k / 2];
+        if (!first && (k % 2 == 0 ? t <= best[k].total : t >= best[k].total)) continue;
+        best[k] = *now;
+        best[k].total = t;
+    }
+}
+
+int walk(const sample *s, uint64_t most, aral_extreme best[6])
+{
+    uint64_t walked = 0;
+    for (int wind = 0; wind < s->winds; wind++)
+        for (int internal = 0; internal < s->internals; internal++) {
+            part p[24];
+            aral_extreme now = {0, 0, 0, (uint32_t)wind + 1, (uint32_t)internal + 1, (uint32_t)s->faces, {0}};
+            for (int i = 0; i < s->faces; i++) {
+                face_part(s, wind, internal, i, &p[i]);
+                now.alternative[i] = 1;
+            }
+            do {
+                if (walked == most) return 0;
+                judge(s->faces, p, &now, walked++ == 0, best);
+            } while (next_choice(s->faces, p, now.alternative));
+        }
+    return 1;
+}

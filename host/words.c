@@ -1,0 +1,273 @@
+/* Says a refusal in words: finds the line it names, what that line is for, and which of its fields is at fault. */
+#include "words.h"
+#include <stdio.h>
+#include <stdlib.h>
+#include <string.h>
+
+enum { SHOWN = 76, FIELDS = 8, FIELD_ROOM = 24 };
+typedef enum { B_COUNT, BUILDING, W_COUNT, WIND, I_COUNT, INTERNAL, F_COUNT, FACE, AFTER } role;
+
+static const struct { const char *what, *form; int fields; } roles[] = {
+    {"opens section B, the building: the letter B, a space and the count, which is always 1", "B 1", 2},
+    {"is the building: height h, longer side a and shorter side b in cm (100 to 30000), air density in g/m3\n"
+     "(1000 to 1500), roof kind (0 to 5) and roof number x (0 to 30000)", "500 1200 1000 1250 2 0", 6},
+    {"opens section W, the winds: the letter W, a space and how many winds follow (1 to 8)", "W 1", 2},
+    {"is wind %u of %u: its direction (0 or 90) and its speed in tenths of m/s (1 to 1000)", "0 400", 2},
+    {"opens section I, the internal coefficients: the letter I, a space and how many follow (1 to 4)", "I 1", 2},
+    {"is internal coefficient %u of %u, in hundredths (-100 to 100)", "-30", 1},
+    {"opens section F, the faces: the letter F, a space and how many follow (1 to 24)", "F 1", 2},
+    {"is face %u of %u: its zone (A to H), its mark (0, 90, or - for both winds), and its areas on x, y and z in dm2\n"
+     "(-100000 to 100000)", "A 0 1000 0 0", 5},
+    {"is after the last face, where the sheet must end", "", 0},
+};
+
+/* ---- Finding the line ---- */
+
+typedef struct { const uint8_t *start; size_t length; int there, ended; } line_text;
+
+static line_text line_at(const uint8_t *sheet, size_t n, uint32_t line)
+{
+    size_t at = 0;
+    line_text found = {sheet, 0, 0, 0};
+    for (uint32_t i = 1; i < line; i++) {
+        const uint8_t *end = at < n ? memchr(sheet + at, '\n', n - at) : NULL;
+        if (!end) return found;
+        at = (size_t)(end - sheet) + 1;
+    }
+    if (at >= n) return found;
+    const uint8_t *end = memchr(sheet + at, '\n', n - at);
+    found.start = sheet + at;
+    found.length = end ? (size_t)(end - found.start) : n - at;
+    found.there = 1;
+    found.ended = end != NULL;
+    return found;
+}
+
+/* The count on a line that was accepted. */
+static uint32_t count_at(const uint8_t *sheet, size_t n, uint32_t line)
+{
+    line_text t = line_at(sheet, n, line);
+    char digits[FIELD_ROOM] = "";
+    if (t.length > 2 && t.length < FIELD_ROOM) memcpy(digits, t.start + 2, t.length - 2);
+    return (uint32_t)strtoul(digits, NULL, 10);
+}
+
+/* What the sheet calls for at a line, given that every line before it was accepted: entry `item` of `count`. */
+static role role_at(const uint8_t *sheet, size_t n, uint32_t line, uint32_t *item, uint32_t *count)
+{
+    uint32_t opens = 1;
+    *item = *count = 0;
+    for (role r = B_COUNT; r < AFTER; r += 2) {
+        if (line == opens) return r;
+        *count = count_at(sheet, n, opens);
+        *item = line - opens;
+        if (*item <= *count) return r + 1;
+        opens += *count + 1;
+    }
+    return AFTER;
+}
+
+/* ---- Showing it ---- */
+
+static void show_line(uint32_t number, const line_text *t)
+{
+    printf("\n  line %u | ", number);
+    if (!t->there) printf("(the sheet ends before this line)");
+    for (size_t i = 0; i < t->length && i < SHOWN; i++) {
+        uint8_t byte = t->start[i];
+        if (byte == '\r') printf("<CR>");
+        else if (byte == '\t') printf("<TAB>");
+        else if (byte < ' ' || byte > '~') printf("<%02x>", byte);
+        else putchar(byte);
+    }
+    if (t->length > SHOWN) printf(" .. (%zu bytes)", t->length);
+    if (t->there && !t->ended) printf("<no line end>");
+    printf("\n\n");
+}
+
+/* The fields of a line, cut at single spaces; answers how many there are, also past FIELDS. */
+static int cut(const line_text *t, char field[FIELDS][FIELD_ROOM])
+{
+    int count = 0;
+    size_t start = 0;
+    memset(field, 0, FIELDS * FIELD_ROOM);
+    for (size_t i = 0; i <= t->length; i++) {
+        if (i < t->length && t->start[i] != ' ') continue;
+        size_t size = i - start < FIELD_ROOM - 1 ? i - start : FIELD_ROOM - 1;
+        if (count < FIELDS) memcpy(field[count], t->start + start, size);
+        count++;
+        start = i + 1;
+    }
+    return count;
+}
+
+/* ---- 1: the form ---- */
+
+static const char *field_slip(const char *field)
+{
+    const char *digits = field + (*field == '-');
+    size_t plain = strspn(digits, "0123456789");
+    if (*field == '+') return "a number has no plus sign";
+    if (strpbrk(field, ".,") && plain > 0) return "numbers are whole: the units are small enough to need no decimals";
+    if (plain == 0 || digits[plain]) return NULL;
+    if (!strcmp(field, "-0")) return "zero is written 0, not -0";
+    if (*digits == '0' && plain > 1) return "a number has no leading zero";
+    return plain > 7 ? "a number has at most 7 digits" : NULL;
+}
+
+static int is_letter(const char *field, char first, char last) { return *field >= first && *field <= last && !field[1]; }
+
+static const char *form_slip(const line_text *t, role r, char field[FIELDS][FIELD_ROOM], int count)
+{
+    static const char letters[] = "B.W.I.F";
+    if (memchr(t->start, '\r', t->length)) return "a carriage return stands in it: save the sheet with LF line ends";
+    if (memchr(t->start, '\t', t->length)) return "fields are parted by one space, not by a tab";
+    if (t->length == 0) return "the line is empty";
+    for (int i = 0; i < count && i < FIELDS; i++)
+        if (!*field[i]) return "there is one space between fields, none before the first and none after the last";
+    if (r % 2 == 0 && !is_letter(field[0], letters[r], letters[r])) return "it must open with another letter";
+    for (int i = 0; i < count && i < FIELDS; i++)
+        if (field_slip(field[i])) return field_slip(field[i]);
+    if (count < roles[r].fields) return "there are fewer fields than this line needs";
+    if (count > roles[r].fields) return "there are more fields than this line has";
+    if (r == FACE && !is_letter(field[0], 'A', 'H')) return "a face opens with a zone letter, A to H";
+    return t->ended ? "a field is not a number" : "the line has no line end: press Enter after it, the last line too";
+}
+
+static void explain_form(const line_text *t, role r)
+{
+    char field[FIELDS][FIELD_ROOM];
+    if (r == AFTER) printf("Nothing may follow the last face, not even an empty line. Is the count after F right?\n");
+    else if (!t->there) printf("The sheet ends where a line is still called for. Are the counts right?\n");
+    else printf("The line is not in form: %s.\n", form_slip(t, r, field, cut(t, field)));
+}
+
+/* ---- 3: ranges ---- */
+
+static void say_range(const char *name, const char *field, long least, long greatest)
+{
+    long value = strtol(field, NULL, 10);
+    if (value >= least && value <= greatest) return;
+    printf("The %s is %ld; it must be %ld to %ld.\n", name, value, least, greatest);
+}
+
+static void say_direction(const char *name, const char *field, const char *allowed)
+{
+    if (!strcmp(field, "0") || !strcmp(field, "90") || !strcmp(field, "-")) return;
+    printf("The %s is %s; it must be %s.\n", name, field, allowed);
+}
+
+static void explain_range(role r, char field[FIELDS][FIELD_ROOM])
+{
+    static const char *const side[] = {"height h", "longer side a", "shorter side b"};
+    static const char *const axis[] = {"area on x", "area on y", "area on z"};
+    if (r == BUILDING) {
+        for (int i = 0; i < 3; i++) say_range(side[i], field[i], 100, 30000);
+        say_range("air density", field[3], 1000, 1500);
+        say_range("roof kind", field[4], 0, 5);
+        say_range("roof number x", field[5], 0, 30000);
+    } else if (r == WIND) {
+        say_direction("direction", field[0], "0 or 90");
+        say_range("speed", field[1], 1, 1000);
+    } else if (r == INTERNAL) {
+        say_range("internal coefficient", field[0], -100, 100);
+    } else {
+        say_direction("mark", field[1], "0, 90, or - for both winds");
+        for (int i = 0; i < 3; i++) say_range(axis[i], field[2 + i], -100000, 100000);
+    }
+}
+
+/* ---- 4, 5 and 6: the building ---- */
+
+static void explain_ratio(long h, long a, long b)
+{
+    if (h > 6 * b) printf("The height %ld is over 6 times the shorter side %ld: at most %ld here.\n", h, b, 6 * b);
+    if (a <= b) printf("The longer side %ld is not over the shorter side %ld; a square plan has no row.\n", a, b);
+    if (a > 4 * b) printf("The longer side %ld is over 4 times the shorter side %ld: at most %ld here.\n", a, b, 4 * b);
+}
+
+static void explain_roof(long h, long kind, long x)
+{
+    static const struct { const char *what; long over, under, least, greatest; } rule[] = {
+        {"no roof has no number: x must be 0", 0, 0, 0, 0},
+        {"a gable's x is its slope in tenths of a degree: 0 to 600", 0, 0, 0, 600},
+        {"straight eaves have no number: x must be 0", 0, 0, 0, 0},
+        {"a parapet's x is its height in cm, 0.025 to 0.10 of h", 40, 10, 0, 0},
+        {"curved eaves' x is their radius in cm, 0.05 to 0.20 of h", 20, 5, 0, 0},
+        {"a mansard's x is its angle in tenths of a degree: 300 to 900", 0, 0, 300, 900},
+    };
+    if (kind < 0 || kind > 5) return;
+    printf("The roof number x is %ld, and for kind %ld, %s", x, kind, rule[kind].what);
+    long over = rule[kind].over;
+    if (over) printf(", which is %ld to %ld for h %ld", (h + over - 1) / over, h / rule[kind].under, h);
+    printf(".\n");
+}
+
+const char *zones_of(int64_t kind) { return kind == 0 ? "A to D" : kind == 1 ? "A to H" : "A to F"; }
+
+void print_roof(int64_t kind, int64_t x)
+{
+    static const char *const what[] = {
+        "no roof", "a gable roof of", "a flat roof with straight eaves", "a flat roof with a parapet of",
+        "a flat roof with curved eaves of radius", "a flat roof with a mansard of"};
+    if (kind < 0 || kind > 5) return;
+    printf("%s", what[kind]);
+    if (kind == 1 || kind == 5) printf(" %d.%d degrees", (int)(x / 10), (int)(x % 10));
+    if (kind == 3 || kind == 4) printf(" %d cm", (int)x);
+}
+
+static void building_numbers(const uint8_t *sheet, size_t n, long value[6])
+{
+    char field[FIELDS][FIELD_ROOM];
+    line_text t = line_at(sheet, n, 2);
+    cut(&t, field);
+    for (int i = 0; i < 6; i++) value[i] = strtol(field[i], NULL, 10);
+}
+
+static void explain_building(const uint8_t *sheet, size_t n, uint32_t number, const char *zone)
+{
+    long value[6];
+    building_numbers(sheet, n, value);
+    if (number == 4) explain_ratio(value[0], value[1], value[2]);
+    if (number == 5) explain_roof(value[0], value[4], value[5]);
+    if (number == 6) {
+        printf("Zone %s is not on this building, which has ", zone);
+        print_roof(value[4], value[5]);
+        printf(" (kind %ld on line 2): its zones are %s.\n", value[4], zones_of(value[4]));
+    }
+}
+
+void explain(const uint8_t *sheet, size_t n, aral_answer refusal)
+{
+    static const char *const title[] = {
+        "", "not in form", "a count outside its limits", "a number outside its range",
+        "proportions that the tables do not cover", "a roof number that its kind does not allow",
+        "a zone that is not on this building", "no room"};
+    char field[FIELDS][FIELD_ROOM];
+    uint32_t item, count;
+    role r = role_at(sheet, n, refusal.line, &item, &count);
+    line_text t = line_at(sheet, n, refusal.line);
+    printf("refused with %u at line %u: %s\n", refusal.number, refusal.line, title[refusal.number & 7]);
+    show_line(refusal.line, &t);
+    cut(&t, field);
+    if (refusal.number == 1) explain_form(&t, r);
+    else if (refusal.number == 2) printf("The count is %s.\n", field[1]);
+    else if (refusal.number == 3) explain_range(r, field);
+    else explain_building(sheet, n, refusal.number, field[0]);
+    printf("Line %u ", refusal.line);
+    printf(roles[r].what, item, count);
+    if (*roles[r].form) printf(", as `%s`", roles[r].form);
+    printf(".\n");
+}
+
+void describe(const uint8_t *sheet, size_t n)
+{
+    long value[6];
+    uint32_t winds = count_at(sheet, n, 3), internals = count_at(sheet, n, 4 + winds);
+    uint32_t faces = count_at(sheet, n, 5 + winds + internals);
+    building_numbers(sheet, n, value);
+    printf("accepted: winds %u, internal coefficients %u, faces %u\n", winds, internals, faces);
+    printf("The building is %ld cm high and %ld by %ld cm wide, with ", value[0], value[1], value[2]);
+    print_roof(value[4], value[5]);
+    printf("; its zones are %s.\n", zones_of(value[4]));
+}

@@ -1,0 +1,19 @@
+/* What a refusal means, in words for a first-year student (words.c). */
+#ifndef WORDS_H
+#define WORDS_H
+
+#include "aralimogga.h"
+
+/* Prints the refusal of a sheet: the line it names, what is wrong with it, and what would be allowed there. */
+void explain(const uint8_t *sheet, size_t n, aral_answer refusal);
+
+/* Prints what an accepted sheet holds. */
+void describe(const uint8_t *sheet, size_t n);
+
+/* The roof of a kind and number, as `a gable roof of 12.3 degrees`, printed. */
+void print_roof(int64_t kind, int64_t x);
+
+/* The zones that a building of this roof kind has, as `A to D`. */
+const char *zones_of(int64_t kind);
+
+#endif

@@ -1,0 +1,104 @@
+/* The entry points of libaralimogga.a, a proved wind load calculator, for a host program in C.
+   Each call answers one record by value. None keeps anything between calls, none allocates, none prints and none
+   fails otherwise than by the numbers below, so any thread may call any of them at any time.
+
+   number  given when
+   0       accepted; the line is 0 too
+   1       the line is missing, unended, extra or not in the sheet's form
+   2       a count is not 1 for B, or not 1 to 8 for W, 1 to 4 for I, 1 to 24 for F
+   3       a number is outside its range, or a direction or a mark is a number other than 0 and 90
+   4       h/b is over 6, or a/b is not over 1, or a/b is over 4
+   5       the roof number x is outside its kind's range
+   6       the zone or local is not on this building
+   7       the lent buffer is too short (line 0)
+
+   `line` is the sheet's line, counted from 1: the first faulty line, and in it the lowest number. It is 0 where
+   no line is at fault. The sheet is bytes, not a C string: a zero byte is a byte like another, and none ends it.
+
+   What a caller owes: a pointer and its length name bytes that may be read (`sheet`) or written (`out`), the two do
+   not overlap, and no other thread writes them during the call. Where the length is 0 the pointer may be null. */
+#ifndef ARALIMOGGA_H
+#define ARALIMOGGA_H
+
+#include <stddef.h>
+#include <stdint.h>
+
+#ifdef __cplusplus
+extern "C" {
+#endif
+
+/* Accepted (0, 0), or the refusal. */
+typedef struct { uint32_t number, line; } aral_answer;
+
+/* Accepted (0, 0) with the length of the text now at the start of the buffer; or the refusal, with length 0. */
+typedef struct { uint32_t number, line; uint64_t length; } aral_text;
+
+/* `count` coefficients in thousandths, a zone's alternatives in order; entries past the count are 0, and all are 0
+   where refused. Only zone F of a flat roof has two. */
+typedef struct { uint32_t number, line, count; int32_t value[2]; } aral_coefficient;
+
+/* One of the six totals, in units of 0.00000000005 N (20,000,000,000 units are one newton), and the first case that
+   reaches it: the wind, the internal coefficient and each face's alternative, all numbered from 1.
+   `alternative` is 0 past `faces`. Everything after `line` is 0 where refused. */
+typedef struct {
+    uint32_t number, line;
+    int64_t total;
+    uint32_t wind, internal, faces;
+    uint8_t alternative[24];
+} aral_extreme;
+
+/* `exact` 1: low and high are both the number. `exact` 0: no double equals it, low is the nearest double below and
+   high the nearest above. */
+typedef struct { uint32_t exact; double low, high; } aral_double;
+
+/* A chart point: for each axis the low and the high double of a total, the same where exact. */
+typedef struct { double x_low, x_high, y_low, y_high, z_low, z_high; } aral_point;
+
+/* Reads the n bytes of a sheet. Answers accepted, or refuses with 1 to 6 and the line. */
+aral_answer aral_read(const uint8_t *sheet, size_t n);
+
+/* Reads a sheet and writes the job that was read as a sheet again.
+   Refuses with 1 to 6 and the line as aral_read does; then with 7, line 0, where the text is longer than `room`.
+   The text stands at the buffer's start and the bytes after it stay as they were; a refused call changes no byte.
+   No text is longer than 827 bytes. */
+aral_text aral_rewrite(const uint8_t *sheet, size_t n, uint8_t *out, size_t room);
+
+/* Reads a sheet and writes the report of its worst cases: six lines, `x max`, `x min`, `y max`, `y min`, `z max`,
+   `z min`, each followed by the total in units, the wind, the internal coefficient and each face's alternative.
+   Refusals and the buffer as for aral_rewrite. No report is longer than 474 bytes. */
+aral_text aral_report(const uint8_t *sheet, size_t n, uint8_t *out, size_t room);
+
+/* Reads a sheet and answers one line of its report as numbers: line 1 is `x max`, 2 `x min`, to 6 `z min`.
+   Refuses with 1 to 6 and the sheet's line as aral_read does; then with 3, line 0, for another report line. */
+aral_extreme aral_total(const uint8_t *sheet, size_t n, int64_t line);
+
+/* Writes the decimal digits of any number, most significant first, after a `-` where it is negative.
+   Refuses only with 7, line 0, where the text is longer than `room`. The buffer as for aral_rewrite.
+   No text is longer than 20 bytes. */
+aral_text aral_digits(int64_t number, uint8_t *out, size_t room);
+
+/* The outside coefficient of one place on a building under one wind direction, in thousandths.
+   Height h, longer side a and shorter side b in cm, density in g/m3, the roof's kind and its number x, as on line 2 of
+   a sheet. `place` is the letter of a zone, `A` to `H`, or `w` for the wall local, `1` for L1, `2` for L2.
+   Refuses, in this order: the building with 1, 3, 4 or 5 at line 2, as its sheet would be (1 for a number of more than
+   seven digits); a direction other than 0 and 90 with 3, line 0, for locals too; a place that this building has not, or
+   a byte that names none, with 6, line 0. */
+aral_coefficient aral_outside(int64_t h, int64_t a, int64_t b, int64_t density, int64_t kind, int64_t x,
+                              int64_t direction, uint8_t place);
+
+/* The net coefficient: the outside one, rounded, minus the internal coefficient, which is given in hundredths.
+   Refuses as aral_outside does, and then an internal coefficient outside -100 to 100 with 3, line 0. */
+aral_coefficient aral_net(int64_t h, int64_t a, int64_t b, int64_t density, int64_t kind, int64_t x,
+                          int64_t direction, uint8_t place, int64_t internal);
+
+/* The panel's doubles of any number. Never refuses. Zero is positive zero. */
+aral_double aral_panel(int64_t total);
+
+/* The chart point of three totals. Never refuses. */
+aral_point aral_chart(int64_t x, int64_t y, int64_t z);
+
+#ifdef __cplusplus
+}
+#endif
+
+#endif
