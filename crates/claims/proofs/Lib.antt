@@ -1,0 +1,7 @@
+-- What the customer was promised, as theorems: the three demands, the printed cases, and that no contract leaves a choice.
+pub mod Accepted
+pub mod Demand1
+pub mod Demand2
+pub mod Demand3
+pub mod Printed
+pub mod Determined

@@ -1,0 +1,99 @@
+-- The printed cases of paper 01, P1 to P12 and the two sheets under them: one table, and one claim about the definitions.
+use Prim.Native.Char.{code}
+use Prim.Native.String.{String, [] as none, _∷_ as _then_}
+use Prim.Native.Nat.{ℕ}
+use mathlib.Core.Path.{_≡_, refl}
+use mathlib.Core.List.{List, [], _∷_}
+use lib.IntN.{ℤ, pos, negℤ}
+use Rattle.whole.specs.Lists.{Every}
+use Rattle.whole.specs.Round.{halfUp, roundAway, roundDown, leftOver}
+use Rattle.whole.specs.Newton.{newtons, remainder}
+use Rattle.text.specs.Digits.{allDigits, valueAfter, value}
+use Rattle.text.specs.Field.{digitsInForm, unsigned, negative, number, field}
+use Rattle.lines.specs.Lines.{split, fieldsOf, rowsOf, rows}
+use Rattle.book.specs.declared.Building.{Building}
+use Rattle.book.specs.Test.{beyond}
+use Rattle.book.specs.Line.{spotFrom, lineAt}
+use Rattle.book.specs.Walls.{wallRow, wallCells}
+use Rattle.book.specs.Gable.{blockOf}
+use Rattle.book.specs.Roof.{roofValue, roofCells, spotIn, partAts, firstRow, roofOf, outOfRoof}
+use Rattle.book.specs.Building.{buildingFault, outOfForm, outOfRange, outOfWalls, tooLong}
+use Rattle.book.specs.Answer.{valuesOf}
+use Rattle.book.specs.Question.{E, L1, outsideOf, zoneOn, localOn, coefficientOf, wallColumn, gableColumn, flatColumn}
+use Rattle.job.specs.Rules.{fieldFault, lower, lowest, fieldsFault}
+use Rattle.job.specs.Sections.{lineFault, both}
+use Rattle.job.specs.Walk.{walk, verdict, readLines}
+use Rattle.sheet.specs.Sheet.{reading}
+use Rattle.worst.specs.declared.Axis.the-variants.{X}
+use Rattle.worst.specs.Forces.{force}
+
+-- ---- what a row says
+
+-- a coefficient's alternatives, in thousandths; the number that a building gets; a face's force in units and in whole newtons; the number and line that a text gets
+pub data Row : Type 0 where
+  gives : Building → (direction place : ℕ) → List ℤ → Row
+  gets : Building → (number : ℕ) → Row
+  pushes : (density speed : ℕ) (net area units newtons : ℤ) → Row
+  reads : String → (number line : ℕ) → Row
+
+-- a building of that density and one face with that net coefficient: outside, where the internal coefficient is 0
+abbrev pub alone : ℕ → ℕ → ℤ → ℤ → ℤ
+alone density speed net area =
+    force X (record { density = pos density; outside = λ direction zone. net ∷ []; winds = []; internals = []; faces = [] })
+    (record { direction = 0; speed = speed }) (pos 0) (record { zone = 65; mark = both; x = area; y = pos 0; z = pos 0 }) 1
+
+-- the bytes of a quoted text
+abbrev pub bytes : String → List ℕ
+bytes none = []
+bytes (c then s) = code c ∷ bytes s
+
+abbrev pub Holds : Row → Type 0
+Holds (gives g direction place values) = valuesOf (outsideOf g (pos direction) place) ≡ values
+Holds (gets g number) = (buildingFault g ≡ number)
+Holds (pushes density speed net area units whole) =
+    (alone density speed net area ≡ units) × (newtons units ≡ whole) × (remainder units ≡ 0)
+Holds (reads text number line) = (verdict (reading (bytes text)) ≡ record { number = number; line = line })
+
+-- ---- the table
+
+-- h, a, b, the roof's kind and number, at density 1250
+abbrev pub shed : ℕ → ℕ → ℕ → ℕ → ℕ → Building
+shed h a b kind x =
+    record { h = pos h; a = pos a; b = pos b; density = pos 1250; kind = pos kind; x = pos x }
+
+abbrev pub one : ℤ → List ℤ
+one v = v ∷ []
+
+abbrev pub m : ℕ → ℤ
+m n = negℤ (pos n)
+
+abbrev pub B : ℕ
+B = 66
+
+abbrev pub C : ℕ
+C = 67
+
+abbrev pub printed : List Row
+printed =
+    gives (shed 500 1200 1000 0 0) 0 B (one (m 200))  -- P1
+    ∷ gives (shed 501 1200 1000 0 0) 0 B (one (m 250))  -- P2
+    ∷ gives (shed 500 1500 1000 0 0) 0 C (one (m 500))  -- P3
+    ∷ gives (shed 500 1501 1000 0 0) 0 C (one (m 600))  -- P4
+    ∷ gets (shed 500 1000 1000 0 0) 4  -- P5
+    ∷ gets (shed 500 4000 1000 0 0) 0  -- P6
+    ∷ gets (shed 500 4001 1000 0 0) 4
+    ∷ gets (shed 6000 1200 1000 0 0) 0  -- P7
+    ∷ gets (shed 6001 1200 1000 0 0) 4
+    ∷ gives (shed 500 1200 1000 1 123) 0 E (one (m 1016))  -- P8
+    ∷ gives (shed 500 1200 1000 1 451) 0 E (one (pos 303))  -- P9
+    ∷ gives (shed 500 1200 1000 1 150) 0 E (one (m 800))  -- P10
+    ∷ gives (shed 12000 12000 10000 4 603) 0 L1 (one (m 1499))  -- P11
+    ∷ pushes 1250 400 (pos 700) (pos 1000) (pos 140_000_000_000_000) (pos 7000)  -- P12
+    ∷ reads "" 1 1
+    ∷ reads "B 1\n500 1200 1000 1250 0 0\nW 1\n0 400\nI 1\n0\nF 25\n" 2 7
+    ∷ []
+
+pub printed-hold : Every Holds printed
+unfolding outsideOf buildingFault outOfForm outOfRange outOfWalls outOfRoof tooLong beyond zoneOn localOn roofOf coefficientOf wallColumn gableColumn flatColumn wallRow wallCells blockOf roofValue roofCells spotIn partAts firstRow spotFrom lineAt halfUp roundAway roundDown leftOver reading rows rowsOf split fieldsOf field number unsigned negative digitsInForm allDigits valueAfter value readLines walk lineFault fieldsFault lowest lower fieldFault
+printed-hold =
+    (refl, (refl, (refl, (refl, (refl, (refl, (refl, (refl, (refl, (refl, (refl, (refl, (refl, ((refl, refl, refl), (refl, (refl, tt))))))))))))))))

@@ -1,0 +1,28 @@
+-- What is asked of a contract: that it asks nothing of its caller, that it leaves no choice, and that a refused call changes nothing.
+use mathlib.Core.Path.{_≡_}
+use mathlib.Core.List.{List}
+use Prim.Native.Nat.{ℕ}
+use Rattle.text.specs.declared.page.Writing.{Writing}
+use Rattle.text.specs.declared.page.Writing.the-variants.{Length, Refused}
+
+-- Asked κ a is what a caller would have to show, as the checker reads it off the source, at the lifetimes κ and the arguments a
+abbrev pub AsksNothing : {L : Type 0} {A : L → Type 0} → ((κ : L) → A κ → Type 0) → Type 0
+AsksNothing {L} {A} Asked = (κ : L) (a : A κ) → Asked κ a
+
+module _ {L : Type 0} {A R S : L → Type 0} (Post : (κ : L) → A κ → R κ → S κ → Type 0) where
+  -- Post κ a r s is the contract, read so: at the lifetimes κ, the arguments a, the result r and the parameters at exit s
+  abbrev pub OneAnswer : Type 0
+  OneAnswer = (κ : L) (a : A κ) (r r′ : R κ) (s s′ : S κ) → Post κ a r s → Post κ a r′ s′ → r ≡ r′
+
+  -- the same where a buffer is lent; `buffer` picks what it holds at exit
+  abbrev pub OneAnswerAndBuffer : {B : Type 0} → ((κ : L) → S κ → B) → Type 0
+  OneAnswerAndBuffer buffer = (κ : L) (a : A κ) (r r′ : R κ) (s s′ : S κ) → Post κ a r s → Post κ a r′ s′ → (r ≡ r′) × (buffer κ s ≡ buffer κ s′)
+
+-- where a call is refused, what the lent buffer holds after it is what it held before; `refused` tells it by the result
+module _ {L : Type 0} {A R S : L → Type 0} (Post : (κ : L) → A κ → R κ → S κ → Type 0) where
+  abbrev pub RefusedUnchanged : ((κ : L) → R κ → Type 0) → ((κ : L) → A κ → List ℕ) → ((κ : L) → S κ → List ℕ) → Type 0
+  RefusedUnchanged refused before after = (κ : L) (a : A κ) (r : R κ) (s : S κ) → Post κ a r s → refused κ r → after κ s ≡ before κ a
+
+abbrev pub IsRefused : Writing → Type 0
+IsRefused (Length n) = ⊥
+IsRefused (Refused number line) = Unit
