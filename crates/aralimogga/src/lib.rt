@@ -32,11 +32,11 @@ pub extern "C" fn aral_read(sheet: &[u8]) -> answers::Answer
 pub extern "C" fn aral_rewrite(sheet: &[u8], out: &mut [u8]) -> answers::Text
     ensures { λ r. ⌜ (r ≡ textOf (jobWriting sheetText (reading (now (sheet .entry))) (now (out .entry)))) × (now (out .exit) ≡ jobBuffer sheetText (reading (now (sheet .entry))) (now (out .entry))) ⌝ }
 {
-    let r = sheet::read::read_sheet(sheet);
-    if r.number != 0 {
-        return answers::no_text(r.number, r.line);
+    let read = sheet::read::read_sheet(sheet);
+    if read.number != 0 {
+        return answers::no_text(read.number, read.line);
     }
-    answers::text_of(sheet::write::write_sheet(r.job, out))
+    answers::text_of(sheet::write::write_sheet(read.job, out))
 }
 
 // Its report.
@@ -56,11 +56,11 @@ pub extern "C" fn aral_report(sheet: &[u8], out: &mut [u8]) -> answers::Text
 pub extern "C" fn aral_total(sheet: &[u8], line: i64) -> answers::Extreme
     ensures { λ r. ⌜ r ≡ totalOf (reading (now (sheet .entry))) line ⌝ }
 {
-    let r = sheet::read::read_sheet(sheet);
-    if r.number != 0 {
-        return answers::no_extreme(r.number, r.line);
+    let given = sheet::read::read_sheet(sheet);
+    if given.number != 0 {
+        return answers::no_extreme(given.number, given.line);
     }
-    let w = worst::worst_cases(r.job);
+    let w = worst::worst_cases(given.job);
     answers::line_of(w.six, line)
 }
 
