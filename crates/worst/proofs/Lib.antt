@@ -16,7 +16,6 @@ pub mod Found
 pub mod Planned
 pub mod Demand
 pub mod Ranges
-pub mod Example
 pub mod Filled
 pub mod Surfaces
 pub mod Prepared

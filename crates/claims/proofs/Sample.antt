@@ -1,0 +1,48 @@
+-- The worked sheet of paper 01 and the six lines that `totals` writes for it, from bytes to bytes: the definitions compute them over every case.
+use Prim.Native.Nat.{ℕ}
+use Prim.Native.Char.{code}
+use Prim.Native.String.{String, [] as none, _∷_ as _then_, _++_ as _&_}
+use mathlib.Core.Path.{_≡_, refl}
+use mathlib.Core.List.{List, [], _∷_}
+use Rattle.whole.specs.Round.{halfUp, roundAway}
+use Rattle.text.specs.Digits.{digitsWithin, digits, decimal, allDigits, valueAfter, value}
+use Rattle.text.specs.Field.{digitsInForm, unsigned, negative, number, field}
+use Rattle.lines.specs.Lines.{split, fieldsOf, rowsOf, rows}
+use Rattle.book.specs.Line.{spotFrom, lineAt}
+use Rattle.book.specs.Walls.{wallRow, wallCells}
+use Rattle.book.specs.Gable.{blockOf}
+use Rattle.book.specs.Roof.{outOfRoof, roofOf, roofCells, partAts, firstRow, spotIn, roofValue}
+use Rattle.book.specs.Building.{buildingFault, outOfForm, outOfRange, outOfWalls, tooLong}
+use Rattle.book.specs.Question.{zoneOn, localOn, wallColumn, gableColumn, flatColumn, coefficientOf, outsideOf}
+use Rattle.book.specs.Test.{beyond}
+use Rattle.job.specs.Rules.{fieldFault, lower, lowest, fieldsFault}
+use Rattle.job.specs.Sections.{lineFault}
+use Rattle.job.specs.Walk.{walk, readLines}
+use Rattle.sheet.specs.Sheet.{reading}
+use Rattle.worst.specs.Best.{better, best}
+use Rattle.worst.specs.Cases.{numbers, each, choices, total, cases, caseTotal, worst}
+use Rattle.worst.specs.Shown.{padded, shown}
+use Rattle.worst.specs.Worst.{sixExtremes}
+use Rattle.report.specs.Lines.{spaced, lineText, axisText, sixText}
+use Rattle.report.specs.Report.{reportText, totalsText}
+
+-- the bytes of a quoted text
+abbrev bytes : String → List ℕ
+bytes none = []
+bytes (c then s) = code c ∷ bytes s
+
+abbrev sheet : String
+sheet = "B 1\n500 1200 1000 1250 2 0\nW 1\n0 400\nI 2\n20\n-30\nF 3\nA 0 1000 0 0\nB - -1000 0 0\nF 0 0 0 -2000\n"
+
+abbrev lines : String
+lines =
+    "x max 180000000000000 1 1 1 1 1\n"
+    & "x min 180000000000000 1 1 1 1 1\n"
+    & "y max 0 1 1 1 1 1\n"
+    & "y min 0 1 1 1 1 1\n"
+    & "z max 160000000000000 1 1 1 1 2\n"
+    & "z min -200000000000000 1 2 1 1 1\n"
+
+pub sample : totalsText (reading (bytes sheet)) ≡ bytes lines
+unfolding halfUp roundAway digitsWithin digits decimal allDigits valueAfter value digitsInForm unsigned negative number field split fieldsOf rowsOf rows spotFrom lineAt wallRow wallCells blockOf outOfRoof roofOf roofCells partAts firstRow spotIn roofValue buildingFault outOfForm outOfRange outOfWalls tooLong zoneOn localOn wallColumn gableColumn flatColumn coefficientOf outsideOf beyond fieldFault lower lowest fieldsFault lineFault walk readLines reading better best numbers each choices total cases caseTotal worst padded shown sixExtremes spaced lineText axisText sixText reportText
+sample = refl
