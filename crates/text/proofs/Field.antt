@@ -1,8 +1,8 @@
 -- Laws of a field: what each way through the code finds, and that a number of at most 7 digits, written, is read as itself.
-use Prim.Native.Nat.{ℕ, suc, _+_, _-_, _*_, _^_, _≤_, _<_}
+use Prim.Native.Nat.{ℕ, zero, suc, _+_, _-_, _*_, _^_, _≤_, _<_}
 use mathlib.Core.Path.{_≡_, refl, ap, _∙_, sym}
-use mathlib.Core.Bool.{true, false, not, _&&_}
-use mathlib.Core.List.{List, _∷_}
+use mathlib.Core.Bool.{true, false, cond, not, _&&_}
+use mathlib.Core.List.{List, [], _∷_}
 use native.Mathlib.Nat.{pow-suc, pow-le-pow-right}
 use native.Mathlib.Numerals.{add-one}
 use native.Mathlib.Omega.{arith}
@@ -10,8 +10,9 @@ use lib.Dec.{ltb, leb, eqb, lit<}
 use lib.IntN.{pos, negsuc}
 use lib.ListN.{length, getD, drop, drop-of-length-le, List·getD-eq-default}
 use lib.Seq.{drop-cons}
-use borrow.Author.Tests.{le-leb, lt-leb, le-ltb, lt-ltb, eq-eqb, ne-eqb, leb-true, ltb-true, ltb-false, eqb-true, eqb-false, not-true}
+use borrow.Author.Tests.{le-leb, lt-leb, le-ltb, lt-ltb, eq-eqb, ne-eqb, leb-true, eqb-true, eqb-false, not-true}
 use Rattle.whole.proofs.Tests.{by-test, and-true}
+use Rattle.text.specs.declared.form.Field.{Field}
 use Rattle.text.specs.declared.form.Field.the-variants.{Bad, Plus, Minus, Letter, Dash}
 use Rattle.text.specs.Digits.{digits, decimal, isDigit, allDigits, valueAfter, value}
 use Rattle.text.specs.Field.{first, leadingZero, digitsInForm, unsigned, negative, number, field}
@@ -19,46 +20,28 @@ use Rattle.text.proofs.Digits.{Begins, digits-all, digits-begin, digits
 
 -- ---- digit by digit, from a place on
 
-module _ (s : List ℕ) (i : ℕ) where
-  all-step : i < length s → allDigits (drop i s) ≡ (isDigit (getD s i 0) && allDigits (drop (i + 1) s))
-  unfolding allDigits
-  all-step h = rw (add-one, drop-cons s i 0)
+-- digits after those that stood for v, read as a number
+abbrev pub readAfter : ℕ → List ℕ → Field
+readAfter v ds = cond (allDigits ds) (Plus (valueAfter v ds)) Bad
 
-  pub all-low : i < length s → getD s i 0 < 48 → allDigits (drop i s) ≡ false
-  all-low h lo = all-step h ∙ rw (lt-leb _ _ lo)
+module _ (s : List ℕ) (i v : ℕ) where
+  module _ (h : i < length s) where
+    read-step : readAfter v (drop i s) ≡ cond (isDigit (getD s i 0) && allDigits (drop (i + 1) s)) (Plus (valueAfter (v * 10 + (getD s i 0 - 48)) (drop (i + 1) s))) Bad
+    unfolding allDigits valueAfter
+    read-step = rw (add-one, drop-cons s i 0)
 
-  pub all-high : i < length s → 48 ≤ getD s i 0 → 57 < getD s i 0 → allDigits (drop i s) ≡ false
-  all-high h lo hi = all-step h ∙ rw (le-leb _ _ lo, lt-leb _ _ hi)
+    pub read-low : getD s i 0 < 48 → readAfter v (drop i s) ≡ Bad
+    read-low lo = read-step ∙ rw (lt-leb _ _ lo)
 
-  pub all-next : i < length s → 48 ≤ getD s i 0 → getD s i 0 ≤ 57 → allDigits (drop i s) ≡ allDigits (drop (i + 1) s)
-  all-next h lo hi = all-step h ∙ rw (le-leb _ _ lo, le-leb _ _ hi)
+    pub read-high : 48 ≤ getD s i 0 → 57 < getD s i 0 → readAfter v (drop i s) ≡ Bad
+    read-high lo hi = read-step ∙ rw (le-leb _ _ lo, lt-leb _ _ hi)
 
-  pub all-end : length s ≤ i → allDigits (drop i s) ≡ true
-  unfolding allDigits
-  all-end h = rw (drop-of-length-le s h)
+    pub read-next : 48 ≤ getD s i 0 → getD s i 0 ≤ 57 → readAfter v (drop i s) ≡ readAfter (v * 10 + (getD s i 0 - 48)) (drop (i + 1) s)
+    read-next lo hi = read-step ∙ rw (le-leb _ _ lo, le-leb _ _ hi)
 
-  -- of digits only, the first is one, and so are the others
-  module _ (h : i < length s) (a : allDigits (drop i s) ≡ true) where
-    here : (isDigit (getD s i 0) ≡ true) × (allDigits (drop (i + 1) s) ≡ true)
-    here = and-true (isDigit (getD s i 0)) (allDigits (drop (i + 1) s)) (sym (all-step h) ∙ a)
-
-    pub digit-low : 48 ≤ getD s i 0
-    digit-low = leb-true 48 (getD s i 0) (and-true (leb 48 (getD s i 0)) (leb (getD s i 0) 57) (here .0) .0)
-
-    pub digit-high : getD s i 0 ≤ 57
-    digit-high = leb-true (getD s i 0) 57 (and-true (leb 48 (getD s i 0)) (leb (getD s i 0) 57) (here .0) .1)
-
-    pub digits-on : allDigits (drop (i + 1) s) ≡ true
-    digits-on = here .1
-
-  module _ (v : ℕ) where
-    pub value-next : i < length s → valueAfter v (drop i s) ≡ valueAfter (v * 10 + (getD s i 0 - 48)) (drop (i + 1) s)
-    unfolding valueAfter
-    value-next h = rw (add-one, drop-cons s i 0)
-
-    pub value-end : length s ≤ i → valueAfter v (drop i s) ≡ v
-    unfolding valueAfter
-    value-end h = rw (drop-of-length-le s h)
+  pub read-end : length s ≤ i → readAfter v (drop i s) ≡ Plus v
+  unfolding allDigits valueAfter
+  read-end h = rw (drop-of-length-le s h)
 
 -- one digit more stays below the next power of ten, and behind six there is room for another
 pub value-grows : (v i d : ℕ) → v < 10 ^ i → d < 10 → v * 10 + d < 10 ^ (i + 1)
@@ -106,13 +89,16 @@ module _ (ds : List ℕ) where
     pub form-led : 1 < length ds → first ds ≡ 48 → digitsInForm ds ≡ false
     form-led h z = form-is ∙ rw (lt-ltb 1 (length ds) h, eq-eqb (first ds) 48 z)
 
-    pub form-many : 1 < length ds → (first ds ≡ 48 → ⊥) → digitsInForm ds ≡ allDigits ds
-    form-many h z = form-is ∙ rw (lt-ltb 1 (length ds) h, ne-eqb (first ds) 48 z)
-
-    pub form-one : length ds ≤ 1 → digitsInForm ds ≡ allDigits ds
-    form-one h = form-is ∙ rw (le-ltb 1 (length ds) h)
+    pub form-plain : (first ds ≡ 48 → ⊥) → digitsInForm ds ≡ allDigits ds
+    form-plain z = form-is ∙ by-test (ltb 1 (length ds)) (λ t. rw (t, ne-eqb (first ds) 48 z)) (λ t. rw t)
 
 -- ---- a number, and a field, as the code tells them apart
+
+pub unsigned-zero : (s : List ℕ) → (length s ≡ 0 → ⊥) → length s ≤ 1 → first s ≡ 48 → Plus 0 ≡ unsigned s
+unfolding unsigned digitsInForm allDigits value valueAfter
+unsigned-zero [] some short z = absurd (some refl)
+unsigned-zero (d ∷ []) some short z = rw z
+unsigned-zero (d ∷ x ∷ s) some short z = absurd (omega arith)
 
 module _ (s : List ℕ) where
   pub unsigned-yes : digitsInForm s ≡ true → Plus (value s) ≡ unsigned s
@@ -122,6 +108,17 @@ module _ (s : List ℕ) where
   pub unsigned-no : digitsInForm s ≡ false → Bad ≡ unsigned s
   unfolding unsigned
   unsigned-no t = rw t
+
+  -- what is read as a number is in form
+  pub unsigned-form : (v : ℕ) → unsigned s ≡ Plus v → (digitsInForm s ≡ true) × (value s ≡ v)
+  unsigned-form v e =
+      by-test (digitsInForm s)
+      (λ t. (t, cc (unsigned-yes t)))
+      (λ t. let z : _≡_ {A = ℕ} 0 1 = cc (unsigned-no t) in absurd (omega arith))
+
+  pub unsigned-plain : (length s ≡ 0 → ⊥) → length s ≤ 7 → (first s ≡ 48 → ⊥) → cond (allDigits s) (Plus (value s)) Bad ≡ unsigned s
+  unfolding unsigned
+  unsigned-plain some short z = rw (form-plain s some short z)
 
   pub negative-yes : digitsInForm s ≡ true → (value s ≡ 0 → ⊥) → Minus (value s) ≡ negative s
   unfolding negative
@@ -178,15 +175,12 @@ begins-first : (l : List ℕ) (low : ℕ) → Begins l low → (low ≤ first l)
 begins-first l low b = rw (b .is) (b .least, b .most)
 
 digits-form : (n : ℕ) → n < 10 ^ 7 → digitsInForm (digits n) ≡ true
-digits-form n h =
-    let some = begins-some (digits n) 48 (digits-begin n) in
-    let short = digits-length 6 n h in
-    by-test (ltb n 10)
-    (λ t. form-one (digits n) (λ e. omega arith) short (digits-length 0 n (ltb-true n 10 t)) ∙ digits-all n)
-    (λ t. by-test (ltb 1 (length (digits n)))
-    (λ u. form-many (digits n) (λ e. omega arith) short (ltb-true 1 (length (digits n)) u)
-    (λ e. omega (arith, begins-first (digits n) 49 (digits-lead n (omega (arith, ltb-false n 10 t))) .0)) ∙ digits-all n)
-    (λ u. form-one (digits n) (λ e. omega arith) short (ltb-false 1 (length (digits n)) u) ∙ digits-all n))
+unfolding digitsInForm allDigits digits
+digits-form zero h = refl
+digits-form (suc k) h =
+    let b = digits-lead (suc k) (omega arith) in
+    let some = begins-some (digits (suc k)) 49 b in
+    form-plain (digits (suc k)) (λ e. omega arith) (digits-length 6 (suc k) h) (λ e. omega (arith, begins-first (digits (suc k)) 49 b .0)) ∙ digits-all (suc k)
 
 pub field-digits : (n : ℕ) → n < 10 ^ 7 → field (digits n) ≡ Plus n
 field-digits n h =

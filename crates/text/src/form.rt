@@ -1,8 +1,10 @@
 // A field of the sheet: a dash, a capital letter, or a number.
 ghost use mathlib.Core.Path.{_≡_};
-ghost use mathlib.Core.Bool.{true};
+ghost use mathlib.Core.Bool.{cond};
+ghost use Prim.Native.Nat.{_≤_};
+ghost use lib.ListN.{length};
 ghost use Rattle.text.specs.Digits.{allDigits, value};
-ghost use Rattle.text.specs.Field.{digitsInForm, unsigned, negative, number, field};
+ghost use Rattle.text.specs.Field.{unsigned, negative, number, field};
 
 // What a field says. Minus holds no 0. Bad is out of form.
 pub enum Field {
@@ -13,75 +15,58 @@ pub enum Field {
     Dash,
 }
 
-fn all_digits(s: &[u8]) -> bool
-    ensures { λ r. ⌜ r ≡ allDigits (now (s .entry)) ⌝ }
-{
-    let mut i = 0;
-    while i < s.len() {
-        let d = s[i];
-        if d < 48 {
-            return false;
-        }
-        if 57 < d {
-            return false;
-        }
-        i += 1;
-    }
-    true
-}
-
-// The digits of a number: one to seven, no 0 before another.
-fn in_form(s: &[u8]) -> bool
-    ensures { λ r. ⌜ r ≡ digitsInForm (now (s .entry)) ⌝ }
-{
-    if s.len() == 0 {
-        return false;
-    }
-    if 7 < s.len() {
-        return false;
-    }
-    if 1 < s.len() {
-        if s[0] == 48 {
-            return false;
-        }
-        return all_digits(s);
-    }
-    all_digits(s)
-}
-
 fn wide(x: u8) -> u32
     ensures { λ r. ⌜ r ≡ x ⌝ }
 {
     x as u32
 }
 
-fn value_of(s: &[u8]) -> u32
-    requires { ⌜ digitsInForm (now s) ≡ true ⌝ }
-    ensures { λ r. ⌜ r ≡ value (now (s .entry)) ⌝ }
+// The number that at most seven digits stand for, or Bad where a byte is no digit.
+fn digits_of(s: &[u8]) -> Field
+    requires { ⌜ length (now s) ≤ 7 ⌝ }
+    ensures { λ r. ⌜ r ≡ cond (allDigits (now (s .entry))) (Field.Plus (value (now (s .entry)))) Field.Bad ⌝ }
 {
     let mut v: u32 = 0;
     let mut i = 0;
     while i < s.len() {
-        v = v * 10 + wide(s[i] - 48);
+        let d = s[i];
+        if d < 48 {
+            return Field::Bad;
+        }
+        if 57 < d {
+            return Field::Bad;
+        }
+        v = v * 10 + wide(d - 48);
         i += 1;
     }
-    v
+    Field::Plus(v)
 }
 
+// Digits of a number: one to seven, no 0 before another.
 fn unsigned_of(s: &[u8]) -> Field
     ensures { λ r. ⌜ r ≡ unsigned (now (s .entry)) ⌝ }
 {
-    if in_form(s) {
-        return Field::Plus(value_of(s));
+    if s.len() == 0 {
+        return Field::Bad;
     }
-    Field::Bad
+    if 7 < s.len() {
+        return Field::Bad;
+    }
+    if s[0] == 48 {
+        if 1 < s.len() {
+            return Field::Bad;
+        }
+        return Field::Plus(0);
+    }
+    digits_of(s)
 }
 
+// What follows a minus sign: such digits, but not 0 alone.
 fn negative_of(s: &[u8]) -> Field
     ensures { λ r. ⌜ r ≡ negative (now (s .entry)) ⌝ }
 {
-    if in_form(s) {
-        let v = value_of(s);
+    let f = unsigned_of(s);
+    if let Field::Plus(v) = f {
         if v == 0 {
             return Field::Bad;
         }

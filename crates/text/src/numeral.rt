@@ -5,14 +5,24 @@ ghost use Rattle.text.specs.Digits.{digits, decimal};
 ghost use Rattle.text.specs.Writing.{Put, writing, bufferAfter};
 
 // The digits of n, most significant first: those of a tenth of it, and then the last.
+fn put_long(buf: &mut [u8], at: usize, n: u64) -> usize
+    ensures { λ r. ⌜ Put (now (buf .entry)) at (digits n) (now (buf .exit)) r ⌝ }
+{
+    if n < 10 {
+        return crate::page::put_byte(buf, at, 48 + (n as u8));
+    }
+    let end = put_long(buf, at, n / 10);
+    crate::page::put_byte(buf, end, 48 + ((n % 10) as u8))
+}
+
+// The same. One digit is put here, without the recursion, so that a caller takes it inline.
 pub fn put_natural(buf: &mut [u8], at: usize, n: u64) -> usize
     ensures { λ r. ⌜ Put (now (buf .entry)) at (digits n) (now (buf .exit)) r ⌝ }
 {
     if n < 10 {
         return crate::page::put_byte(buf, at, 48 + (n as u8));
     }
-    let end = put_natural(buf, at, n / 10);
-    crate::page::put_byte(buf, end, 48 + ((n % 10) as u8))
+    put_long(buf, at, n)
 }
 
 pub fn put_decimal(buf: &mut [u8], at: usize, z: i64) -> usize

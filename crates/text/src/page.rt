@@ -52,5 +52,11 @@ fn emit_all(text: &[u8], buf: &mut [u8]) -> Writing
     if buf.len() < text.len() {
         return Writing::Refused(7, 0);
     }
-    Writing::Length(put_bytes(buf, 0, text))
+    let n = text.len();
+    let mut i = 0;
+    while i < n {
+        buf[i] = text[i];
+        i += 1;
+    }
+    Writing::Length(n)
 }

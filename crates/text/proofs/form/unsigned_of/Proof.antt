@@ -1,24 +1,46 @@
--- `unsigned_of` meets its contract.
-use mathlib.Core.Path.{sym, ap, _∙_}
-use Rattle.text.specs.declared.form.Field.the-variants.{Plus}
-use Rattle.text.proofs.Field.{unsigned-yes, unsigned-no}
+-- `unsigned_of` meets its contract: each test is one of the definition's.
+use mathlib.Core.Path.{_∙_}
+use Rattle.text.proofs.Field.{form-none, form-long, form-led, unsigned-no, unsigned-zero, unsigned-plain}
 use borrow.Author.Needs.{needs}
 use Rattle.text.proofs.form.unsigned_of.Statement.{statement}
 use Rattle.text.proofs.form.unsigned_of.Tie as tie
 
-in-form-requires : tie.Need-in-form-requires
-in-form-requires c κs = search needs
-
-value-of-requires : tie.Need-value-of-requires
-value-of-requires c κs = sym (c .before .in-form .ensures) ∙ c .if1 .taken
-
 returns : tie.Need-returns
-returns c =
-    let t = c .before in
-    ap Plus (c .value-of .ensures) ∙ unsigned-yes _ (sym (t .before .in-form .ensures) ∙ t .if1 .taken)
+returns c = unsigned-no _ (form-none _ (c .if1 .taken))
 
 returns-2 : tie.Need-returns-2
-returns-2 c = unsigned-no _ (sym (c .before .in-form .ensures) ∙ c .if1 .left)
+returns-2 c = unsigned-no _ (form-long _ (c .if2 .taken))
+
+shared-slice-read-if3 : tie.Need-shared-slice-read-if3
+shared-slice-read-if3 c = search needs
+
+returns-3 : tie.Need-returns-3
+returns-3 c =
+    let z = c .before in
+    let l = z .before .before in
+    unsigned-no _ (form-led _ (l .before .if1 .left) (l .if2 .left) (c .if4 .taken) (z .if3 .taken))
+
+returns-4 : tie.Need-returns-4
+returns-4 c =
+    let z = c .before in
+    unsigned-zero _ (z .before .before .before .if1 .left) (c .if4 .left) (z .if3 .taken)
+
+digits-of-requires : tie.Need-digits-of-requires
+digits-of-requires c κs = search needs
+
+returns-5 : tie.Need-returns-5
+returns-5 c =
+    let l = c .before .before .before in
+    c .digits-of .ensures ∙ unsigned-plain _ (l .before .if1 .left) (l .if2 .left) (c .before .if3 .left)
 
 pub unsigned-of-spec : {M : Type 1} → statement M
-unsigned-of-spec = tie.close (tie.spec in-form-requires value-of-requires returns returns-2)
+unsigned-of-spec =
+    tie.close
+    (tie.spec
+    returns
+    returns-2
+    shared-slice-read-if3
+    returns-3
+    returns-4
+    digits-of-requires
+    returns-5)

@@ -1,26 +1,70 @@
--- `emit_all` meets its contract: where there is room, all of the text is put.
+-- `emit_all` meets its contract: after i turns the first i bytes are put.
+use Prim.Native.Nat.{_≤_, _-_}
+use mathlib.Core.Path.{refl}
+use native.Mathlib.Omega.{arith}
+use denote.Ref.{now}
+use lib.ListN.{length, take}
+use lib.Seq.{take-all}
 use borrow.Author.Tests.{lt-leb, le-leb}
-use mathlib.Core.Path.{ap}
-use Rattle.text.specs.declared.page.Writing.the-variants.{Length}
-use Rattle.text.proofs.Writing.{put-ends, put-start}
+use Rattle.text.specs.Writing.{Put}
+use Rattle.text.proofs.Writing.{put-length, put-nothing, put-more, put-start}
 use borrow.Author.Needs.{needs}
 use Rattle.text.proofs.page.emit_all.Statement.{statement}
 use Rattle.text.proofs.page.emit_all.Tie as tie
 
-returns : tie.Need-returns
+abbrev Inv-loop : tie.InvT-loop
+Inv-loop text buf₀ n i₀ buf i = (i ≤ n) × Put buf₀ 0 (take i text) buf i
+
+abbrev μ-loop : tie.MeasureT-loop
+μ-loop text buf₀ n i₀ buf i = n - i
+
+returns : tie.Need-returns Inv-loop μ-loop
 returns c = (simp (lt-leb _ _ (c .if1 .taken)), simp (lt-leb _ _ (c .if1 .taken)))
 
-put-bytes-requires : tie.Need-put-bytes-requires
-put-bytes-requires c κs = search needs
+loop-holds : tie.Need-loop-holds Inv-loop μ-loop
+loop-holds c = (search needs, put-nothing (c .before .args .buf .now) 0 (search needs))
 
-same-length : tie.Need-same-length
-same-length c = search needs
+shared-slice-read-buf : tie.Need-shared-slice-read-buf Inv-loop μ-loop
+shared-slice-read-buf c = search needs
 
-returns-2 : tie.Need-returns-2
+slice-write-buf : tie.Need-slice-write-buf Inv-loop μ-loop
+slice-write-buf c = let l = c .before .before in omega (arith, put-length (l .loop .inv .1))
+
+add-i : tie.Need-add-i Inv-loop μ-loop
+add-i c = search needs
+
+loop-less : tie.Need-loop-less Inv-loop μ-loop
+loop-less c = search needs
+
+loop-again : tie.Need-loop-again Inv-loop μ-loop
+loop-again c =
+    let l = c .before .before in
+    let e = put-length (l .loop .inv .1) in
+    (search needs, put-more (l .before .before .args .text .now) (l .loop .i) (search needs) (l .loop .inv .1) (record { end = omega arith; bytes = refl }))
+
+same-length : tie.Need-same-length Inv-loop μ-loop
+same-length c = put-length (c .before .loop .inv .1)
+
+returns-2 : tie.Need-returns-2 Inv-loop μ-loop
 returns-2 c =
-    let p = c .before .before in
-    let h = p .before .before .if1 .left in
-    (simp (le-leb _ _ h) (ap Length (put-ends (p .put-bytes .ensures) h)), simp (le-leb _ _ h) (put-start (p .put-bytes .ensures) h))
+    let l = c .before in
+    let e = l .before in
+    let t = e .before .args .text .now in
+    let w : Put (e .before .args .buf .now) 0 t (l .loop .buf) (l .loop .i) = rw (take-all (l .loop .i) t (c .loop-test .left)) at (l .loop .inv .1) in
+    (simp (le-leb _ _ (e .if1 .left)), simp (le-leb _ _ (e .if1 .left)) (put-start w (e .if1 .left)))
 
 pub emit-all-spec : {M : Type 1} → statement M
-emit-all-spec = tie.close (tie.spec returns put-bytes-requires same-length returns-2)
+emit-all-spec =
+    tie.close
+    (tie.spec
+    Inv-loop
+    μ-loop
+    returns
+    loop-holds
+    shared-slice-read-buf
+    slice-write-buf
+    add-i
+    loop-less
+    loop-again
+    same-length
+    returns-2)

@@ -1,4 +1,4 @@
--- `put_natural` meets its contract. The measure is n, which falls at n / 10.
+-- `put_long` meets its contract. The measure is n, which falls at n / 10.
 use Prim.Native.Nat.{ℕ, _<_}
 use native.Mathlib.Omega.{arith}
 use borrow.Author.Needs.{needs}
@@ -6,12 +6,12 @@ use borrow.Fn.Kinds.{In}
 use borrow.Fn.PlainCycle.{Measures, is, falls, and}
 use Rattle.text.proofs.Digits.{digits-small, digits-more}
 use Rattle.text.proofs.Writing.{then}
-use Rattle.text.proofs.numeral.put_natural.Reads as f
-use Rattle.text.proofs.numeral.put_natural.Kinds as f-kinds
-use Rattle.text.proofs.numeral.+put_natural.Lts-put_natural as lts
+use Rattle.text.proofs.numeral.put_long.Reads as f
+use Rattle.text.proofs.numeral.put_long.Kinds as f-kinds
+use Rattle.text.proofs.numeral.+put_long.Lts-put_long as lts
 use Rattle.text.proofs.page.put_byte.Reads as put-byte
-use Rattle.text.proofs.numeral.+put_natural.{statement}
-use Rattle.text.proofs.numeral.+put_natural.Tie.{close}
+use Rattle.text.proofs.numeral.+put_long.{statement}
+use Rattle.text.proofs.numeral.+put_long.Tie.{close}
 
 abbrev μ : Measures 1 f-kinds.ps ℕ
 μ κs a = a .1 .1 .0
@@ -41,8 +41,8 @@ module _ (t : ℕ) where
       let b = p .before .before in
       rw (digits-small (b .before .before .args .n) (b .if1 .taken)) (p .put-byte .ensures)
 
-  put-natural-requires : lts.Need-put-natural-requires (put-byte.Asked, put-byte.Learnt, below t, f.Post) (at-t t) f.Post
-  put-natural-requires c κs = (omega arith, tt)
+  put-long-requires : lts.Need-put-long-requires (put-byte.Asked, put-byte.Learnt, below t, f.Post) (at-t t) f.Post
+  put-long-requires c κs = (omega arith, tt)
 
   cast-put-byte-2 : lts.Need-cast-put-byte-2 (put-byte.Asked, put-byte.Learnt, below t, f.Post) (at-t t) f.Post
   cast-put-byte-2 c = search needs
@@ -61,9 +61,9 @@ module _ (t : ℕ) where
       let p = c .before .before in
       let g = p .before .before .before .before in
       let b = g .before .before in
-      rw (digits-more (b .before .before .args .n) (b .if1 .left)) (then (g .put-natural .ensures) (p .put-byte2 .ensures))
+      rw (digits-more (b .before .before .args .n) (b .if1 .left)) (then (g .put-long .ensures) (p .put-byte2 .ensures))
 
-pub +put-natural-spec : {M : Type 1} → statement M
-+put-natural-spec =
+pub +put-long-spec : {M : Type 1} → statement M
++put-long-spec =
     close μ
-    (λ t. lts.spec (put-byte.Asked, put-byte.Learnt, below t, f.Post) (at-t t) f.Post (cast-put-byte t) (add-put-byte t) (put-byte-requires t) (same-length t) (returns t) (put-natural-requires t) (cast-put-byte-2 t) (add-put-byte-2 t) (put-byte-requires-2 t) (same-length-2 t) (returns-2 t))
+    (λ t. lts.spec (put-byte.Asked, put-byte.Learnt, below t, f.Post) (at-t t) f.Post (cast-put-byte t) (add-put-byte t) (put-byte-requires t) (same-length t) (returns t) (put-long-requires t) (cast-put-byte-2 t) (add-put-byte-2 t) (put-byte-requires-2 t) (same-length-2 t) (returns-2 t))
