@@ -3,6 +3,7 @@ pub mod Parts
 pub mod Order
 pub mod Size
 pub mod Rounding
+pub mod Nearest
 pub mod Newtons
 pub mod Tests
 pub mod Table
