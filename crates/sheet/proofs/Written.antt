@@ -4,9 +4,10 @@ use mathlib.Core.Path.{_≡_, refl}
 use mathlib.Core.List.{List}
 use native.Mathlib.Omega.{arith}
 use lib.ListN.{length, take}
+use Rattle.text.specs.declared.page.Writing.{Writing}
 use Rattle.text.specs.declared.page.Writing.the-variants as written
 use Rattle.text.specs.Writing.{Put, writing, bufferAfter}
-use Rattle.text.proofs.Writing.{put-whole}
+use Rattle.text.proofs.Writing.{emitted}
 use Rattle.job.specs.declared.Job.{Job}
 use Rattle.job.specs.declared.Verdict.{Verdict}
 use Rattle.job.specs.Carried.{carried}
@@ -35,10 +36,9 @@ module _ (j : Job) (v : Verdict) (e : v ≡ verdict (judged j)) where
         let o = accepted-in-order (linesOf (carried j)) (carried j) judged-is in
         record { winds = o .winds-counted .high; internals = o .internals-counted .high; faces = o .faces-counted .high }
 
-    -- the text on a page that has room for the longest
+    -- the text on a page that has room for the longest, put into a buffer
     module _ {l page : List ℕ} {n : ℕ} (w : Put l 0 (sheetText (carried j)) page n) (room : length l ≡ 827) where
-      page-text : take n page ≡ sheetText (carried j)
-      page-text = put-whole w (omega (arith, longest-sheet (sheetText (carried j)) (carried j) (written-read j (carried j) judged-is)))
-
-      pub job-written : (buf : List ℕ) → (writing (take n page) buf ≡ jobWriting sheetText (judged j) buf) × (bufferAfter (take n page) buf ≡ jobBuffer sheetText (judged j) buf)
-      job-written buf = rw (judged-is, page-text) (refl, refl)
+      pub job-written : {o : Writing} {after : List ℕ} (buf : List ℕ) → (o ≡ writing (take n page) buf) × (after ≡ bufferAfter (take n page) buf)
+          → (o ≡ jobWriting sheetText (judged j) buf) × (after ≡ jobBuffer sheetText (judged j) buf)
+      job-written buf e =
+          rw judged-is (emitted w (omega (arith, longest-sheet (sheetText (carried j)) (carried j) (written-read j (carried j) judged-is))) buf e)

@@ -1,4 +1,4 @@
--- Laws of texts put into a buffer: one after another is both at once, whether or not there is room; and a text that finds room stands there whole.
+-- Laws of texts put into a buffer: one after another is both at once, whether or not there is room; and a text that finds room stands there whole, to be put into another.
 use mathlib.Core.Path.{_≡_, refl, sym, ap, _∙_}
 use mathlib.Core.List.{List, [], _∷_, _++_}
 use Prim.Native.Nat.{ℕ, suc, _+_, _≤_, _<_, min}
@@ -10,7 +10,8 @@ use lib.ListN.{length, take, drop, set, getD, length-append}
 use lib.Seq.{sets, sets-eq, set-out, take-at, take-suc, length-sets}
 use borrow.Author.Tests.{leb-true, leb-false}
 use Rattle.whole.proofs.Tests.{by-test}
-use Rattle.text.specs.Writing.{Put}
+use Rattle.text.specs.declared.page.Writing.{Writing}
+use Rattle.text.specs.Writing.{Put, writing, bufferAfter}
 
 -- ---- runs of stores
 
@@ -72,3 +73,8 @@ module _ {l m : List ℕ} {r : ℕ} {s : List ℕ} (w : Put l 0 s m r) (h : leng
   -- the text itself, taken as far as it was written
   pub put-whole : take r m ≡ s
   put-whole = ap (take r) put-start ∙ take-at s (drop (length s) l) r (sym put-ends)
+
+  -- and what comes of it there, put into a buffer, is what comes of the text
+  pub emitted : {o : Writing} {after : List ℕ} (buf : List ℕ) → (o ≡ writing (take r m) buf) × (after ≡ bufferAfter (take r m) buf)
+      → (o ≡ writing s buf) × (after ≡ bufferAfter s buf)
+  emitted buf e = rw put-whole at e

@@ -1,19 +1,9 @@
 -- `write_refused` meets its contract: 30 bytes hold any two numbers, so `emit` is handed the whole text.
-use Prim.Native.Nat.{ℕ}
-use mathlib.Core.Path.{_≡_, ap, _∙_}
-use mathlib.Core.List.{List}
 use denote.Ref.{now}
-use lib.ListN.{take}
-use Rattle.text.specs.Writing.{writing, bufferAfter}
-use Rattle.text.proofs.Writing.{put-whole}
-use Rattle.report.specs.Report.{refusedText}
+use Rattle.text.proofs.Writing.{emitted}
 use borrow.Author.Needs.{needs}
 use Rattle.report.proofs.refusal.write_refused.Statement.{statement}
 use Rattle.report.proofs.refusal.write_refused.Tie as tie
-
--- what the array holds, taken as far as it was written
-text : (c : tie.After-put-refused) → take (c .put-refused .result) (c .put-refused .last .0) ≡ refusedText (c .before .before .before .args .number) (c .before .before .before .args .line)
-text c = put-whole (c .put-refused .ensures .0) (c .put-refused .ensures .1)
 
 slice-aggregate-put-refused : tie.Need-slice-aggregate-put-refused
 slice-aggregate-put-refused c = search needs
@@ -32,10 +22,9 @@ same-length c = search needs
 
 returns : tie.Need-returns
 returns c =
-    let e = c .before .before .emit .ensures in
-    let p = c .before .before .before .before .before .before in
-    let b = now (p .before .before .before .args .buf) in
-    (e .0 ∙ ap (λ (l : List ℕ). writing l b) (text p), e .1 ∙ ap (λ (l : List ℕ). bufferAfter l b) (text p))
+    let e = c .before .before in
+    let p = e .before .before .before .before in
+    emitted (p .put-refused .ensures .0) (p .put-refused .ensures .1) (now (p .before .before .before .args .buf)) (e .emit .ensures)
 
 pub write-refused-spec : {M : Type 1} → statement M
 write-refused-spec =

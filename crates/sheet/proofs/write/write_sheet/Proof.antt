@@ -1,5 +1,5 @@
 -- `write_sheet` meets its contract.
-use mathlib.Core.Path.{refl, _∙_}
+use mathlib.Core.Path.{refl}
 use Rattle.sheet.proofs.Written.{job-refused, job-roomed, job-written}
 use borrow.Author.Needs.{needs}
 use Rattle.sheet.proofs.write.write_sheet.Statement.{statement}
@@ -40,8 +40,7 @@ returns-2 c =
     let e = p .before .before in
     let v = e .before .before in
     let s = v .before .before in
-    let t = job-written (s .args .j) (v .judge .result) (v .judge .ensures) (e .if1 .left) (p .put-sheet .ensures) refl (s .args .buf .now) in
-    (m .emit .ensures .0 ∙ t .0, m .emit .ensures .1 ∙ t .1)
+    job-written (s .args .j) (v .judge .result) (v .judge .ensures) (e .if1 .left) (p .put-sheet .ensures) refl (s .args .buf .now) (m .emit .ensures)
 
 pub write-sheet-spec : {M : Type 1} → statement M
 write-sheet-spec =
