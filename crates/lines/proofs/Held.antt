@@ -1,79 +1,20 @@
 -- Laws of a line that is held: what `line_at` gives at a place, against the rows of the text from there on.
-use Prim.Native.Nat.{ℕ, suc, _+_, _-_, _≤_, _<_, min}
+use Prim.Native.Nat.{ℕ, suc, _+_, _≤_, _<_, min}
 use mathlib.Core.Path.{_≡_, refl, ap, _∙_, sym}
-use mathlib.Core.Bool.{cond}
 use mathlib.Core.List.{List, [], _∷_, map}
-use native.Mathlib.Nat.{zero-add}
-use native.Mathlib.Numerals.{add-one}
 use native.Mathlib.Omega.{arith}
 use lib.Dec.{ltb, leb}
-use lib.ListN.{length, getD, take, drop, set, length-drop, length-map, length-take, List·getD-eq-default, List·getD-map}
-use lib.Seq.{sets, sets-eq, drop-drop, take-all, take-at, length-take-le, getD-take}
+use lib.ListN.{length, getD, take, drop, length-drop, length-map, length-take, List·getD-eq-default, List·getD-map}
+use lib.Seq.{sets-eq, drop-drop, take-at, length-take-le, getD-take}
 use borrow.Author.Tests.{le-leb, lt-leb, ltb-true, ltb-false, leb-true, leb-false}
 use Rattle.whole.proofs.Tests.{by-test}
 use Rattle.text.specs.declared.form.Field.{Field}
 use Rattle.text.specs.declared.form.Field.the-variants.{Bad}
 use Rattle.lines.specs.declared.row.Slot.{Slot}
 use Rattle.lines.specs.declared.row.Line.{Line}
-use Rattle.text.specs.Field.{field}
 use Rattle.lines.specs.Lines.{fieldsOf, rows}
 use Rattle.lines.specs.Held.{slot, blank, noLine, lineOf, firstLine, lineAt, held, until}
 use Rattle.lines.proofs.Lines.{Free, until-le, split-until, split-more, split-last, rows-more, rows-none, rows-open}
-
--- ---- the six places filled one after the other
-
--- the line that comes of k fields in their places, and more
-unfoldable pub lineFrom : ℕ → ℕ → List Slot → List Field → Line
-lineFrom next k v fs =
-    cond (leb (k + length fs) 6) (record { count = k + length fs; next = next; fields = sets v k (map slot fs) }) noLine
-
-pub from-start : (next : ℕ) (fs : List Field) → lineOf next fs ≡ lineFrom next 0 blank fs
-unfolding lineOf lineFrom
-from-start next fs = rw zero-add
-
-module _ (next k : ℕ) (v : List Slot) (f : Field) where
-  pub from-more : (fs : List Field) → lineFrom next k v (f ∷ fs) ≡ lineFrom next (k + 1) (set v k (slot f)) fs
-  unfolding lineFrom
-  from-more fs =
-      let q : k + suc (length fs) ≡ k + 1 + length fs = omega arith in
-      rw (q, add-one)
-
-  pub from-last : k < 6 → lineFrom next k v (f ∷ []) ≡ record { count = k + 1; next = next; fields = set v k (slot f) }
-  unfolding lineFrom
-  from-last h = rw (le-leb (k + 1) 6 (omega arith))
-
-  pub from-full : (fs : List Field) → 6 ≤ k → lineFrom next k v (f ∷ fs) ≡ noLine
-  unfolding lineFrom
-  from-full fs h = rw (lt-leb (k + suc (length fs)) 6 (omega arith))
-
--- the same at the fields of a line from a place on, e being where the first of them ends
-module _ (l : List ℕ) (at e : ℕ) (he : e ≡ at + until 32 (drop at l)) where
-  until-is : until 32 (drop at l) ≡ e - at
-  until-is = omega arith
-
-  pub fields-more : e < length l → fieldsOf (drop at l) ≡ field (take (e - at) (drop at l)) ∷ fieldsOf (drop (e + 1) l)
-  unfolding fieldsOf
-  fields-more h =
-      let q : at + suc (e - at) ≡ e + 1 = omega arith in
-      rw (split-more 32 (drop at l) (rw length-drop (omega arith)), drop-drop, until-is, q)
-
-  pub fields-last : e ≡ length l → fieldsOf (drop at l) ≡ field (take (e - at) (drop at l)) ∷ []
-  unfolding fieldsOf
-  fields-last h =
-      rw (split-last 32 (drop at l) (rw length-drop (omega arith)), take-all (e - at) (drop at l) (rw length-drop (omega arith)))
-
-  module _ (next k : ℕ) (v : List Slot) (c : Slot) (hc : c ≡ slot (field (take (e - at) (drop at l)))) where
-    pub from-line-more : e < length l → lineFrom next k v (fieldsOf (drop at l)) ≡ lineFrom next (k + 1) (set v k c) (fieldsOf (drop (e + 1) l))
-    from-line-more h = rw (fields-more h, hc) (from-more next k v (field (take (e - at) (drop at l))) (fieldsOf (drop (e + 1) l)))
-
-    pub from-line-last : k < 6 → e ≡ length l
-        → lineFrom next k v (fieldsOf (drop at l)) ≡ record { count = k + 1; next = next; fields = set v k c }
-    from-line-last h z = rw (fields-last z, hc) (from-last next k v (field (take (e - at) (drop at l))) h)
-
--- a seventh field
-pub from-line-full : (next k : ℕ) (v : List Slot) (s : List ℕ) → 6 ≤ k → lineFrom next k v (fieldsOf s) ≡ noLine
-unfolding fieldsOf
-from-line-full next k v s h = rw (split-until 32 s) (from-full next k v _ _ h)
 
 -- ---- a line by where its LF stands
 
@@ -88,12 +29,6 @@ module _ (s : List ℕ) (at : ℕ) where
   line-in h =
       rw (split-more 10 (drop at s) (rw length-drop (omega arith)))
       (rw (split-until 10 (drop (suc (until 10 (drop at s))) (drop at s)), length-take-le (until 10 (drop at s)) (drop at s) (until-le 10 (drop at s))))
-
-  -- the same with e for the place of the LF
-  pub line-in-at : (e : ℕ) → e ≡ at + until 10 (drop at s) → e < length s → lineAt s at ≡ lineOf (e + 1) (fieldsOf (take (e - at) (drop at s)))
-  line-in-at e he h =
-      let q : e - at ≡ until 10 (drop at s) = omega arith in
-      rw (q, he) (line-in (omega arith))
 
 -- ---- the fields that are held
 

@@ -1,28 +1,29 @@
 -- Laws of `split` and `rows`: the first part of a text ends where its first separator stands, and the rest is split alike.
 use Prim.Native.Nat.{ℕ, zero, suc, _+_, _≤_, _<_}
 use mathlib.Core.Path.{_≡_, refl, ap, _∙_, sym}
-use mathlib.Core.Bool.{false, cond}
+use mathlib.Core.Logic.{⊎-elim}
+use mathlib.Core.Bool.{true, false, cond, _||_}
 use mathlib.Core.List.{List, [], _∷_, _++_, append-assoc}
 use native.Mathlib.Numerals.{add-one}
 use native.Mathlib.Omega.{arith}
 use lib.Dec.{ltb, eqb, leb·suc-suc}
 use lib.ListN.{length, getD, take, drop, drop-of-length-le, length-append, length-drop}
 use lib.Seq.{drop-cons, take-all, take-append-seam, drop-append-add}
-use borrow.Author.Tests.{lt-ltb, le-ltb, eq-eqb, ne-eqb, eqb-true, ltb-true, ltb-false}
-use Rattle.whole.proofs.Tests.{by-test}
+use borrow.Author.Tests.{lt-ltb, le-ltb, eq-eqb, ne-eqb, eqb-true, eqb-false, ltb-true, ltb-false}
+use Rattle.whole.proofs.Tests.{by-test, or-true, or-false}
 use Rattle.text.specs.declared.form.Field.{Field}
 use Rattle.text.specs.declared.form.Field.the-variants.{Bad}
 use Rattle.lines.specs.Lines.{onto, split, fieldsOf, rowsOf, rows, fieldText, lineText}
-use Rattle.lines.specs.Held.{until}
+use Rattle.lines.specs.Held.{until, fieldLength}
 
 -- ---- the first b
 
 module _ (b : ℕ) (s : List ℕ) (i : ℕ) where
-  pub until-here : i < length s → getD s i 0 ≡ b → until b (drop i s) ≡ 0
+  until-here : i < length s → getD s i 0 ≡ b → until b (drop i s) ≡ 0
   unfolding until
   until-here h e = rw (drop-cons s i 0) (simp (eq-eqb _ _ e))
 
-  pub until-on : i < length s → (getD s i 0 ≡ b → ⊥) → until b (drop i s) ≡ suc (until b (drop (i + 1) s))
+  until-on : i < length s → (getD s i 0 ≡ b → ⊥) → until b (drop i s) ≡ suc (until b (drop (i + 1) s))
   unfolding until
   until-on h e = rw (add-one, drop-cons s i 0) (simp (ne-eqb _ _ e))
 
@@ -30,10 +31,36 @@ module _ (b : ℕ) (s : List ℕ) (i : ℕ) where
   unfolding until
   until-end h = rw (drop-of-length-le s h)
 
+-- the first space or LF
+module _ (s : List ℕ) (i : ℕ) where
+  module _ (h : i < length s) where
+    pub end-here : (eqb (getD s i 0) 32 || eqb (getD s i 0) 10) ≡ true → fieldLength (drop i s) ≡ 0
+    end-here t =
+        ⊎-elim (λ e. omega (arith, until-here 32 s i h (eqb-true _ _ e))) (λ e. omega (arith, until-here 10 s i h (eqb-true _ _ e)))
+        (or-true (eqb (getD s i 0) 32) (eqb (getD s i 0) 10) t)
+
+    pub end-on : (eqb (getD s i 0) 32 || eqb (getD s i 0) 10) ≡ false → fieldLength (drop i s) ≡ suc (fieldLength (drop (i + 1) s))
+    end-on t =
+        let e = or-false (eqb (getD s i 0) 32) (eqb (getD s i 0) 10) t in
+        omega (arith, until-on 32 s i h (eqb-false _ _ (e .0)), until-on 10 s i h (eqb-false _ _ (e .1)))
+
 pub until-le : (b : ℕ) (s : List ℕ) → until b s ≤ length s
 unfolding until
 until-le b [] = omega arith
 until-le b (x ∷ xs) = by-test (eqb x b) (λ e. rw e (omega arith)) (λ e. rw e (omega (arith, until-le b xs)))
+
+-- b itself stands behind them, and none among them
+pub until-at : (b : ℕ) (s : List ℕ) → until b s < length s → getD s (until b s) 0 ≡ b
+unfolding until
+until-at b [] h = absurd (omega arith)
+until-at b (x ∷ xs) h = by-test (eqb x b) (λ e. rw e (eqb-true x b e)) (λ e. let k = rw e at h in rw e (until-at b xs (omega arith)))
+
+pub until-take : (b : ℕ) (s : List ℕ) (n : ℕ) → n ≤ until b s → until b (take n s) ≡ n
+unfolding until
+until-take b s zero h = refl
+until-take b [] (suc n) h = absurd (omega arith)
+until-take b (x ∷ xs) (suc n) h =
+    by-test (eqb x b) (λ e. let k = rw e at h in absurd (omega arith)) (λ e. let k = rw e at h in rw e (ap suc (until-take b xs n (omega arith))))
 
 -- ---- parts
 
@@ -82,6 +109,13 @@ split-seam b s t h =
     let u = until-seam b s t h in
     split-more b (s ++ (b ∷ t)) (rw (u, length-append) (omega arith))
     ∙ rw (u, take-append-seam, ← add-one, drop-append-add)
+
+-- behind a byte that is not b
+pub split-past : (b : ℕ) (s : List ℕ) (x : ℕ) (t q : List ℕ) (qs : List (List ℕ)) → Free b s → (x ≡ b → ⊥) → split b t ≡ q ∷ qs
+    → split b (s ++ (x ∷ t)) ≡ (s ++ (x ∷ q)) ∷ qs
+unfolding split
+split-past b [] x t q qs h n e = rw (ne-eqb x b n, e)
+split-past b (y ∷ s) x t q qs h n e = let f = free-cons b y s h in rw (f .0, split-past b s x t q qs (f .1) n e)
 
 pub split-one : (b : ℕ) (s : List ℕ) → Free b s → split b s ≡ s ∷ []
 split-one b s h = split-last b s (omega arith)

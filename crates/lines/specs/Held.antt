@@ -1,5 +1,5 @@
 -- How a line is held: up to six fields and the place after its LF. A line with more, or with no LF, is held as no line.
-use Prim.Native.Nat.{ℕ, suc, _+_}
+use Prim.Native.Nat.{ℕ, suc, _+_, min}
 use mathlib.Core.Bool.{cond}
 use mathlib.Core.List.{List, [], _∷_, map}
 use lib.Dec.{leb, eqb}
@@ -42,3 +42,7 @@ held x = map (λ (s : Slot). s .field) (take (x .count) (x .fields))
 unfoldable pub until : ℕ → List ℕ → ℕ
 until b [] = 0
 until b (x ∷ xs) = cond (eqb x b) 0 (suc (until b xs))
+
+-- how long the field is that a text begins with: it ends before a space or LF
+abbrev pub fieldLength : List ℕ → ℕ
+fieldLength s = min (until 32 s) (until 10 s)

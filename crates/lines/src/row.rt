@@ -1,11 +1,12 @@
 // A line of a text, read into its fields.
 use text::form::Field;
 ghost use mathlib.Core.Path.{_≡_};
+ghost use mathlib.Core.Bool.{_||_};
 ghost use Prim.Native.Nat.{_+_, _-_, _≤_};
+ghost use lib.Dec.{eqb};
 ghost use lib.ListN.{length, take, drop, getD};
 ghost use Rattle.text.specs.Field.{field};
-ghost use Rattle.lines.specs.Lines.{fieldsOf};
-ghost use Rattle.lines.specs.Held.{slot, noLine, lineOf, lineAt, held, until};
+ghost use Rattle.lines.specs.Held.{slot, noLine, lineAt, held, fieldLength};
 
 pub struct Slot {
     pub field: Field,
@@ -30,14 +31,27 @@ fn no_line() -> Line
     }
 }
 
-// The index of the first b from `at` on, or the length.
-fn find(s: &[u8], at: usize, b: u8) -> usize
+// Whether b ends a field: it is a space or LF.
+fn ends(b: u8) -> bool
+    ensures { λ r. ⌜ r ≡ (eqb b 32 || eqb b 10) ⌝ }
+{
+    if 32 < b {
+        return false;
+    }
+    if b == 32 {
+        return true;
+    }
+    b == 10
+}
+
+// The place of the first space or LF from `at` on, or the length.
+fn end_of(s: &[u8], at: usize) -> usize
     requires { ⌜ at ≤ length (now s) ⌝ }
-    ensures { λ r. ⌜ (r ≡ at + until b (drop at (now (s .entry)))) × (at ≤ r) × (r ≤ length (now (s .entry))) ⌝ }
+    ensures { λ r. ⌜ (r ≡ at + fieldLength (drop at (now (s .entry)))) × (at ≤ r) × (r ≤ length (now (s .entry))) ⌝ }
 {
     let mut i = at;
     while i < s.len() {
-        if s[i] == b {
+        if ends(s[i]) {
             return i;
         }
         i += 1;
@@ -53,31 +67,6 @@ fn slot_of(l: &[u8], at: usize, e: usize) -> Slot
     Slot { field: f }
 }
 
-// The fields of a whole line.
-fn line_of(l: &[u8], next: usize) -> Line
-    ensures { λ r. ⌜ r ≡ lineOf next (fieldsOf (now (l .entry))) ⌝ }
-{
-    let bad = Slot { field: Field::Bad };
-    let mut fields = [bad; 6];
-    let mut k: usize = 0;
-    let mut at: usize = 0;
-    while k < 6 {
-        let e = find(l, at, 32);
-        let f = slot_of(l, at, e);
-        fields[k] = f;
-        k += 1;
-        if e == l.len() {
-            return Line {
-                count: k,
-                next: next,
-                fields: fields,
-            };
-        }
-        at = e + 1;
-    }
-    no_line()
-}
-
 // The line that begins at a place.
 pub fn line_at(s: &[u8], at: usize) -> Line
     ensures { λ r. ⌜ r ≡ lineAt (now (s .entry)) at ⌝ }
@@ -85,9 +74,26 @@ pub fn line_at(s: &[u8], at: usize) -> Line
     if s.len() < at {
         return no_line();
     }
-    let e = find(s, at, 10);
-    if e < s.len() {
-        return line_of(&s[at..e], e + 1);
+    let bad = Slot { field: Field::Bad };
+    let mut fields = [bad; 6];
+    let mut k: usize = 0;
+    let mut next = at;
+    while k < 6 {
+        let e = end_of(s, next);
+        let f = slot_of(s, next, e);
+        fields[k] = f;
+        k += 1;
+        if e == s.len() {
+            return no_line();
+        }
+        next = e + 1;
+        if s[e] == 10 {
+            return Line {
+                count: k,
+                next: next,
+                fields: fields,
+            };
+        }
     }
     no_line()
 }

@@ -1,63 +1,112 @@
--- `line_at` meets its contract: the line ends at the first LF from `at` on, if there is one.
-use mathlib.Core.Path.{sym, _∙_}
+-- `line_at` meets its contract: the line that comes of the fields passed and those from `next` on is the whole line.
+use Prim.Native.Nat.{_≤_, _-_}
+use mathlib.Core.Path.{_≡_, sym, _∙_}
 use native.Mathlib.Omega.{arith}
-use Rattle.lines.proofs.Held.{line-out, line-in-at}
+use lib.ListN.{length, drop}
+use Rattle.lines.specs.Lines.{split}
+use Rattle.lines.specs.Held.{lineAt}
+use Rattle.lines.proofs.Held.{line-out}
+use Rattle.lines.proofs.Filled.{lineOn, on-start, on-open, on-ended, on-more, on-full}
 use borrow.Author.Needs.{needs}
 use Rattle.lines.proofs.row.line_at.Statement.{statement}
 use Rattle.lines.proofs.row.line_at.Tie as tie
 
-no-line-requires : tie.Need-no-line-requires
+abbrev Inv-loop : tie.InvT-loop
+Inv-loop s at fields₀ k₀ next₀ fields k next =
+    (next ≤ length s) × (lineAt s at ≡ lineOn k fields next (split 10 (drop next s)))
+
+abbrev μ-loop : tie.MeasureT-loop
+μ-loop s at fields₀ k₀ next₀ fields k next = 6 - k
+
+no-line-requires : tie.Need-no-line-requires Inv-loop μ-loop
 no-line-requires c κs = search needs
 
-returns : tie.Need-returns
+returns : tie.Need-returns Inv-loop μ-loop
 returns c =
     let a = c .before .before .before .args in
     c .no-line .ensures ∙ sym (line-out (a .s .now) (a .at) (omega arith))
 
-find-requires : tie.Need-find-requires
-find-requires c κs = search needs
+loop-holds : tie.Need-loop-holds Inv-loop μ-loop
+loop-holds c = let a = c .before .before .args in (search needs, on-start (a .s .now) (a .at))
 
-sub-line-of : tie.Need-sub-line-of
-sub-line-of c = search needs
+end-of-requires : tie.Need-end-of-requires Inv-loop μ-loop
+end-of-requires c κs = search needs
 
-part-line-of-start : tie.Need-part-line-of-start
-part-line-of-start c = search needs
+slot-of-requires : tie.Need-slot-of-requires Inv-loop μ-loop
+slot-of-requires c κs = search needs
 
-part-line-of-end : tie.Need-part-line-of-end
-part-line-of-end c = search needs
+mul-fields : tie.Need-mul-fields Inv-loop μ-loop
+mul-fields c = search needs
 
-add-line-of : tie.Need-add-line-of
-add-line-of c = search needs
+array-set-from-fields : tie.Need-array-set-from-fields Inv-loop μ-loop
+array-set-from-fields c = search needs
 
-line-of-requires : tie.Need-line-of-requires
-line-of-requires c κs = search needs
+add-k : tie.Need-add-k Inv-loop μ-loop
+add-k c = search needs
 
-returns-2 : tie.Need-returns-2
-returns-2 c =
-    let a = c .before .before .before .before .before .before .args in
-    let e = c .before .before .before .find in
-    c .line-of .ensures ∙ sym (line-in-at (a .s .now) (a .at) (e .result) (e .ensures .0) (c .before .before .if2 .taken))
-
-no-line-requires-2 : tie.Need-no-line-requires-2
+no-line-requires-2 : tie.Need-no-line-requires-2 Inv-loop μ-loop
 no-line-requires-2 c κs = search needs
 
-returns-3 : tie.Need-returns-3
+returns-2 : tie.Need-returns-2 Inv-loop μ-loop
+returns-2 c =
+    let f = c .before .before .before in
+    let l = f .before .before in
+    let s = l .before .before .before .args .s .now in
+    c .no-line2 .ensures ∙ sym (l .loop .inv .1 ∙ on-open s (l .loop .next) (f .end-of .result) (f .end-of .ensures .0) (l .loop .k) (l .loop .fields) (c .before .if2 .taken))
+
+add-next : tie.Need-add-next Inv-loop μ-loop
+add-next c = search needs
+
+shared-slice-read-if3 : tie.Need-shared-slice-read-if3 Inv-loop μ-loop
+shared-slice-read-if3 c = search needs
+
+returns-3 : tie.Need-returns-3 Inv-loop μ-loop
 returns-3 c =
-    let a = c .before .before .before .before .before .args in
-    c .no-line2 .ensures ∙ sym (line-out (a .s .now) (a .at) (omega (arith, c .before .before .find .ensures .0)))
+    let p = c .before .before .before in
+    let f = p .before in
+    let l = f .before .before in
+    let s = l .before .before .before .args .s .now in
+    sym (l .loop .inv .1 ∙ on-ended s (l .loop .next) (f .end-of .result) (f .end-of .ensures .0) (l .loop .k) (l .loop .fields) (search needs) (p .slot-of .result) (p .slot-of .ensures) (search needs) (c .if3 .taken))
+
+loop-less : tie.Need-loop-less Inv-loop μ-loop
+loop-less c = search needs
+
+loop-again : tie.Need-loop-again Inv-loop μ-loop
+loop-again c =
+    let p = c .before .before .before in
+    let f = p .before in
+    let l = f .before .before in
+    let s = l .before .before .before .args .s .now in
+    (search needs, l .loop .inv .1 ∙ on-more s (l .loop .next) (f .end-of .result) (f .end-of .ensures .0) (l .loop .k) (l .loop .fields) (search needs) (p .slot-of .result) (p .slot-of .ensures) (c .if3 .left))
+
+no-line-requires-3 : tie.Need-no-line-requires-3 Inv-loop μ-loop
+no-line-requires-3 c κs = search needs
+
+returns-4 : tie.Need-returns-4 Inv-loop μ-loop
+returns-4 c =
+    let l = c .before .before in
+    c .no-line3 .ensures ∙ sym (l .loop .inv .1 ∙ on-full (l .loop .k) (l .loop .fields) (l .loop .next) _ (c .before .loop-test .left))
 
 pub line-at-spec : {M : Type 1} → statement M
 line-at-spec =
     tie.close
     (tie.spec
+    Inv-loop
+    μ-loop
     no-line-requires
     returns
-    find-requires
-    sub-line-of
-    part-line-of-start
-    part-line-of-end
-    add-line-of
-    line-of-requires
-    returns-2
+    loop-holds
+    end-of-requires
+    slot-of-requires
+    mul-fields
+    array-set-from-fields
+    add-k
     no-line-requires-2
-    returns-3)
+    returns-2
+    add-next
+    shared-slice-read-if3
+    returns-3
+    loop-less
+    loop-again
+    no-line-requires-3
+    returns-4)
