@@ -6,9 +6,9 @@ pub mod Building
 pub mod Longest
 pub mod Part
 pub mod RoundTrip
-pub mod Learn
-pub mod Going
 pub mod Steps
+pub mod Holds
+pub mod Within
 pub mod Put
 pub mod Written
 pub mod Worked

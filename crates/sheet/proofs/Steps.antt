@@ -1,10 +1,12 @@
--- Laws of a step of reading: the line at a place of the text against the line that is called for, and what then comes.
-use Prim.Native.Nat.{ℕ, suc, _+_, _-_, _≤_, _<_}
+-- Laws of a line read: the line at a place of the text against the line that is called for, and what comes of the place after it.
+use Prim.Native.Nat.{ℕ, _+_, _≤_, _<_}
 use mathlib.Core.Path.{_≡_, refl, ap, _∙_, sym}
 use mathlib.Core.List.{List, [], _∷_, _++_}
 use native.Mathlib.Omega.{arith}
+use lib.Dec.{eqb}
 use lib.ListN.{length, drop}
-use borrow.Author.Tests.{eq-eqb, ne-eqb}
+use borrow.Author.Tests.{eq-eqb, ne-eqb, eqb-true, eqb-false}
+use Rattle.whole.proofs.Tests.{by-test}
 use Rattle.text.specs.declared.form.Field.{Field}
 use Rattle.text.specs.declared.form.Field.the-variants.{Bad}
 use Rattle.lines.specs.declared.row.Line.{Line}
@@ -15,15 +17,14 @@ use Rattle.lines.proofs.Held.{At, taken, gone, unended, long, at-is}
 use Rattle.book.specs.declared.Building.{Building}
 use Rattle.job.specs.declared.Section.{Section}
 use Rattle.job.specs.declared.Kind.{Kind}
-use Rattle.job.specs.declared.Kind.the-variants.{Entry}
-use Rattle.job.specs.declared.Job.{Job}
-use Rattle.job.specs.Carried.{Carried, nothing, carried}
-use Rattle.job.specs.Sections.{lineFault, entries, calls, learn}
+use Rattle.job.specs.declared.Kind.the-variants.{Count, Entry}
+use Rattle.job.specs.Carried.{Carried, nothing}
+use Rattle.job.specs.Sections.{about, lineFault, entries, calls, learn}
 use Rattle.job.specs.Walk.{Accepted, Refused, walk, sheet, readLines}
 use Rattle.job.proofs.Walk.{walk-on, walk-refused}
-use Rattle.sheet.specs.declared.read.Step.{Step}
+use Rattle.sheet.specs.declared.sections.Place.{Place}
 use Rattle.sheet.specs.Sheet.{reading}
-use Rattle.sheet.specs.Steps.{onward}
+use Rattle.sheet.specs.Steps.{placeAfter, onward}
 use Rattle.sheet.proofs.OutOfForm.{bad-first, none-held, many-held}
 
 -- ---- the walk at a place of the text, x being the line that is held there
@@ -57,70 +58,55 @@ module _ (k : Kind) (ks : List Kind) (c : Carried) (n : ℕ) (s : List ℕ) (p :
       go (unended eh e) = absurd (omega (arith, f-one eh))
       go (long fs rest eh e m) = absurd (omega (arith, f-one eh))
 
--- ---- what comes of a step
+-- ---- what comes of a place
 
-module _ (r : Step) (ks : List Kind) (s : List ℕ) where
-  pub onward-refused : (r .number ≡ 0 → ⊥) → onward r ks s ≡ Refused (r .number) (r .line)
+module _ (p : Place) (c : Carried) (ks : List Kind) (s : List ℕ) where
+  pub onward-refused : (p .number ≡ 0 → ⊥) → onward p c ks s ≡ Refused (p .number) (p .line)
   unfolding onward
   onward-refused h = rw (ne-eqb _ _ h)
 
-  pub onward-walk : r .number ≡ 0 → onward r ks s ≡ walk ks (carried (r .job)) (r .line) (rows (drop (r .next) s))
+  pub onward-walk : p .number ≡ 0 → onward p c ks s ≡ walk ks c (p .line) (rows (drop (p .next) s))
   unfolding onward
   onward-walk h = rw (eq-eqb _ _ h)
 
--- after a fault nothing more is called for
-pub onward-same : (r : Step) (ks ls : List Kind) (s : List ℕ) → (r .number ≡ 0 → ⊥) → onward r ks s ≡ onward r ls s
-onward-same r ks ls s h = onward-refused r ks s h ∙ sym (onward-refused r ls s h)
+-- after a fault it is the same whatever is carried and called for
+pub onward-same : (p : Place) (c d : Carried) (ks ls : List Kind) (s : List ℕ) → (p .number ≡ 0 → ⊥) → onward p c ks s ≡ onward p d ls s
+onward-same p c d ks ls s h = onward-refused p c ks s h ∙ sym (onward-refused p d ls s h)
 
-carried-building : (j : Job) → carried j .building ≡ j .building
-unfolding carried
-carried-building j = refl
+-- what holds of the place at a fault and of the next line holds of the place after a line
+pub after-either : (P : Place → Type 0) (p : Place) (f next left : ℕ)
+    → (f ≡ 0 → P (record { number = 0; line = p .line + 1; next = next; left = left }))
+    → ((f ≡ 0 → ⊥) → P (record { number = f; line = p .line; next = p .next; left = 0 })) → P (placeAfter p f next left)
+after-either P p f next left on stop = by-test (eqb f 0) (λ e. rw e (on (eqb-true f 0 e))) (λ e. rw e (stop (eqb-false f 0 e)))
 
 -- one line read
-module _ (k : Kind) (ks : List Kind) (s : List ℕ) (from : Step) (z : from .number ≡ 0) (x : Line) (hx : x ≡ lineAt s (from .next)) (f : ℕ) (hf : f ≡ lineFault k (from .job .building) (held x)) where
-  fault-is : f ≡ lineFault k (carried (from .job) .building) (held x)
-  fault-is = hf ∙ ap (λ (g : Building). lineFault k g (held x)) (sym (carried-building (from .job)))
+module _ (k : Kind) (c : Carried) (s : List ℕ) (p : Place) (z : p .number ≡ 0) (x : Line) (hx : x ≡ lineAt s (p .next)) (f : ℕ) (hf : f ≡ lineFault k (c .building) (held x)) where
+  pub onward-stop : (f ≡ 0 → ⊥) → (d : Carried) (ks ls : List Kind) (next left : ℕ) → onward (record { number = f; line = p .line; next = next; left = left }) d ls s ≡ onward p c (k ∷ ks) s
+  onward-stop h d ks ls next left =
+      onward-refused (record { number = f; line = p .line; next = next; left = left }) d ls s h
+      ∙ sym (walk-stop k ks c (p .line) s (p .next) x hx f hf h)
+      ∙ sym (onward-walk p c (k ∷ ks) s z)
 
-  pub step-stop : (f ≡ 0 → ⊥) → onward (record { number = f; line = from .line; next = from .next; job = from .job }) ks s ≡ onward from (k ∷ ks) s
-  step-stop h =
-      onward-refused (record { number = f; line = from .line; next = from .next; job = from .job }) ks s h
-      ∙ sym (walk-stop k ks (carried (from .job)) (from .line) s (from .next) x hx f fault-is h)
-      ∙ sym (onward-walk from (k ∷ ks) s z)
-
-  pub step-on : (number : ℕ) (j : Job) → number ≡ 0 → carried j ≡ learn k (held x) (carried (from .job)) → f ≡ 0
-      → onward (record { number = number; line = from .line + 1; next = x .next; job = j }) (calls k (held x) ++ ks) s ≡ onward from (k ∷ ks) s
-  step-on number j y e h =
-      onward-walk (record { number = number; line = from .line + 1; next = x .next; job = j }) (calls k (held x) ++ ks) s y
-      ∙ ap (λ (c : Carried). walk (calls k (held x) ++ ks) c (from .line + 1) (rows (drop (x .next) s))) e
-      ∙ sym (walk-go k ks (carried (from .job)) (from .line) s (from .next) x hx f fault-is h)
-      ∙ sym (onward-walk from (k ∷ ks) s z)
-
--- ---- the entries that are still called for, k of `count` being read
-
-module _ (s : Section) (ks : List Kind) (k count : ℕ) where
-  pub entries-next : k < count → entries s (count - k) ++ ks ≡ Entry s ∷ (entries s (count - (k + 1)) ++ ks)
-  entries-next h =
-      let q : count - k ≡ suc (count - (k + 1)) = omega arith in
-      rw q
-
-  pub entries-done : count ≤ k → entries s (count - k) ++ ks ≡ ks
-  entries-done h =
-      let q : count - k ≡ 0 = omega arith in
-      rw q
+  pub onward-on : f ≡ 0 → (ks : List Kind) (left : ℕ)
+      → onward (record { number = 0; line = p .line + 1; next = x .next; left = left }) (learn k (held x) c) (calls k (held x) ++ ks) s ≡ onward p c (k ∷ ks) s
+  onward-on h ks left =
+      onward-walk (record { number = 0; line = p .line + 1; next = x .next; left = left }) (learn k (held x) c) (calls k (held x) ++ ks) s refl
+      ∙ sym (walk-go k ks c (p .line) s (p .next) x hx f hf h)
+      ∙ sym (onward-walk p c (k ∷ ks) s z)
 
 -- ---- the end of the text
 
-module _ (c : Carried) (n : ℕ) (s : List ℕ) (p : ℕ) where
-  pub walk-extra : p < length s → walk [] c n (rows (drop p s)) ≡ Refused 1 n
+module _ (c : Carried) (p : Place) (s : List ℕ) (z : p .number ≡ 0) where
+  pub onward-extra : p .next < length s → onward p c [] s ≡ Refused 1 (p .line)
   unfolding walk
-  walk-extra h = let t = rows-some s p h in rw (t .2)
+  onward-extra h = onward-walk p c [] s z ∙ (let t = rows-some s (p .next) h in rw (t .2))
 
-  pub walk-over : length s ≤ p → walk [] c n (rows (drop p s)) ≡ Accepted c
+  pub onward-over : length s ≤ p .next → onward p c [] s ≡ Accepted c
   unfolding walk
-  walk-over h = rw (rows-end s p h)
+  onward-over h = onward-walk p c [] s z ∙ rw (rows-end s (p .next) h)
 
 -- ---- the start of the text
 
-pub onward-start : (j : Job) (s : List ℕ) → carried j ≡ nothing → onward (record { number = 0; line = 1; next = 0; job = j }) sheet s ≡ reading s
+pub onward-start : (s : List ℕ) → onward (record { number = 0; line = 1; next = 0; left = 0 }) nothing sheet s ≡ reading s
 unfolding reading readLines
-onward-start j s e = onward-walk (record { number = 0; line = 1; next = 0; job = j }) sheet s refl ∙ ap (λ (c : Carried). walk sheet c 1 (rows s)) e
+onward-start s = onward-walk (record { number = 0; line = 1; next = 0; left = 0 }) nothing sheet s refl

@@ -1,21 +1,26 @@
 -- How the code stands between two lines of a sheet, for the contracts of the functions that only this crate calls.
-use Prim.Native.Nat.{ℕ, suc, _+_, _*_, _≤_}
+use Prim.Native.Nat.{ℕ, _+_, _*_, _≤_, _<_}
 use mathlib.Core.Path.{_≡_}
-use mathlib.Core.List.{List}
+use mathlib.Core.List.{List, [], _∷_, _++_}
 use mathlib.Core.Bool.{cond}
 use lib.Dec.{eqb}
+use lib.IntN.{ℤ}
 use lib.ListN.{length, drop}
+use Rattle.whole.specs.Lists.{firstOf}
 use Rattle.lines.specs.Lines.{rows}
+use Rattle.book.specs.declared.Building.{Building}
 use Rattle.job.specs.declared.Section.{Section}
 use Rattle.job.specs.declared.Section.the-variants.{B, W, I, F}
 use Rattle.job.specs.declared.Kind.{Kind}
-use Rattle.job.specs.declared.Job.{Job}
-use Rattle.job.specs.Carried.{Carried, carried, recorded}
-use Rattle.job.specs.Sections.{about}
+use Rattle.job.specs.declared.Kind.the-variants.{Count}
+use Rattle.job.specs.declared.Wind.{Wind}
+use Rattle.job.specs.declared.Face.{Face}
+use Rattle.job.specs.Carried.{Carried}
+use Rattle.job.specs.Sections.{about, entries}
 use Rattle.job.specs.Walk.{Reading, Refused, walk}
-use Rattle.sheet.specs.declared.read.Step.{Step}
+use Rattle.sheet.specs.declared.sections.Place.{Place}
 
--- ---- the record so far
+-- ---- entries and their room
 
 -- what a record has room for
 pub record Roomed (c : Carried) : Type 0 where
@@ -23,45 +28,63 @@ pub record Roomed (c : Carried) : Type 0 where
   pub internals : length (c .internals) ≤ about I .most
   pub faces : length (c .faces) ≤ about F .most
 
--- a record with zeros after each count
-pub record Tidy (j : Job) : Type 0 where
-  pub zeros : j ≡ recorded (carried j)
-  pub roomed : Roomed (carried j)
+-- a count and its entries hold a list, with d in the rest of the room
+pub record Holds {A : Type 0} (d : A) (room count : ℕ) (entry list : List A) : Type 0 where
+  pub counts : count ≡ length list
+  pub fills : entry ≡ firstOf d room list
 
--- how many entries of a section are listed
-abbrev pub listed : Section → Carried → ℕ
-listed B c = 0
-listed W c = length (c .winds)
-listed I c = length (c .internals)
-listed F c = length (c .faces)
+-- what is carried, with a building or the entries of a section put in
+abbrev pub withBuilding : Carried → Building → Carried
+withBuilding c g = record { building = g; winds = c .winds; internals = c .internals; faces = c .faces }
 
--- ---- from section to section
+abbrev pub withWinds : Carried → List Wind → Carried
+withWinds c l = record { building = c .building; winds = l; internals = c .internals; faces = c .faces }
 
-abbrev pub place : Section → ℕ
-place B = 0
-place W = 1
-place I = 2
-place F = 3
+abbrev pub withInternals : Carried → List ℤ → Carried
+withInternals c l = record { building = c .building; winds = c .winds; internals = l; faces = c .faces }
 
--- of the sections from place n on nothing is listed yet
-pub record Unread (n : ℕ) (c : Carried) : Type 0 where
-  pub winds : n ≤ place W → length (c .winds) ≡ 0
-  pub internals : n ≤ place I → length (c .internals) ≡ 0
-  pub faces : n ≤ place F → length (c .faces) ≡ 0
+abbrev pub withFaces : Carried → List Face → Carried
+withFaces c l = record { building = c .building; winds = c .winds; internals = c .internals; faces = l }
 
--- a step after the sections before place n, none of which has more than 25 lines
-pub record ReadTo (n : ℕ) (r : Step) : Type 0 where
-  pub tidy : Tidy (r .job)
-  pub unread : Unread n (carried (r .job))
-  pub lines : r .line ≤ 1 + 25 * n
+-- ---- the place where reading stands
 
--- a step after one more line of a section
-pub record EntryRead (s : Section) (from r : Step) : Type 0 where
-  pub tidy : Tidy (r .job)
-  pub one : listed s (carried (r .job)) ≤ listed s (carried (from .job)) + 1
-  pub unread : Unread (suc (place s)) (carried (from .job)) → Unread (suc (place s)) (carried (r .job))
-  pub line : r .line ≤ from .line + 1
+-- after a line that has the fault n
+abbrev pub placeAfter : Place → ℕ → ℕ → ℕ → Place
+placeAfter p n next left =
+    cond (eqb n 0) (record { number = 0; line = p .line + 1; next = next; left = left }) (record { number = n; line = p .line; next = p .next; left = 0 })
 
--- what comes of a step, where the lines ks are still called for
-unfoldable pub onward : Step → List Kind → List ℕ → Reading
-onward r ks s = cond (eqb (r .number) 0) (walk ks (carried (r .job)) (r .line) (rows (drop (r .next) s))) (Refused (r .number) (r .line))
+-- what comes of a place, where c is carried and the lines ks are called for
+unfoldable pub onward : Place → Carried → List Kind → List ℕ → Reading
+onward p c ks s = cond (eqb (p .number) 0) (walk ks c (p .line) (rows (drop (p .next) s))) (Refused (p .number) (p .line))
+
+-- how many sections stand before one, none of more than 25 lines
+abbrev pub earlier : Section → ℕ
+earlier B = 0
+earlier W = 1
+earlier I = 2
+earlier F = 3
+
+-- at the count of a section, or at a fault before it
+pub record Before (sec : Section) (p : Place) : Type 0 where
+  pub line : p .line ≤ 1 + 25 * earlier sec
+  pub left : p .left ≡ 0
+
+-- what comes of a place where a section's count is called for, and of one where as many entries as are left are
+abbrev pub fromCount : Section → List ℕ → Place → Carried → List Kind → Reading
+fromCount sec s p c ks = onward p c (Count sec ∷ ks) s
+
+abbrev pub fromEntries : Section → List ℕ → Place → Carried → List Kind → Reading
+fromEntries sec s p c ks = onward p c (entries sec (p .left) ++ ks) s
+
+-- within a section, after n of its entries, or at a fault: where `added` of c is carried here, what comes of c is as it was when this `began`
+pub record Within (sec : Section) (g : Building) (s : List ℕ) (began : Carried → List Kind → Reading) (p : Place) (n : ℕ) (added : Carried → Carried) : Type 0 where
+  pub room : n + p .left ≤ about sec .most
+  pub line : p .line + p .left ≤ 26 + 25 * earlier sec
+  pub sound : 0 < p .left → p .number ≡ 0
+  pub onwards : (c : Carried) (ks : List Kind) → c .building ≡ g → fromEntries sec s p (added c) ks ≡ began c ks
+
+-- the same, with the entries read so far in a count and an array
+pub record SectionRead {A : Type 0} (sec : Section) (d : A) (with : Carried → List A → Carried) (g : Building) (s : List ℕ) (began : Carried → List Kind → Reading) (p : Place) (count : ℕ) (entry : List A) : Type 0 where
+  pub list : List A
+  pub holds : Holds d (about sec .most) count entry list
+  pub within : Within sec g s (λ c. began (with c [])) p count (λ c. with c list)

@@ -1,3 +1,5 @@
 // The sheet of a job: its text read and written.
+mod empty;
 pub mod read;
+mod sections;
 pub mod write;

@@ -1,0 +1,34 @@
+-- `no_job` meets its contract.
+use Rattle.job.specs.Carried.{nothing}
+use Rattle.sheet.proofs.Holds.{recorded-holds}
+use borrow.Author.Needs.{needs}
+use Rattle.sheet.proofs.empty.no_job.Statement.{statement}
+use Rattle.sheet.proofs.empty.no_job.Tie as tie
+
+no-building-requires : tie.Need-no-building-requires
+no-building-requires c κs = search needs
+
+no-winds-requires : tie.Need-no-winds-requires
+no-winds-requires c κs = search needs
+
+no-internals-requires : tie.Need-no-internals-requires
+no-internals-requires c κs = search needs
+
+no-faces-requires : tie.Need-no-faces-requires
+no-faces-requires c κs = search needs
+
+returns : tie.Need-returns
+returns c =
+    let i = c .before in
+    let w = i .before in
+    recorded-holds _ nothing (w .before .no-building .ensures) (w .no-winds .ensures) (i .no-internals .ensures) (c .no-faces .ensures)
+
+pub no-job-spec : {M : Type 1} → statement M
+no-job-spec =
+    tie.close
+    (tie.spec
+    no-building-requires
+    no-winds-requires
+    no-internals-requires
+    no-faces-requires
+    returns)

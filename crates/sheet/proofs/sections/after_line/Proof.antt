@@ -1,0 +1,17 @@
+-- `after_line` meets its contract.
+use borrow.Author.Needs.{needs}
+use borrow.Author.Tests.{eq-eqb, ne-eqb}
+use Rattle.sheet.proofs.sections.after_line.Statement.{statement}
+use Rattle.sheet.proofs.sections.after_line.Tie as tie
+
+returns : tie.Need-returns
+returns c = rw (ne-eqb _ _ (c .if1 .taken))
+
+add-t6 : tie.Need-add-t6
+add-t6 c = search needs
+
+returns-2 : tie.Need-returns-2
+returns-2 c = rw (eq-eqb _ _ (c .before .if1 .left))
+
+pub after-line-spec : {M : Type 1} → statement M
+after-line-spec = tie.close (tie.spec returns add-t6 returns-2)

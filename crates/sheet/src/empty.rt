@@ -1,0 +1,79 @@
+// Records with nothing in them yet: every number is zero.
+use book::Building;
+use job::Face;
+use job::Faces;
+use job::Internals;
+use job::Job;
+use job::Wind;
+use job::Winds;
+ghost use mathlib.Core.Path.{_≡_};
+ghost use mathlib.Core.List.{[]};
+ghost use lib.IntN.{pos};
+ghost use Rattle.whole.specs.Lists.{firstOf};
+ghost use Rattle.job.specs.Carried.{nothing, noBuilding, noWind, noFace, recorded};
+ghost use Rattle.sheet.specs.Steps.{Holds};
+
+pub(crate) fn no_building() -> Building
+    ensures { λ r. ⌜ r ≡ noBuilding ⌝ }
+{
+    Building {
+        h: 0,
+        a: 0,
+        b: 0,
+        density: 0,
+        kind: 0,
+        x: 0,
+    }
+}
+
+pub(crate) fn no_winds() -> Winds
+    ensures { λ r. ⌜ Holds noWind 8 (r .count) (r .entry) [] ⌝ }
+{
+    let wind = Wind {
+        direction: 0,
+        speed: 0,
+    };
+    let winds = [wind; 8];
+    Winds {
+        count: 0,
+        entry: winds,
+    }
+}
+
+pub(crate) fn no_internals() -> Internals
+    ensures { λ r. ⌜ Holds (pos 0) 4 (r .count) (r .entry) [] ⌝ }
+{
+    let internals = [0i64; 4];
+    Internals {
+        count: 0,
+        entry: internals,
+    }
+}
+
+pub(crate) fn no_faces() -> Faces
+    ensures { λ r. ⌜ Holds noFace 24 (r .count) (r .entry) [] ⌝ }
+{
+    let face = Face {
+        zone: 0,
+        mark: 0,
+        x: 0,
+        y: 0,
+        z: 0,
+    };
+    let faces = [face; 24];
+    Faces {
+        count: 0,
+        entry: faces,
+    }
+}
+
+pub(crate) fn no_job() -> Job
+    ensures { λ r. ⌜ r ≡ recorded nothing ⌝ }
+{
+    Job {
+        building: no_building(),
+        winds: no_winds(),
+        internals: no_internals(),
+        faces: no_faces(),
+    }
+}
