@@ -9,9 +9,6 @@ use lib.Seq.{take-all}
 use Rattle.whole.specs.Lists.{firstOf}
 use Rattle.whole.proofs.Lists.{every-take, getD-map, firstOf-length, firstOf-getD}
 use Rattle.text.specs.declared.form.Field.{Field}
-use Rattle.lines.specs.declared.row.Line.{Line}
-use Rattle.lines.specs.Held.{lineOf, held}
-use Rattle.lines.proofs.Held.{held-all}
 use Rattle.job.specs.declared.Section.{Section}
 use Rattle.job.specs.declared.Section.the-variants.{B, W, I, F}
 use Rattle.job.specs.declared.Kind.the-variants.{Count, Entry}
@@ -55,23 +52,13 @@ module _ (j : Job) where
   unfolding carried
   faces-counted = entries-length noFace faceFields (j .faces .count) (j .faces .entry)
 
-  entry-is : (s : Section) (i : ℕ) → i < length (entriesOf (carried j) s) → getD (entriesOf (carried j) s) i [] ≡ entryOf j s i
+  pub entry-is : (s : Section) (i : ℕ) → i < length (entriesOf (carried j) s) → getD (entriesOf (carried j) s) i [] ≡ entryOf j s i
   unfolding carried
   entry-is B zero h = refl
   entry-is B (suc i) h = absurd (omega arith)
   entry-is W i h = entries-at noWind windFields (j .winds .count) (j .winds .entry) i h
   entry-is I i h = entries-at (pos 0) internalFields (j .internals .count) (j .internals .entry) i h
   entry-is F i h = entries-at noFace faceFields (j .faces .count) (j .faces .entry) i h
-
-  entry-six : (s : Section) (i : ℕ) → length (entryOf j s i) ≤ 6
-  entry-six B i = omega arith
-  entry-six W i = omega arith
-  entry-six I i = omega arith
-  entry-six F i = omega arith
-
-  -- a line made of entry i holds it
-  pub entry-held : (s : Section) (i : ℕ) (x : Line) → i < length (entriesOf (carried j) s) → x ≡ lineOf 0 (entryOf j s i) → held x ≡ getD (entriesOf (carried j) s) i []
-  entry-held s i x h e = rw e (held-all 0 (entryOf j s i) (entry-six s i) .0 ∙ sym (entry-is s i h))
 
 -- ---- a section by itself
 
@@ -83,15 +70,12 @@ module _ (s : Section) (c : Carried) (line : ℕ) (xs : List (List Field)) where
   nothing-behind = rw append-nil
 
   -- n is the fault of its count
-  module _ (n : ℕ) (x : Line) (ex : x ≡ lineOf 0 (countLine s (length xs))) (en : n ≡ lineFault (Count s) (c .building) (held x)) where
-    count-fault : n ≡ lineFault (Count s) (c .building) (countLine s (length xs))
-    count-fault = en ∙ ap (lineFault (Count s) (c .building)) (rw ex (held-all 0 (countLine s (length xs)) (omega arith) .0))
-
+  module _ (n : ℕ) (en : n ≡ lineFault (Count s) (c .building) (countLine s (length xs))) where
     pub alone-count : (n ≡ 0 → ⊥) → record { number = n; line = line } ≡ alone
-    alone-count z = sym (nothing-behind ∙ ap verdict (count-refused s [] c line xs [] (λ e. z (count-fault ∙ e))) ∙ rw (← count-fault))
+    alone-count z = sym (nothing-behind ∙ ap verdict (count-refused s [] c line xs [] (λ e. z (en ∙ e))) ∙ rw (← en))
 
     pub alone-counted : n ≡ 0 → Counted s (length xs)
-    alone-counted z = count-counted s (c .building) (length xs) (sym count-fault ∙ z)
+    alone-counted z = count-counted s (c .building) (length xs) (sym en ∙ z)
 
   -- n is the fault of entry i, where those before it have none
   module _ (w : Counted s (length xs)) (i n : ℕ) (h : i < length xs) (o : EntriesInOrder s (c .building) (take i xs))

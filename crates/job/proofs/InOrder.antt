@@ -2,19 +2,16 @@
 use Prim.Native.Nat.{ℕ, suc, _≤_}
 use mathlib.Core.Path.{_≡_, refl, ap, _∙_, sym, subst}
 use mathlib.Core.Logic.{_⊎_, inl, inr}
-use mathlib.Core.List.{List, [], _∷_, map}
-use mathlib.Core.Bool.{Bool, true, false}
+use mathlib.Core.List.{List, [], map}
+use mathlib.Core.Bool.{true}
 use native.Mathlib.Omega.{arith}
 use lib.ListN.{length, length-map}
 use lib.IntN.{ℤ, pos, negsuc, natAbs}
-use borrow.Author.Tests.{ltb-false}
 use Rattle.whole.specs.Lists.{Every}
-use Rattle.whole.proofs.Tests.{by-test, or-false}
 use Rattle.whole.proofs.Lists.{every-by, map-every, every-at}
 use Rattle.whole.proofs.Size.{natAbs-neg}
 use Rattle.text.specs.declared.form.Field.{Field}
 use Rattle.book.specs.declared.Building.{Building}
-use Rattle.book.specs.Building.{Field as BookField, buildingFault, outOfForm, tooLong, some, fields}
 use Rattle.book.specs.Question.{zoneOn}
 use Rattle.job.specs.declared.Rule.the-variants.{NumberFrom, SizeTo, Direction, Mark}
 use Rattle.job.specs.declared.Section.{Section}
@@ -33,6 +30,7 @@ use Rattle.job.proofs.Walk.{line-in-order, line-says, line-own, Entries
 use Rattle.job.proofs.Sheet.{saidBy, SheetInOrder, sheet-accepted, accepted-sheet}
 use Rattle.job.proofs.Lines.{natural-small, plus-small, minus-small, angle-small, building-back}
 use Rattle.job.proofs.RoundTrip.{said-back}
+use Rattle.job.proofs.Written.{building-given}
 
 -- ---- what an entry in order says is in order
 
@@ -89,32 +87,10 @@ accepted-in-order xs c a =
 
 -- ---- in order, so accepted
 
--- a building in order has no number of more than 7 digits
-none-of : (f : BookField → Bool) (l : List BookField) → some f l ≡ false → Every (λ r. f r ≡ false) l
-none-of f [] e = tt
-none-of f (r ∷ l) e = let t = or-false (f r) (some f l) e in (t .0, none-of f l (t .1))
-
-building-form : (g : Building) → buildingFault g ≡ 0 → outOfForm g ≡ false
-unfolding buildingFault
-building-form g z = by-test (outOfForm g) (λ e. absurd (let q : _≡_ {A = ℕ} 1 0 = rw e at z in omega arith)) (λ e. e)
-
-building-short : (g : Building) → buildingFault g ≡ 0 → Every (λ r. natAbs (r .number) ≤ 9999999) (fields g)
-unfolding outOfForm tooLong
-building-short g z = every-by (λ r e. ltb-false 9999999 (natAbs (r .number)) e) (fields g) (none-of (λ r. tooLong (r .number)) (fields g) (building-form g z))
-
 -- the fields of values in order
 number-says : {n : ℕ} (most : ℕ) (z : ℤ) → most ≤ 9999999 → natAbs z ≤ most → Says (SizeTo n most) (numberField z)
 number-says most (pos m) h k = rw (plus-small m (omega arith)) (rule.plus k)
 number-says most (negsuc m) h k = rw (minus-small (suc m) (omega arith) (omega arith)) (rule.minus {m = suc m} (omega arith) k)
-
-building-says : (g : Building) → buildingFault g ≡ 0 → AllSay (rules (Entry B)) (buildingFields g)
-building-says g z =
-    let s = building-short g z in
-    more (any (g .h) (s .0)) (more (any (g .a) (s .1 .0)) (more (any (g .b) (s .1 .1 .0))
-    (more (any (g .density) (s .1 .1 .1 .0)) (more (any (g .kind) (s .1 .1 .1 .1 .0)) (more (any (g .x) (s .1 .1 .1 .1 .1 .0)) none)))))
-  where
-    any : (z : ℤ) → natAbs z ≤ 9999999 → Says (SizeTo 1 9999999) (numberField z)
-    any z h = number-says 9999999 z (omega arith) h
 
 direction-says : (m : ℕ) → Angle m → Says Direction (naturalField m)
 direction-says m a = rw (natural-small m (omega (arith, angle-small m a))) (rule.direction a)
@@ -139,17 +115,12 @@ face-says g f o =
     (more (number-says 100000 (f .y) (omega arith) (o .y)) (more (number-says 100000 (f .z) (omega arith) (o .z)) none))))
 
 -- the entries of what is in order
-building-entry : (e g : Building) → buildingFault g ≡ 0 → lineFault (Entry B) e (buildingFields g) ≡ 0
-building-entry e g z =
-    let a = building-says g z in
-    line-in-order (Entry B) e (buildingFields g) a (ap buildingFault (building-back g a) ∙ z)
-
 face-entry : (g : Building) (f : Face) → FaceInOrder g f → lineFault (Entry F) g (faceFields f) ≡ 0
 face-entry g f o = line-in-order (Entry F) g (faceFields f) (face-says g f o) (rw (o .on))
 
 module _ (c : Carried) (o : InOrder c) where
   entries-in-order : (e : Building) → e ≡ c .building → (s : Section) → EntriesInOrder s e (entriesOf c s)
-  entries-in-order e q B = (building-entry e (c .building) (o .building), tt)
+  entries-in-order e q B = (sym (building-given (c .building) e) ∙ o .building, tt)
   entries-in-order e q W =
       map-every _ windFields (c .winds) (every-by (λ w h. line-in-order (Entry W) e (windFields w) (wind-says w h) refl) (c .winds) (o .winds))
   entries-in-order e q I =
@@ -165,8 +136,9 @@ module _ (c : Carried) (o : InOrder c) where
 
   sheet-sound : SheetInOrder (entriesOf c)
   sheet-sound =
-      let q = building-back (c .building) (building-says (c .building) (o .building)) in
-      record { counted = counted; entries = entries-in-order (buildingOf (buildingFields (c .building))) q }
+      let g = c .building in
+      let q = building-back g (line-says (Entry B) g (buildingFields g) (sym (building-given g g) ∙ o .building)) in
+      record { counted = counted; entries = entries-in-order (buildingOf (buildingFields g)) q }
 
 pub in-order-accepted : (c : Carried) → InOrder c → readLines (linesOf c) ≡ Accepted c
 unfolding linesOf

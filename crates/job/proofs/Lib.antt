@@ -15,6 +15,7 @@ pub mod Worked
 pub mod Tested
 pub mod Lower
 pub mod Slots
+pub mod Written
 pub mod Alone
 pub mod Judged
 pub mod Verdicts

@@ -1,11 +1,10 @@
--- The lower of two faults by tests, and the fault of a line's fields found one field after the other.
-use Prim.Native.Nat.{ℕ, zero, suc, _+_, _≤_, _<_}
-use mathlib.Core.Path.{_≡_, refl, ap, _∙_, sym}
-use mathlib.Core.List.{List}
+-- The lower of two faults by tests, and the fault of a line's fields by the place of each.
+use Prim.Native.Nat.{ℕ, zero, suc, _+_, _<_}
+use mathlib.Core.Path.{_≡_, refl, sym, _∙_}
+use mathlib.Core.List.{List, [], _∷_}
 use mathlib.Core.Bool.{cond}
-use native.Mathlib.Numerals.{add-one}
 use native.Mathlib.Omega.{arith}
-use lib.ListN.{length, getD, drop, drop-of-length-le}
+use lib.ListN.{length, drop}
 use lib.Seq.{drop-cons}
 use lib.Dec.{eqb, ltb}
 use borrow.Author.Tests.{ne-eqb, ltb-true, ltb-false}
@@ -14,7 +13,8 @@ use Rattle.text.specs.declared.form.Field.{Field}
 use Rattle.text.specs.declared.form.Field.the-variants.{Bad}
 use Rattle.job.specs.declared.Rule.{Rule}
 use Rattle.job.specs.Rules.{fieldFault, lower, lowest, fieldsFault}
-use Rattle.job.proofs.Lowest.{fields-even}
+use Rattle.job.specs.Sections.{at}
+use Rattle.job.proofs.Lowest.{fields-even, fields-uneven}
 
 pub lower-tested : (a b : ℕ) → lower a b ≡ cond (eqb a 0) b (cond (eqb b 0) a (cond (ltb a b) a b))
 unfolding lower
@@ -24,35 +24,32 @@ lower-tested (suc a) (suc b) =
     rw (ne-eqb (suc a) 0 (λ e. omega arith), ne-eqb (suc b) 0 (λ e. omega arith))
     (by-test (ltb (suc a) (suc b)) (λ e. rw e (omega (arith, ltb-true (suc a) (suc b) e))) (λ e. rw e (omega (arith, ltb-false (suc a) (suc b) e))))
 
--- 0 is none, and it does not matter which two are compared first
+-- 0 is none
 lower-none : (a : ℕ) → lower a 0 ≡ a
 unfolding lower
 lower-none zero = refl
 lower-none (suc a) = refl
 
-lower-assoc : (a b c : ℕ) → lower (lower a b) c ≡ lower a (lower b c)
-unfolding lower
-lower-assoc zero b c = refl
-lower-assoc (suc a) zero c = refl
-lower-assoc (suc a) (suc b) zero = refl
-lower-assoc (suc a) (suc b) (suc c) = ap suc (omega arith)
+-- the lowest fault of the fields from place i on
+abbrev pub lowestFrom : ℕ → List Rule → List Field → ℕ
+lowestFrom i [] fs = 0
+lowestFrom i (r ∷ []) fs = fieldFault r (at fs i)
+lowestFrom i (r ∷ q ∷ rs) fs = lower (fieldFault r (at fs i)) (lowestFrom (suc i) (q ∷ rs) fs)
 
--- the fault of all fields, of which `low` is the lowest of the first i
-abbrev pub LowestFrom : List Rule → List Field → ℕ → ℕ → Type 0
-LowestFrom rs fs low i = fieldsFault rs fs ≡ lower low (lowest (drop i rs) (drop i fs))
+lowest-from : (i : ℕ) (rs : List Rule) (fs : List Field) → length fs ≡ i + length rs → lowest rs (drop i fs) ≡ lowestFrom i rs fs
+unfolding lowest
+lowest-from i [] fs h = refl
+lowest-from i (r ∷ []) fs h =
+    let k : i < length fs = omega arith in
+    rw (drop-cons fs i Bad k) (lower-none (fieldFault r (at fs i)))
+lowest-from i (r ∷ q ∷ rs) fs h =
+    let k : i < length fs = omega arith in
+    rw (drop-cons fs i Bad k) (rw (lowest-from (suc i) (q ∷ rs) fs (omega arith)))
 
-module _ (rs : List Rule) (fs : List Field) (h : length fs ≡ length rs) where
-  pub lowest-start : LowestFrom rs fs 0 0
-  unfolding lower
-  lowest-start = fields-even rs fs h
+-- n fields are there
+module _ (rs : List Rule) (fs : List Field) (n : ℕ) (e : n ≡ length fs) where
+  pub fields-placed : n ≡ length rs → fieldsFault rs fs ≡ lowestFrom 0 rs fs
+  fields-placed h = fields-even rs fs (omega arith) ∙ lowest-from 0 rs fs (omega arith)
 
-  pub lowest-on : (low i n m : ℕ) (r d : Rule) (f : Field) → i < length rs → r ≡ getD rs i d → f ≡ getD fs i Bad → n ≡ fieldFault r f → m ≡ lower low n
-      → LowestFrom rs fs low i → LowestFrom rs fs m (i + 1)
-  unfolding lowest
-  lowest-on low i n m r d f k er ef en em z =
-      let g : i < length fs = omega arith in
-      z ∙ rw (add-one, drop-cons rs i d, drop-cons fs i Bad, ← er, ← ef, ← en, ← lower-assoc, ← em)
-
-  pub lowest-end : (low i : ℕ) → length rs ≤ i → LowestFrom rs fs low i → low ≡ fieldsFault rs fs
-  unfolding lowest
-  lowest-end low i k z = sym (z ∙ rw (drop-of-length-le rs k) (lower-none low))
+  pub fields-other : (n ≡ length rs → ⊥) → 1 ≡ fieldsFault rs fs
+  fields-other h = sym (fields-uneven rs fs (λ q. h (e ∙ q)))

@@ -146,6 +146,11 @@ module _ (k : Kind) (g : Building) (fs : List Field) where
   unfolding lineFault
   fault-own h = rw (eq-eqb _ _ h)
 
+  -- where the line has no fault of its own
+  pub fault-plain : ownFault k g fs ≡ 0 → lineFault k g fs ≡ fieldsFault (rules k) fs
+  fault-plain h =
+      by-test (eqb (fieldsFault (rules k) fs) 0) (λ q. let z = eqb-true _ _ q in fault-own z ∙ h ∙ sym z) (λ q. fault-fields (eqb-false _ _ q))
+
   fault-uneven : (length fs ≡ length (rules k) → ⊥) → lineFault k g fs ≡ 1
   fault-uneven h = let q = fields-uneven (rules k) fs h in fault-fields (λ e. omega arith) ∙ q
 

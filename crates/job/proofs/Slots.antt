@@ -10,6 +10,7 @@ use mir.Val.{toZ, ofZ}
 use mir.Facts.{toZ-ofZ}
 use borrow.Author.Needs.{sfits-of}
 use borrow.Author.Tests.{le-leb, lt-leb, eq-eqb, ne-eqb, ltb-true}
+use Rattle.text.specs.declared.form.Field.{Field}
 use Rattle.text.specs.declared.form.Field.the-variants.{Bad, Plus, Minus, Dash}
 use Rattle.lines.specs.declared.row.Slot.{Slot}
 use Rattle.lines.specs.Held.{slot}
@@ -50,5 +51,8 @@ number-above (pos n) m e h t = rw (le-leb n 9999999 (omega arith)) (ap Plus e)
 number-above (negsuc n) m e h t = absurd (true≢false t)
 
 -- a number of a record, which the machine hands on as bits
+pub as-written : {A : Type 0} (q : Field → A) (z : ℤ) {r : A} → mag z < 2 ^ 63 → r ≡ q (numberField (toZ w64 (ofZ w64 z))) → r ≡ q (numberField z)
+as-written q z h e = e ∙ ap (λ (y : ℤ). q (numberField y)) (toZ-ofZ (sfits-of h))
+
 pub slot-is : (z : ℤ) {r : Slot} → mag z < 2 ^ 63 → r ≡ slot (numberField (toZ w64 (ofZ w64 z))) → r ≡ slot (numberField z)
-slot-is z h e = e ∙ ap (λ (y : ℤ). slot (numberField y)) (toZ-ofZ (sfits-of h))
+slot-is = as-written slot

@@ -1,18 +1,20 @@
 // The lowest fault of one line.
 use crate::Kind;
+use crate::Rule;
 use crate::Section;
 use crate::fields;
 use crate::says;
 use crate::shape;
 use book::Building;
+use lines::line::held_count;
 use lines::row::Line;
+use lines::row::field_at;
 ghost use mathlib.Core.Path.{_≡_};
-ghost use lib.ListN.{length};
 ghost use Rattle.lines.specs.Held.{held};
-ghost use Rattle.job.specs.Rules.{lower, fieldsFault};
-ghost use Rattle.job.specs.Sections.{rules, ownFault, lineFault};
+ghost use Rattle.job.specs.Rules.{fieldFault, lower, fieldsFault};
+ghost use Rattle.job.specs.Sections.{anyNumber, rules, at, ownFault, lineFault};
 
-fn lower_of(a: u32, b: u32) -> u32
+pub(crate) fn lower_of(a: u32, b: u32) -> u32
     ensures { λ r. ⌜ r ≡ lower a b ⌝ }
 {
     if a == 0 {
@@ -27,33 +29,98 @@ fn lower_of(a: u32, b: u32) -> u32
     b
 }
 
-// How many fields a line holds.
-fn held_count(x: Line) -> usize
-    ensures { λ r. ⌜ r ≡ length (held x) ⌝ }
+// ---- the fields of a line; one too few or too many is fault 1
+
+fn count_fields(s: Section, x: Line) -> u32
+    ensures { λ r. ⌜ r ≡ fieldsFault (rules (Kind.Count s)) (held x) ⌝ }
 {
-    if x.count < 6 {
-        return x.count;
+    if held_count(x) != 2 {
+        return 1;
     }
-    6
+    let l = shape::limits_of(s);
+    lower_of(
+        fields::letter_fault(l.letter, l.letter, field_at(x, 0)),
+        fields::from_fault(2, l.least, l.most, field_at(x, 1)),
+    )
+}
+
+// The fault of a field that is a number of at most this size.
+fn size_at(x: Line, i: usize, n: u32, most: u32) -> u32
+    ensures { λ r. ⌜ r ≡ fieldFault (Rule.SizeTo n most) (at (held x) i) ⌝ }
+{
+    fields::size_fault(n, most, field_at(x, i))
+}
+
+// A number in form; its range is judged with the building's whole line.
+fn form_at(x: Line, i: usize) -> u32
+    ensures { λ r. ⌜ r ≡ fieldFault anyNumber (at (held x) i) ⌝ }
+{
+    size_at(x, i, 1, 9999999)
+}
+
+fn building_fields(x: Line) -> u32
+    ensures { λ r. ⌜ r ≡ fieldsFault (rules (Kind.Entry Section.B)) (held x) ⌝ }
+{
+    if held_count(x) != 6 {
+        return 1;
+    }
+    let last = lower_of(form_at(x, 3), lower_of(form_at(x, 4), form_at(x, 5)));
+    lower_of(
+        form_at(x, 0),
+        lower_of(form_at(x, 1), lower_of(form_at(x, 2), last)),
+    )
+}
+
+fn wind_fields(x: Line) -> u32
+    ensures { λ r. ⌜ r ≡ fieldsFault (rules (Kind.Entry Section.W)) (held x) ⌝ }
+{
+    if held_count(x) != 2 {
+        return 1;
+    }
+    lower_of(
+        fields::direction_fault(field_at(x, 0)),
+        fields::from_fault(3, 1, 1000, field_at(x, 1)),
+    )
+}
+
+fn internal_fields(x: Line) -> u32
+    ensures { λ r. ⌜ r ≡ fieldsFault (rules (Kind.Entry Section.I)) (held x) ⌝ }
+{
+    if held_count(x) != 1 {
+        return 1;
+    }
+    size_at(x, 0, 3, 100)
+}
+
+fn face_fields(x: Line) -> u32
+    ensures { λ r. ⌜ r ≡ fieldsFault (rules (Kind.Entry Section.F)) (held x) ⌝ }
+{
+    if held_count(x) != 5 {
+        return 1;
+    }
+    let areas = lower_of(
+        size_at(x, 2, 3, 100000),
+        lower_of(size_at(x, 3, 3, 100000), size_at(x, 4, 3, 100000)),
+    );
+    lower_of(
+        fields::letter_fault(b'A', b'H', field_at(x, 0)),
+        lower_of(fields::mark_fault(field_at(x, 1)), areas),
+    )
 }
 
 // The lowest fault of the fields of a line.
 fn fields_fault(k: Kind, x: Line) -> u32
     ensures { λ r. ⌜ r ≡ fieldsFault (rules k) (held x) ⌝ }
 {
-    let n = shape::width(k);
-    if held_count(x) != n {
-        return 1;
+    match k {
+        Kind::Count(s) => count_fields(s, x),
+        Kind::Entry(s) => match s {
+            Section::B => building_fields(x),
+            Section::W => wind_fields(x),
+            Section::I => internal_fields(x),
+            Section::F => face_fields(x),
+        },
     }
-    let rules = shape::rules_of(k);
-    let mut low: u32 = 0;
-    let mut i: usize = 0;
-    while i < n {
-        let r = rules[i];
-        low = lower_of(low, fields::field_fault(r, lines::row::field_at(x, i)));
-        i += 1;
-    }
-    low
 }
 
 // The fault of a whole line, where each of its fields is in order: the building's own, or a zone that is not on the building.

@@ -5,7 +5,7 @@ use text::form::Field;
 ghost use mathlib.Core.Path.{_≡_};
 ghost use mathlib.Core.Bool.{_&&_, _||_};
 ghost use lib.Dec.{leb, eqb};
-ghost use Rattle.job.specs.Rules.{unless, ofNumber, directionFault, fieldFault};
+ghost use Rattle.job.specs.Rules.{unless, ofNumber, fieldFault};
 
 // Fault n unless the test holds.
 pub(crate) fn unless(n: u32, test: bool) -> u32
@@ -14,7 +14,7 @@ pub(crate) fn unless(n: u32, test: bool) -> u32
     if test { 0 } else { n }
 }
 
-fn within(lo: u32, hi: u32, m: u32) -> bool
+pub(crate) fn within(lo: u32, hi: u32, m: u32) -> bool
     ensures { λ r. ⌜ r ≡ leb lo m && leb m hi ⌝ }
 {
     if lo <= m { m <= hi } else { false }
@@ -45,33 +45,44 @@ fn number_fault(plus: u32, minus: u32, f: Field) -> u32
     }
 }
 
-fn direction_fault(f: Field) -> u32
-    ensures { λ r. ⌜ r ≡ directionFault f ⌝ }
+// ---- a fault for each rule
+
+pub(crate) fn letter_fault(lo: u8, hi: u8, f: Field) -> u32
+    ensures { λ r. ⌜ r ≡ fieldFault (Rule.LetterFrom lo hi) f ⌝ }
+{
+    match f {
+        Field::Letter(b) => unless(1, within(lo as u32, hi as u32, b as u32)),
+        Field::Plus(_) => 1,
+        Field::Minus(_) => 1,
+        Field::Dash => 1,
+        Field::Bad => 1,
+    }
+}
+
+pub(crate) fn from_fault(n: u32, lo: u32, hi: u32, f: Field) -> u32
+    ensures { λ r. ⌜ r ≡ fieldFault (Rule.NumberFrom n lo hi) f ⌝ }
+{
+    number_fault(unless(n, within(lo, hi, says::size_of(f))), n, f)
+}
+
+pub(crate) fn size_fault(n: u32, most: u32, f: Field) -> u32
+    ensures { λ r. ⌜ r ≡ fieldFault (Rule.SizeTo n most) f ⌝ }
+{
+    let fault = unless(n, says::size_of(f) <= most);
+    number_fault(fault, fault, f)
+}
+
+pub(crate) fn direction_fault(f: Field) -> u32
+    ensures { λ r. ⌜ r ≡ fieldFault Rule.Direction f ⌝ }
 {
     number_fault(unless(3, is_direction(says::size_of(f))), 3, f)
 }
 
-// The fault that a rule finds in a field.
-pub(crate) fn field_fault(r: Rule, f: Field) -> u32
-    ensures { λ n. ⌜ n ≡ fieldFault r f ⌝ }
+pub(crate) fn mark_fault(f: Field) -> u32
+    ensures { λ r. ⌜ r ≡ fieldFault Rule.Mark f ⌝ }
 {
-    let m = says::size_of(f);
-    match r {
-        Rule::LetterFrom(lo, hi) => {
-            let test = within(lo as u32, hi as u32, says::letter_of(f) as u32);
-            unless(1, says::is_letter(test, f))
-        }
-        Rule::NumberFrom(n, lo, hi) => number_fault(unless(n, within(lo, hi, m)), n, f),
-        Rule::SizeTo(n, most) => {
-            let fault = unless(n, m <= most);
-            number_fault(fault, fault, f)
-        }
-        Rule::Direction => direction_fault(f),
-        Rule::Mark => {
-            if says::is_dash(f) {
-                return 0;
-            }
-            direction_fault(f)
-        }
+    if says::is_dash(f) {
+        return 0;
     }
+    direction_fault(f)
 }

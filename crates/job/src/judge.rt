@@ -3,8 +3,7 @@ use crate::Job;
 use crate::Kind;
 use crate::Section;
 use crate::Verdict;
-use crate::entries;
-use crate::faults;
+use crate::given;
 ghost use mathlib.Core.Path.{_≡_};
 ghost use mathlib.Core.List.{[], _∷_};
 ghost use Prim.Native.Nat.{_≤_};
@@ -32,7 +31,7 @@ fn judge_section(j: Job, s: Section, line: u32) -> Verdict
 {
     let g = j.building;
     let n = count_of(j, s);
-    let number = faults::line_fault(Kind::Count(s), g, entries::count_line(s, n));
+    let number = given::count_fault(s, n);
     if number != 0 {
         return Verdict { number, line };
     }
@@ -42,22 +41,21 @@ fn judge_section(j: Job, s: Section, line: u32) -> Verdict
     let mut i: u32 = 0;
     while i < n {
         let k = i as usize;
-        let x = match s {
-            Section::B => entries::building_line(g),
+        let number = match s {
+            Section::B => book::building_fault(g),
             Section::W => {
                 let w = winds.entry[k];
-                entries::wind_line(w)
+                given::wind_fault(w)
             }
             Section::I => {
                 let c = internals.entry[k];
-                entries::internal_line(c)
+                given::internal_fault(c)
             }
             Section::F => {
                 let f = faces.entry[k];
-                entries::face_line(f)
+                given::face_fault(g, f)
             }
         };
-        let number = faults::line_fault(Kind::Entry(s), g, x);
         if number != 0 {
             return Verdict {
                 number,

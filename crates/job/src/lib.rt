@@ -4,9 +4,11 @@ use book::Building;
 pub mod entries;
 pub mod faults;
 mod fields;
+mod given;
 pub mod judge;
 pub mod says;
 mod shape;
+mod values;
 
 // A wind: its direction in degrees and its speed in 0.1 m/s.
 pub struct Wind {

@@ -7,7 +7,7 @@ use lines::row::Line;
 use text::form::Field;
 ghost use mathlib.Core.Path.{_≡_};
 ghost use Rattle.lines.specs.Held.{held};
-ghost use Rattle.job.specs.Rules.{isLetter, isDash};
+ghost use Rattle.job.specs.Rules.{isDash};
 ghost use Rattle.job.specs.Sections.{number, size, letter, mark, at, buildingOf, windOf, internalOf, faceOf};
 
 pub(crate) fn number_of(f: Field) -> i64
@@ -54,19 +54,6 @@ pub(crate) fn is_dash(f: Field) -> bool
         Field::Plus(_) => false,
         Field::Minus(_) => false,
         Field::Letter(_) => false,
-        Field::Bad => false,
-    }
-}
-
-// Whether it is a letter, where a test of the letter came out as `test`.
-pub(crate) fn is_letter(test: bool, f: Field) -> bool
-    ensures { λ r. ⌜ r ≡ isLetter (λ b. test) f ⌝ }
-{
-    match f {
-        Field::Letter(_) => test,
-        Field::Plus(_) => false,
-        Field::Minus(_) => false,
-        Field::Dash => false,
         Field::Bad => false,
     }
 }

@@ -31,7 +31,7 @@ pub fn put_field(buf: &mut [u8], at: usize, f: Field) -> usize
 }
 
 // How many fields a line holds.
-fn held_count(x: Line) -> usize
+pub fn held_count(x: Line) -> usize
     ensures { λ r. ⌜ r ≡ length (held x) ⌝ }
 {
     if x.count < 6 {

@@ -8,7 +8,7 @@ returns : tie.Need-returns
 returns c =
     let u = c .before in
     let t = u .before in
-    by-direction (t .before .before .args .f) _ _ _ _ (t .before .size-of .ensures) (t .is-direction .ensures) (u .unless .ensures) (c .number-fault .ensures)
+    by-direction _ _ _ (t .before .size-of .ensures) _ _ (t .is-direction .ensures) (u .unless .ensures) (c .number-fault .ensures)
 
 pub direction-fault-spec : {M : Type 1} → statement M
 direction-fault-spec =

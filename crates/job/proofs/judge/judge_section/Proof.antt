@@ -8,17 +8,19 @@ use lib.IntN.{ℤ}
 use lib.ListN.{length, getD, take}
 use mir.Facts.{toZ-ofZ}
 use Rattle.text.specs.declared.form.Field.{Field}
-use Rattle.lines.specs.Held.{lineOf}
+use Rattle.book.specs.declared.Building.{Building}
 use Rattle.job.specs.declared.Section.{Section}
-use Rattle.job.specs.declared.Section.the-variants.{W, I, F}
-use Rattle.job.specs.declared.Kind.the-variants.{Entry}
+use Rattle.job.specs.declared.Section.the-variants.{B, W, I, F}
+use Rattle.job.specs.declared.Kind.the-variants.{Count, Entry}
 use Rattle.job.specs.declared.Job.{Job}
 use Rattle.job.specs.Carried.{carried}
 use Rattle.job.specs.Sections.{about, lineFault}
 use Rattle.job.specs.Lines.{internalFields, entriesOf}
 use Rattle.job.proofs.Walk.{EntriesInOrder}
 use Rattle.job.proofs.Sections.{Counted, countLine}
-use Rattle.job.proofs.Alone.{entryOf, entry-held, most-24, alone-count, alone-counted, alone-entry, alone-next, alone-passed}
+use Rattle.job.proofs.Alone.{entryOf, entry-is, most-24, alone-count, alone-counted, alone-entry, alone-next, alone-passed}
+use Rattle.job.proofs.Lowest.{fault-plain}
+use Rattle.job.proofs.Written.{building-given}
 use borrow.Author.Needs.{needs, sfits-of}
 use Rattle.job.proofs.judge.judge_section.Statement.{statement}
 use Rattle.job.proofs.judge.judge_section.Tie as tie
@@ -30,60 +32,43 @@ Inv-loop s line g n number winds internals faces i₀ i =
 abbrev μ-loop : tie.MeasureT-loop
 μ-loop s line g n number winds internals faces i₀ i = n - i
 
-module _ (c : tie.After-line-fault Inv-loop μ-loop) where
+module _ (c : tie.After-count-fault Inv-loop μ-loop) where
   abbrev job : Job
-  job = c .before .before .before .before .args .j
+  job = c .before .before .before .args .j
 
   abbrev section : Section
-  section = c .before .before .before .before .args .s
+  section = c .before .before .before .args .s
 
   abbrev lines : List (List Field)
   lines = entriesOf (carried job) section
 
-  many : c .before .before .count-of .result ≡ length lines
-  many = c .before .before .count-of .ensures
+  many : c .before .count-of .result ≡ length lines
+  many = c .before .count-of .ensures
 
-  count-made : c .before .count-line .result ≡ lineOf 0 (countLine section (length lines))
-  count-made = c .before .count-line .ensures ∙ ap (λ (n : ℕ). lineOf 0 (countLine section n)) many
+  count-judged : c .count-fault .result ≡ lineFault (Count section) (job .building) (countLine section (length lines))
+  count-judged =
+      c .count-fault .ensures ∙ sym (fault-plain (Count section) (job .building) _ refl)
+      ∙ ap (λ (n : ℕ). lineFault (Count section) (job .building) (countLine section n)) many
 
 returns : tie.Need-returns Inv-loop μ-loop
 unfolding carried
 returns c =
     let f = c .before in
-    alone-count (section f) (carried (job f)) _ (lines f) _ _ (count-made f) (f .line-fault .ensures) (c .if1 .taken)
+    alone-count (section f) (carried (job f)) _ (lines f) _ (count-judged f) (c .if1 .taken)
 
 counted : (c : tie.After-faces Inv-loop μ-loop) → Counted (section (c .before .before .before .before)) (length (lines (c .before .before .before .before)))
 unfolding carried
 counted c =
     let t = c .before .before .before in
     let f = t .before in
-    alone-counted (section f) (carried (job f)) 0 (lines f) _ _ (count-made f) (f .line-fault .ensures) (t .if1 .left)
+    alone-counted (section f) (carried (job f)) 0 (lines f) _ (count-judged f) (t .if1 .left)
 
 loop-holds : tie.Need-loop-holds Inv-loop μ-loop
 loop-holds c = (search needs, tt)
 
--- the line that was made is entry i
-module _ (c : tie.At-match-came Inv-loop μ-loop) where
-  abbrev start : tie.After-line-fault Inv-loop μ-loop
-  start = c .before .before .before .before .before .before .before
-
-  abbrev i : ℕ
-  i = c .before .before .loop .i
-
-  made : c .match .x ≡ lineOf 0 (entryOf (job start) (section start) i)
-  made =
-      ⊎-elim (λ w. w .3 ∙ w .2 .ensures ∙ told (w .1 .given .1))
-      (⊎-elim (λ w. w .4 ∙ w .3 .ensures ∙ told (w .1 .given .1))
-      (⊎-elim (λ w. w .4 ∙ w .3 .ensures ∙ ap (λ (z : ℤ). lineOf 0 (internalFields z)) (toZ-ofZ (sfits-of (w .2 .given))) ∙ told (w .1 .given .1))
-      (λ w. w .4 ∙ w .3 .ensures ∙ told (w .1 .given .1))))
-      (c .match .came)
-    where
-      told : {t : Section} → section start ≡ t → lineOf 0 (entryOf (job start) t i) ≡ lineOf 0 (entryOf (job start) (section start) i)
-      told e = ap (λ (t : Section). lineOf 0 (entryOf (job start) t i)) (sym e)
-
 -- the machine's count and index are within the room of the section
 module _ (c : tie.In-loop Inv-loop μ-loop) where
-  abbrev here : tie.After-line-fault Inv-loop μ-loop
+  abbrev here : tie.After-count-fault Inv-loop μ-loop
   here = c .before .before .before .before .before .before
 
   within : c .before .loop .i < length (lines here)
@@ -96,31 +81,44 @@ module _ (c : tie.In-loop Inv-loop μ-loop) where
   small = omega (arith, room (section here) refl, most-24 (section here))
 
 -- the fault of entry i
-fault : (c : tie.After-line-fault2 Inv-loop μ-loop)
-    → c .line-fault2 .result ≡ lineFault (Entry (section (start (c .before)))) (job (start (c .before)) .building) (getD (lines (start (c .before))) (i (c .before)) [])
-fault c =
-    let m = c .before in
-    let b = start m in
-    c .line-fault2 .ensures
-    ∙ ap (lineFault (Entry (section b)) (job b .building)) (entry-held (job b) (section b) (i m) (m .match .x) (within (m .before)) (made m))
+module _ (c : tie.At-match-came Inv-loop μ-loop) where
+  abbrev start : tie.After-count-fault Inv-loop μ-loop
+  start = here (c .before)
+
+  abbrev i : ℕ
+  i = c .before .before .loop .i
+
+  abbrev g : Building
+  g = job start .building
+
+  judged-as : (t : Section) → section start ≡ t → lineFault (Entry t) g (entryOf (job start) t i) ≡ lineFault (Entry (section start)) g (getD (lines start) i [])
+  judged-as t e =
+      ap (λ (u : Section). lineFault (Entry u) g (entryOf (job start) u i)) (sym e)
+      ∙ ap (lineFault (Entry (section start)) g) (sym (entry-is (job start) (section start) i (within (c .before))))
+
+  fault : c .match .number ≡ lineFault (Entry (section start)) g (getD (lines start) i [])
+  fault =
+      ⊎-elim (λ w. w .3 ∙ w .2 .ensures ∙ building-given _ g ∙ judged-as B (w .1 .given .1))
+      (⊎-elim (λ w. w .4 ∙ w .3 .ensures ∙ sym (fault-plain (Entry W) g _ refl) ∙ judged-as W (w .1 .given .1))
+      (⊎-elim (λ w. w .4 ∙ w .3 .ensures ∙ sym (fault-plain (Entry I) g _ refl) ∙ ap (λ (z : ℤ). lineFault (Entry I) g (internalFields z)) (toZ-ofZ (sfits-of (w .2 .given))) ∙ judged-as I (w .1 .given .1))
+      (λ w. w .4 ∙ w .3 .ensures ∙ judged-as F (w .1 .given .1))))
+      (c .match .came)
 
 returns-2 : tie.Need-returns-2 Inv-loop μ-loop
 unfolding carried
 returns-2 c =
-    let f = c .before in
-    let m = f .before in
+    let m = c .before in
     let l = m .before .before in
     let b = start m in
-    alone-entry (section b) (carried (job b)) _ (lines b) (counted (l .before)) (i m) _ (within (m .before)) (l .loop .inv .1) (fault f) (c .if2 .taken)
+    alone-entry (section b) (carried (job b)) _ (lines b) (counted (l .before)) (i m) _ (within (m .before)) (l .loop .inv .1) (fault m) (c .if2 .taken)
 
 loop-again : tie.Need-loop-again Inv-loop μ-loop
 unfolding carried
 loop-again c =
-    let f = c .before in
-    let m = f .before in
+    let m = c .before in
     let l = m .before .before in
     let b = start m in
-    (omega arith, alone-next (section b) (carried (job b)) 0 (lines b) (counted (l .before)) (i m) _ (within (m .before)) (l .loop .inv .1) (fault f) (c .if2 .left))
+    (omega arith, alone-next (section b) (carried (job b)) 0 (lines b) (counted (l .before)) (i m) _ (within (m .before)) (l .loop .inv .1) (fault m) (c .if2 .left))
 
 returns-3 : tie.Need-returns-3 Inv-loop μ-loop
 unfolding carried
@@ -135,7 +133,6 @@ judge-section-spec =
     (tie.spec
     Inv-loop
     μ-loop
-    (λ c κs. search needs)
     (λ c κs. search needs)
     (λ c κs. search needs)
     returns
@@ -155,9 +152,8 @@ judge-section-spec =
     (λ c. omega (arith, room (c .before .before) F (c .enum-told4 .given .1)))
     (λ c. room (c .before .before) F (c .enum-told4 .given .1))
     (λ c κs. search needs)
-    (λ c κs. search needs)
     (λ c. search needs)
-    (λ c. omega (arith, small (c .before .before .before)))
+    (λ c. omega (arith, small (c .before .before)))
     returns-2
     (λ c. search needs)
     (λ c. search needs)

@@ -1,0 +1,33 @@
+-- `count_fields` meets its contract.
+use Rattle.lines.specs.Held.{held}
+use Rattle.job.specs.declared.Kind.the-variants.{Count}
+use Rattle.job.specs.Sections.{rules}
+use Rattle.job.proofs.Lower.{fields-placed, fields-other}
+use borrow.Author.Needs.{needs}
+use Rattle.job.proofs.faults.count_fields.Statement.{statement}
+use Rattle.job.proofs.faults.count_fields.Tie as tie
+
+returns : tie.Need-returns
+returns c =
+    let a = c .before .before .args in
+    fields-other (rules (Count (a .s))) (held (a .x)) _ (c .before .held-count .ensures) (c .if1 .taken)
+
+returns-2 : tie.Need-returns-2
+returns-2 c =
+    let e = c .before .before .before .before .before .before in
+    let a = e .before .before .args in
+    cc (fields-placed (rules (Count (a .s))) (held (a .x)) _ (e .before .held-count .ensures) (e .if1 .left))
+
+pub count-fields-spec : {M : Type 1} → statement M
+count-fields-spec =
+    tie.close
+    (tie.spec
+    (λ c κs. search needs)
+    returns
+    (λ c κs. search needs)
+    (λ c κs. search needs)
+    (λ c κs. search needs)
+    (λ c κs. search needs)
+    (λ c κs. search needs)
+    (λ c κs. search needs)
+    returns-2)

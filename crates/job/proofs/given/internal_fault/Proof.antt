@@ -1,0 +1,26 @@
+-- `internal_fault` meets its contract.
+use mathlib.Core.Path.{refl, sym, _∙_}
+use Rattle.job.specs.declared.Rule.the-variants.{SizeTo}
+use Rattle.job.specs.declared.Section.the-variants.{I}
+use Rattle.job.specs.declared.Kind.the-variants.{Entry}
+use Rattle.job.specs.Rules.{fieldFault}
+use Rattle.job.specs.Sections.{rules}
+use Rattle.job.specs.Lines.{internalFields}
+use Rattle.job.proofs.Lower.{fields-placed}
+use Rattle.job.proofs.Slots.{as-written}
+use borrow.Author.Needs.{needs}
+use Rattle.job.proofs.given.internal_fault.Statement.{statement}
+use Rattle.job.proofs.given.internal_fault.Tie as tie
+
+returns : tie.Need-returns
+returns c =
+    let s = c .before in
+    as-written (fieldFault (SizeTo 3 100)) (s .args .i) (s .fits .i .sfits) (c .size-fault .ensures)
+    ∙ sym (fields-placed (rules (Entry I)) (internalFields (s .args .i)) 1 refl refl)
+
+pub internal-fault-spec : {M : Type 1} → statement M
+internal-fault-spec =
+    tie.close
+    (tie.spec
+    (λ c κs. search needs)
+    returns)

@@ -1,0 +1,22 @@
+-- `wind_fault` meets its contract.
+use mathlib.Core.Path.{refl}
+use Rattle.job.specs.declared.Section.the-variants.{W}
+use Rattle.job.specs.declared.Kind.the-variants.{Entry}
+use Rattle.job.specs.Sections.{rules}
+use Rattle.job.specs.Lines.{windFields}
+use Rattle.job.proofs.Lower.{fields-placed}
+use borrow.Author.Needs.{needs}
+use Rattle.job.proofs.given.wind_fault.Statement.{statement}
+use Rattle.job.proofs.given.wind_fault.Tie as tie
+
+returns : tie.Need-returns
+returns c = cc (fields-placed (rules (Entry W)) (windFields (c .before .before .before .args .w)) 2 refl refl)
+
+pub wind-fault-spec : {M : Type 1} → statement M
+wind-fault-spec =
+    tie.close
+    (tie.spec
+    (λ c κs. search needs)
+    (λ c κs. search needs)
+    (λ c κs. search needs)
+    returns)

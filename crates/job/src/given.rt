@@ -1,0 +1,65 @@
+// The fault of a count or an entry of a job given as a record: that of its line, without the line.
+use crate::Face;
+use crate::Kind;
+use crate::Section;
+use crate::Wind;
+use crate::faults::lower_of;
+use crate::fields;
+use crate::shape;
+use crate::values;
+use book::Building;
+use text::form::Field;
+ghost use mathlib.Core.Path.{_≡_};
+ghost use mathlib.Core.List.{[], _∷_};
+ghost use Rattle.job.specs.Rules.{fieldsFault};
+ghost use Rattle.job.specs.Sections.{about, rules, lineFault};
+ghost use Rattle.job.specs.Lines.{windFields, internalFields, faceFields};
+
+pub(crate) fn count_fault(s: Section, n: u32) -> u32
+    ensures { λ r. ⌜ r ≡ fieldsFault (rules (Kind.Count s)) (Field.Letter (about s .letter) ∷ Field.Plus n ∷ []) ⌝ }
+{
+    let l = shape::limits_of(s);
+    fields::unless(2, fields::within(l.least, l.most, n))
+}
+
+pub(crate) fn wind_fault(w: Wind) -> u32
+    ensures { λ r. ⌜ r ≡ fieldsFault (rules (Kind.Entry Section.W)) (windFields w) ⌝ }
+{
+    lower_of(
+        values::direction_fault(w.direction),
+        values::natural_fault(1, 1000, w.speed),
+    )
+}
+
+pub(crate) fn internal_fault(i: i64) -> u32
+    ensures { λ r. ⌜ r ≡ fieldsFault (rules (Kind.Entry Section.I)) (internalFields i) ⌝ }
+{
+    values::size_fault(100, i)
+}
+
+// The fields of a face.
+fn face_fields(f: Face) -> u32
+    ensures { λ r. ⌜ r ≡ fieldsFault (rules (Kind.Entry Section.F)) (faceFields f) ⌝ }
+{
+    let areas = lower_of(
+        values::size_fault(100000, f.x),
+        lower_of(
+            values::size_fault(100000, f.y),
+            values::size_fault(100000, f.z),
+        ),
+    );
+    lower_of(
+        fields::letter_fault(b'A', b'H', Field::Letter(f.zone)),
+        lower_of(values::mark_fault(f.mark), areas),
+    )
+}
+
+pub(crate) fn face_fault(g: Building, f: Face) -> u32
+    ensures { λ r. ⌜ r ≡ lineFault (Kind.Entry Section.F) g (faceFields f) ⌝ }
+{
+    let n = face_fields(f);
+    if n != 0 {
+        return n;
+    }
+    fields::unless(6, book::zone_on(g.kind, f.zone))
+}

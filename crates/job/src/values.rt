@@ -1,0 +1,46 @@
+// The fault of a value of a record: that of the field that it would be written as. More than 7 digits are out of form.
+use crate::BOTH;
+use crate::Rule;
+use crate::fields;
+use text::form::Field;
+ghost use mathlib.Core.Path.{_≡_};
+ghost use Rattle.job.specs.Rules.{fieldFault};
+ghost use Rattle.job.specs.Lines.{naturalField, numberField, markField};
+
+pub(crate) fn natural_fault(lo: u32, hi: u32, n: u32) -> u32
+    ensures { λ r. ⌜ r ≡ fieldFault (Rule.NumberFrom 3 lo hi) (naturalField n) ⌝ }
+{
+    if 9999999 < n {
+        return 1;
+    }
+    fields::from_fault(3, lo, hi, Field::Plus(n))
+}
+
+pub(crate) fn direction_fault(n: u32) -> u32
+    ensures { λ r. ⌜ r ≡ fieldFault Rule.Direction (naturalField n) ⌝ }
+{
+    if 9999999 < n {
+        return 1;
+    }
+    fields::direction_fault(Field::Plus(n))
+}
+
+pub(crate) fn mark_fault(m: u32) -> u32
+    ensures { λ r. ⌜ r ≡ fieldFault Rule.Mark (markField m) ⌝ }
+{
+    if m == BOTH {
+        return 0;
+    }
+    direction_fault(m)
+}
+
+// A number has the fault of its size, on either side of zero.
+pub(crate) fn size_fault(most: u32, z: i64) -> u32
+    ensures { λ r. ⌜ r ≡ fieldFault (Rule.SizeTo 3 most) (numberField z) ⌝ }
+{
+    let m = whole::magnitude(z);
+    if 9999999 < m {
+        return 1;
+    }
+    fields::size_fault(3, most, Field::Plus(m as u32))
+}
