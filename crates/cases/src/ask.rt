@@ -1,11 +1,11 @@
 // Questions and records at the corners of paper 01, each with its answer.
 use book::Answer;
 use book::Building;
-use job::Face;
+use entry::Face;
+use entry::Wind;
 use job::Faces;
 use job::Internals;
 use job::Job;
-use job::Wind;
 use job::Winds;
 use text::page::Writing;
 
@@ -166,7 +166,10 @@ fn print_verdict(title: &[u8], j: Job) {
 
 pub(crate) fn records() {
     print_verdict(b"a record in order:", record(1, 1, b'A', 0));
-    print_verdict(b"a record marked for both:", record(8, 24, b'A', job::BOTH));
+    print_verdict(
+        b"a record marked for both:",
+        record(8, 24, b'A', entry::BOTH),
+    );
     print_verdict(b"point 8: nine winds:", record(9, 1, b'A', 0));
     print_verdict(
         b"point 8: 4000000000 faces:",

@@ -23,8 +23,8 @@ use Rattle.book.proofs.Accepted.{in-order}
 use Rattle.book.proofs.Roofed.{roof-between}
 use Rattle.book.proofs.Answers.{answered, on-wall, wall-on, on-gable, on-f, on-flat}
 use Rattle.job.specs.declared.Job.{Job}
-use Rattle.job.specs.declared.Wind.{Wind}
-use Rattle.job.specs.declared.Face.{Face}
+use Rattle.entry.specs.declared.Wind.{Wind}
+use Rattle.entry.specs.declared.Face.{Face}
 use Rattle.job.specs.Carried.{Carried, carried, recorded, SameJob}
 use Rattle.job.specs.Lines.{linesOf}
 use Rattle.job.specs.InOrder.{FaceInOrder, Within}

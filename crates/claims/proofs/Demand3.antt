@@ -8,7 +8,7 @@ use lib.IntN.{ℤ, pos}
 use lib.ListN.{length}
 use Rattle.whole.specs.Lists.{Every}
 use Rattle.job.specs.declared.Job.{Job}
-use Rattle.job.specs.declared.Wind.{Wind}
+use Rattle.entry.specs.declared.Wind.{Wind}
 use Rattle.job.specs.Carried.{Carried}
 use Rattle.job.specs.InOrder.{WindInOrder}
 use Rattle.job.specs.Walk.{Accepted, judged}

@@ -21,7 +21,8 @@ use Rattle.book.specs.Building.{buildingFault, outOfForm, outOfRange, outOfWall
 use Rattle.book.specs.Answer.{valuesOf}
 use Rattle.book.specs.Question.{E, L1, outsideOf, zoneOn, localOn, coefficientOf, wallColumn, gableColumn, flatColumn}
 use Rattle.job.specs.Rules.{fieldFault, lower, lowest, fieldsFault}
-use Rattle.job.specs.Sections.{lineFault, both}
+use Rattle.entry.specs.Says.{both}
+use Rattle.job.specs.Sections.{lineFault}
 use Rattle.job.specs.Walk.{walk, verdict, readLines}
 use Rattle.sheet.specs.Sheet.{reading}
 use Rattle.worst.specs.declared.Axis.the-variants.{X}

@@ -3,7 +3,7 @@ use mathlib.Core.Path.{_≡_}
 use mathlib.Core.List.{List, [], _∷_, List·Memᴰ}
 use Prim.Native.Nat.{ℕ, _≤_}
 use lib.ListN.{length}
-use Rattle.job.specs.declared.Wind.{Wind}
+use Rattle.entry.specs.declared.Wind.{Wind}
 use Rattle.job.specs.declared.Job.{Job}
 use Rattle.job.specs.Carried.{Carried}
 use Rattle.worst.specs.declared.Side.{Side}

@@ -16,7 +16,8 @@ use Rattle.job.specs.declared.Job.{Job}
 use Rattle.job.specs.declared.Verdict.{Verdict}
 use Rattle.job.specs.Carried.{Carried, noWind, noFace, carried}
 use Rattle.job.specs.Sections.{about, lineFault}
-use Rattle.job.specs.Lines.{buildingFields, windFields, internalFields, faceFields, entriesOf, sectionOf}
+use Rattle.entry.specs.Fields.{buildingFields, windFields, internalFields, faceFields}
+use Rattle.job.specs.Lines.{entriesOf, sectionOf}
 use Rattle.job.specs.Walk.{verdict, walk}
 use Rattle.job.proofs.Walk.{EntriesInOrder}
 use Rattle.job.proofs.Sections.{Counted, countLine, count-counted, count-refused, section-refused, section-walk}

@@ -17,11 +17,13 @@ use Rattle.job.specs.declared.Rule.the-variants.{NumberFrom, SizeTo, Dir
 use Rattle.job.specs.declared.Section.{Section}
 use Rattle.job.specs.declared.Section.the-variants.{B, W, I, F}
 use Rattle.job.specs.declared.Kind.the-variants.{Entry}
-use Rattle.job.specs.declared.Wind.{Wind}
-use Rattle.job.specs.declared.Face.{Face}
+use Rattle.entry.specs.declared.Wind.{Wind}
+use Rattle.entry.specs.declared.Face.{Face}
 use Rattle.job.specs.Carried.{Carried}
-use Rattle.job.specs.Sections.{about, rules, number, mark, both, at, letter, lineFault, buildingOf, windOf, internalOf, faceOf}
-use Rattle.job.specs.Lines.{naturalField, numberField, markField, buildingFields, windFields, internalFields, faceFields, entriesOf, linesOf}
+use Rattle.entry.specs.Says.{number, mark, both, at, letter, buildingOf, windOf, internalOf, faceOf}
+use Rattle.job.specs.Sections.{about, rules, lineFault}
+use Rattle.entry.specs.Fields.{naturalField, numberField, markField, buildingFields, windFields, internalFields, faceFields}
+use Rattle.job.specs.Lines.{entriesOf, linesOf}
 use Rattle.job.specs.Walk.{Accepted, readLines}
 use Rattle.job.specs.InOrder.{Within, WindInOrder, InternalInOrder, FaceInOrder, InOrder}
 use Rattle.job.proofs.Rules as rule

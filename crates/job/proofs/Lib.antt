@@ -14,7 +14,6 @@ pub mod Records
 pub mod Worked
 pub mod Tested
 pub mod Lower
-pub mod Slots
 pub mod Written
 pub mod Alone
 pub mod Judged

@@ -16,10 +16,11 @@ use Rattle.job.specs.declared.Rule.{Rule}
 use Rattle.job.specs.declared.Rule.the-variants.{NumberFrom, SizeTo, Direction, Mark}
 use Rattle.job.specs.declared.Section.the-variants.{B, W, I, F}
 use Rattle.job.specs.declared.Kind.the-variants.{Entry}
-use Rattle.job.specs.declared.Wind.{Wind}
-use Rattle.job.specs.declared.Face.{Face}
-use Rattle.job.specs.Sections.{rules, number, size, mark, both, buildingOf, windOf, internalOf, faceOf}
-use Rattle.job.specs.Lines.{naturalField, numberField, markField, buildingFields, windFields, internalFields, faceFields}
+use Rattle.entry.specs.declared.Wind.{Wind}
+use Rattle.entry.specs.declared.Face.{Face}
+use Rattle.entry.specs.Says.{number, size, mark, both, buildingOf, windOf, internalOf, faceOf}
+use Rattle.job.specs.Sections.{rules}
+use Rattle.entry.specs.Fields.{naturalField, numberField, markField, buildingFields, windFields, internalFields, faceFields}
 use Rattle.job.proofs.Rules as rule
 use Rattle.job.proofs.Rules.{Says, AllSay, none, more, Angle}
 

@@ -13,7 +13,7 @@ use Rattle.text.specs.declared.form.Field.{Field}
 use Rattle.text.specs.declared.form.Field.the-variants.{Bad}
 use Rattle.job.specs.declared.Rule.{Rule}
 use Rattle.job.specs.Rules.{fieldFault, lower, lowest, fieldsFault}
-use Rattle.job.specs.Sections.{at}
+use Rattle.entry.specs.Says.{at}
 use Rattle.job.proofs.Lowest.{fields-even, fields-uneven}
 
 pub lower-tested : (a b : ℕ) → lower a b ≡ cond (eqb a 0) b (cond (eqb b 0) a (cond (ltb a b) a b))

@@ -21,7 +21,8 @@ use Rattle.job.specs.declared.Section.the-variants.{B, W, I, F}
 use Rattle.job.specs.declared.Kind.{Kind}
 use Rattle.job.specs.declared.Kind.the-variants.{Count, Entry}
 use Rattle.job.specs.Rules.{unless, ofNumber, isLetter, isDash, directionFault, fieldFault, lower, lowest, fieldsFault}
-use Rattle.job.specs.Sections.{rules, buildingOf, ownFault, lineFault, letter, at}
+use Rattle.entry.specs.Says.{buildingOf, letter, at}
+use Rattle.job.specs.Sections.{rules, ownFault, lineFault}
 use Rattle.job.proofs.Building.{building-least, building-found}
 use Rattle.job.specs.FirstFault.{HasFault, few-or-many, of-field, of-building, of-zone}
 use Rattle.job.proofs.Rules.{highest}

@@ -11,8 +11,10 @@ use Rattle.job.specs.declared.Section.the-variants.{B, W, I, F}
 use Rattle.job.specs.declared.Kind.the-variants.{Entry}
 use Rattle.job.specs.declared.Job.{Job}
 use Rattle.job.specs.Carried.{Carried, carried}
-use Rattle.job.specs.Sections.{rules, windOf, internalOf, faceOf}
-use Rattle.job.specs.Lines.{windFields, internalFields, faceFields, entriesOf, sheetOf, linesOf}
+use Rattle.entry.specs.Says.{windOf, internalOf, faceOf}
+use Rattle.job.specs.Sections.{rules}
+use Rattle.entry.specs.Fields.{windFields, internalFields, faceFields}
+use Rattle.job.specs.Lines.{entriesOf, sheetOf, linesOf}
 use Rattle.job.specs.Walk.{Accepted, readLines, judged}
 use Rattle.job.proofs.Rules.{AllSay}
 use Rattle.job.proofs.Walk.{line-says}

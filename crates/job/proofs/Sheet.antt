@@ -11,7 +11,8 @@ use Rattle.job.specs.declared.Section.the-variants.{B, W, I, F}
 use Rattle.job.specs.declared.Kind.{Kind}
 use Rattle.job.specs.declared.Kind.the-variants.{Count, Entry}
 use Rattle.job.specs.Carried.{Carried, nothing}
-use Rattle.job.specs.Sections.{lineFault, entries, learn, buildingOf, windOf, internalOf, faceOf}
+use Rattle.entry.specs.Says.{buildingOf, windOf, internalOf, faceOf}
+use Rattle.job.specs.Sections.{lineFault, entries, learn}
 use Rattle.job.specs.Lines.{sectionOf, sheetOf}
 use Rattle.job.specs.Walk.{Accepted, Refused, walk, readLines}
 use Rattle.job.proofs.Sections.{Counted, countLine, count-refused, section-refused, section-walk, section-in-order, section-begun, section-last, joined}

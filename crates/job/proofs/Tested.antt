@@ -7,7 +7,7 @@ use Rattle.text.specs.declared.form.Field.{Field}
 use Rattle.text.specs.declared.form.Field.the-variants.{Bad, Plus, Minus, Letter, Dash}
 use Rattle.job.specs.declared.Rule.the-variants.{LetterFrom, NumberFrom, SizeTo, Direction, Mark}
 use Rattle.job.specs.Rules.{unless, ofNumber, isLetter, isDash, fieldFault}
-use Rattle.job.specs.Sections.{size}
+use Rattle.entry.specs.Says.{size}
 
 number-tested : (p q : ℕ → ℕ) (f : Field) → ofNumber (λ m. p (size f)) (λ m. q (size f)) f ≡ ofNumber p q f
 number-tested p q (Plus m) = refl

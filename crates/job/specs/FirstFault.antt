@@ -14,7 +14,8 @@ use Rattle.job.specs.declared.Kind.{Kind}
 use Rattle.job.specs.declared.Kind.the-variants.{Entry}
 use Rattle.job.specs.Carried.{Carried}
 use Rattle.job.specs.Rules.{fieldFault}
-use Rattle.job.specs.Sections.{rules, buildingOf, letter, at, calls, learn}
+use Rattle.entry.specs.Says.{buildingOf, letter, at}
+use Rattle.job.specs.Sections.{rules, calls, learn}
 use Rattle.job.specs.Walk.{Reading, Accepted, Refused}
 
 -- a line has fault n: it has too few or too many fields, or one of its fields has it, or a test of the building it describes finds it, or its zone is not on the building

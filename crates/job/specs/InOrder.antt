@@ -9,10 +9,10 @@ use Rattle.whole.specs.Lists.{Every}
 use Rattle.book.specs.declared.Building.{Building}
 use Rattle.book.specs.Building.{buildingFault}
 use Rattle.book.specs.Question.{zoneOn}
-use Rattle.job.specs.declared.Wind.{Wind}
-use Rattle.job.specs.declared.Face.{Face}
+use Rattle.entry.specs.declared.Wind.{Wind}
+use Rattle.entry.specs.declared.Face.{Face}
 use Rattle.job.specs.Carried.{Carried}
-use Rattle.job.specs.Sections.{both}
+use Rattle.entry.specs.Says.{both}
 
 -- n lies from the first number to the second, both included
 pub record Within (least most n : ℕ) : Type 0 where

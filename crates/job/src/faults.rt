@@ -3,16 +3,18 @@ use crate::Kind;
 use crate::Rule;
 use crate::Section;
 use crate::fields;
-use crate::says;
 use crate::shape;
 use book::Building;
+use entry::says::building_of;
+use entry::says::face_of;
 use lines::line::held_count;
 use lines::row::Line;
 use lines::row::field_at;
 ghost use mathlib.Core.Path.{_≡_};
 ghost use Rattle.lines.specs.Held.{held};
 ghost use Rattle.job.specs.Rules.{fieldFault, lower, fieldsFault};
-ghost use Rattle.job.specs.Sections.{anyNumber, rules, at, ownFault, lineFault};
+ghost use Rattle.entry.specs.Says.{at};
+ghost use Rattle.job.specs.Sections.{anyNumber, rules, ownFault, lineFault};
 
 pub(crate) fn lower_of(a: u32, b: u32) -> u32
     ensures { λ r. ⌜ r ≡ lower a b ⌝ }
@@ -130,10 +132,13 @@ fn own_fault(k: Kind, g: Building, x: Line) -> u32
     match k {
         Kind::Count(_) => 0,
         Kind::Entry(s) => match s {
-            Section::B => book::building_fault(says::building_of(x)),
+            Section::B => book::building_fault(building_of(x)),
             Section::W => 0,
             Section::I => 0,
-            Section::F => fields::unless(6, book::zone_on(g.kind, says::letter_at(x, 0))),
+            Section::F => {
+                let f = face_of(x);
+                fields::unless(6, book::zone_on(g.kind, f.zone))
+            }
         },
     }
 }

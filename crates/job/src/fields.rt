@@ -1,11 +1,11 @@
 // The fault of one field under its rule.
 use crate::Rule;
-use crate::says;
+use entry::says::size_of;
 use text::form::Field;
 ghost use mathlib.Core.Path.{_≡_};
 ghost use mathlib.Core.Bool.{_&&_, _||_};
 ghost use lib.Dec.{leb, eqb};
-ghost use Rattle.job.specs.Rules.{unless, ofNumber, fieldFault};
+ghost use Rattle.job.specs.Rules.{unless, ofNumber, isDash, fieldFault};
 
 // Fault n unless the test holds.
 pub(crate) fn unless(n: u32, test: bool) -> u32
@@ -45,6 +45,18 @@ fn number_fault(plus: u32, minus: u32, f: Field) -> u32
     }
 }
 
+fn is_dash(f: Field) -> bool
+    ensures { λ r. ⌜ r ≡ isDash f ⌝ }
+{
+    match f {
+        Field::Dash => true,
+        Field::Plus(_) => false,
+        Field::Minus(_) => false,
+        Field::Letter(_) => false,
+        Field::Bad => false,
+    }
+}
+
 // ---- a fault for each rule
 
 pub(crate) fn letter_fault(lo: u8, hi: u8, f: Field) -> u32
@@ -62,26 +74,26 @@ pub(crate) fn letter_fault(lo: u8, hi: u8, f: Field) -> u32
 pub(crate) fn from_fault(n: u32, lo: u32, hi: u32, f: Field) -> u32
     ensures { λ r. ⌜ r ≡ fieldFault (Rule.NumberFrom n lo hi) f ⌝ }
 {
-    number_fault(unless(n, within(lo, hi, says::size_of(f))), n, f)
+    number_fault(unless(n, within(lo, hi, size_of(f))), n, f)
 }
 
 pub(crate) fn size_fault(n: u32, most: u32, f: Field) -> u32
     ensures { λ r. ⌜ r ≡ fieldFault (Rule.SizeTo n most) f ⌝ }
 {
-    let fault = unless(n, says::size_of(f) <= most);
+    let fault = unless(n, size_of(f) <= most);
     number_fault(fault, fault, f)
 }
 
 pub(crate) fn direction_fault(f: Field) -> u32
     ensures { λ r. ⌜ r ≡ fieldFault Rule.Direction f ⌝ }
 {
-    number_fault(unless(3, is_direction(says::size_of(f))), 3, f)
+    number_fault(unless(3, is_direction(size_of(f))), 3, f)
 }
 
 pub(crate) fn mark_fault(f: Field) -> u32
     ensures { λ r. ⌜ r ≡ fieldFault Rule.Mark f ⌝ }
 {
-    if says::is_dash(f) {
+    if is_dash(f) {
         return 0;
     }
     direction_fault(f)

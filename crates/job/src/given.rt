@@ -1,19 +1,19 @@
 // The fault of a count or an entry of a job given as a record: that of its line, without the line.
-use crate::Face;
 use crate::Kind;
 use crate::Section;
-use crate::Wind;
 use crate::faults::lower_of;
 use crate::fields;
 use crate::shape;
 use crate::values;
 use book::Building;
+use entry::Face;
+use entry::Wind;
 use text::form::Field;
 ghost use mathlib.Core.Path.{_≡_};
 ghost use mathlib.Core.List.{[], _∷_};
 ghost use Rattle.job.specs.Rules.{fieldsFault};
 ghost use Rattle.job.specs.Sections.{about, rules, lineFault};
-ghost use Rattle.job.specs.Lines.{windFields, internalFields, faceFields};
+ghost use Rattle.entry.specs.Fields.{windFields, internalFields, faceFields};
 
 pub(crate) fn count_fault(s: Section, n: u32) -> u32
     ensures { λ r. ⌜ r ≡ fieldsFault (rules (Kind.Count s)) (Field.Letter (about s .letter) ∷ Field.Plus n ∷ []) ⌝ }

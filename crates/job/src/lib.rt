@@ -1,32 +1,14 @@
 // The job: a building with its winds, internal coefficients and faces, as a record by value.
 use book::Building;
+use entry::Face;
+use entry::Wind;
 
-pub mod entries;
 pub mod faults;
 mod fields;
 mod given;
 pub mod judge;
-pub mod says;
-mod shape;
+pub mod shape;
 mod values;
-
-// A wind: its direction in degrees and its speed in 0.1 m/s.
-pub struct Wind {
-    pub direction: u32,
-    pub speed: u32,
-}
-
-// A face: its zone's letter, the direction that it is marked for, and its projected areas in dm².
-pub struct Face {
-    pub zone: u8,
-    pub mark: u32,
-    pub x: i64,
-    pub y: i64,
-    pub z: i64,
-}
-
-// The mark of a face that stands for both directions: no sheet can carry this number.
-pub const BOTH: u32 = 4294967295;
 
 // The first entries count, as many as the count says.
 pub struct Winds {

@@ -1,6 +1,11 @@
-// The sections of the sheet as data, and the rules of each line.
+// The sections of the sheet as data, and the line before the entries of each.
 use crate::Section;
+use lines::row::Line;
+use lines::row::Slot;
+use text::form::Field;
 ghost use mathlib.Core.Path.{_≡_};
+ghost use mathlib.Core.List.{[], _∷_};
+ghost use Rattle.lines.specs.Held.{lineOf};
 ghost use Rattle.job.specs.Sections.{about};
 
 // The letter of a section, and its least and greatest count.
@@ -28,5 +33,30 @@ pub(crate) fn limits_of(s: Section) -> Limits
         Section::W => counted(b'W', 1, 8),
         Section::I => counted(b'I', 1, 4),
         Section::F => counted(b'F', 1, 24),
+    }
+}
+
+// The line before the entries of a section: its letter and their number.
+pub fn count_line(s: Section, n: u32) -> Line
+    ensures { λ r. ⌜ r ≡ lineOf 0 (Field.Letter (about s .letter) ∷ Field.Plus n ∷ []) ⌝ }
+{
+    let l = limits_of(s);
+    let no = Slot { field: Field::Bad };
+    let fields = [
+        Slot {
+            field: Field::Letter(l.letter),
+        },
+        Slot {
+            field: Field::Plus(n),
+        },
+        no,
+        no,
+        no,
+        no,
+    ];
+    Line {
+        count: 2,
+        next: 0,
+        fields,
     }
 }

@@ -1,11 +1,11 @@
 // The fault of a value of a record: that of the field that it would be written as. More than 7 digits are out of form.
-use crate::BOTH;
 use crate::Rule;
 use crate::fields;
+use entry::BOTH;
 use text::form::Field;
 ghost use mathlib.Core.Path.{_≡_};
 ghost use Rattle.job.specs.Rules.{fieldFault};
-ghost use Rattle.job.specs.Lines.{naturalField, numberField, markField};
+ghost use Rattle.entry.specs.Fields.{naturalField, numberField, markField};
 
 pub(crate) fn natural_fault(lo: u32, hi: u32, n: u32) -> u32
     ensures { λ r. ⌜ r ≡ fieldFault (Rule.NumberFrom 3 lo hi) (naturalField n) ⌝ }

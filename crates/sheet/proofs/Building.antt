@@ -20,7 +20,8 @@ use Rattle.book.specs.Building.{buildingFault}
 use Rattle.book.proofs.Accepted.{good-fields, in-order}
 use Rattle.job.specs.declared.Section.the-variants.{B}
 use Rattle.job.specs.declared.Kind.the-variants.{Entry}
-use Rattle.job.specs.Sections.{number, anyNumber, rules, buildingOf}
+use Rattle.entry.specs.Says.{number, buildingOf}
+use Rattle.job.specs.Sections.{anyNumber, rules}
 use Rattle.job.proofs.Rules.{Says, plus, minus, AllSay, none, more}
 use Rattle.sheet.proofs.Bytes.{bytes}
 

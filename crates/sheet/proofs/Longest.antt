@@ -21,7 +21,8 @@ use Rattle.job.specs.declared.Section.{Section}
 use Rattle.job.specs.declared.Section.the-variants.{B, W, I, F}
 use Rattle.job.specs.declared.Kind.{Kind}
 use Rattle.job.specs.declared.Kind.the-variants.{Count, Entry}
-use Rattle.job.specs.Sections.{about, rules, size, at, lineFault, entries, calls}
+use Rattle.entry.specs.Says.{size, at}
+use Rattle.job.specs.Sections.{about, rules, lineFault, entries, calls}
 use Rattle.job.specs.Walk.{sheet}
 use Rattle.job.proofs.Rules.{Angle, Says, letter, number, plus, minus, direction, mark, dash, AllSay, none, more}
 use Rattle.job.proofs.Walk.{line-says, line-own}

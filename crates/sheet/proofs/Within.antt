@@ -13,7 +13,8 @@ use Rattle.job.specs.declared.Section.the-variants.{B, W, I, F}
 use Rattle.job.specs.declared.Kind.{Kind}
 use Rattle.job.specs.declared.Kind.the-variants.{Count, Entry}
 use Rattle.job.specs.Carried.{Carried}
-use Rattle.job.specs.Sections.{about, lineFault, entries, calls, learn, size, at, windOf, internalOf, faceOf}
+use Rattle.entry.specs.Says.{size, at, windOf, internalOf, faceOf}
+use Rattle.job.specs.Sections.{about, lineFault, entries, calls, learn}
 use Rattle.job.specs.Walk.{Reading}
 use Rattle.job.proofs.Alone.{most-24}
 use Rattle.sheet.specs.declared.sections.Place.{Place}

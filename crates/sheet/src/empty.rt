@@ -1,10 +1,10 @@
 // Records with nothing in them yet: every number is zero.
 use book::Building;
-use job::Face;
+use entry::Face;
+use entry::Wind;
 use job::Faces;
 use job::Internals;
 use job::Job;
-use job::Wind;
 use job::Winds;
 ghost use mathlib.Core.Path.{_≡_};
 ghost use mathlib.Core.List.{[]};

@@ -1,12 +1,12 @@
 // A job written: its own refusal first, and then its text put into the lent buffer.
+use entry::fields::building_line;
+use entry::fields::face_line;
+use entry::fields::internal_line;
+use entry::fields::wind_line;
 use job::Job;
 use job::Section;
-use job::entries::building_line;
-use job::entries::count_line;
-use job::entries::face_line;
-use job::entries::internal_line;
-use job::entries::wind_line;
 use job::judge::judge;
+use job::shape::count_line;
 use lines::line::put_line;
 use text::page::Writing;
 ghost use mathlib.Core.Path.{_≡_};

@@ -14,8 +14,8 @@ use Rattle.book.specs.Answer.{valuesOf}
 use Rattle.book.specs.Question.{knows, outsideOf}
 use Rattle.book.proofs.Accepted.{good-fields}
 use Rattle.book.proofs.Answers.{Alternatives, one, two, zone-answered}
-use Rattle.job.specs.declared.Wind.{Wind}
-use Rattle.job.specs.declared.Face.{Face}
+use Rattle.entry.specs.declared.Wind.{Wind}
+use Rattle.entry.specs.declared.Face.{Face}
 use Rattle.job.specs.declared.Job.{Job}
 use Rattle.job.specs.Carried.{Carried, carried, noWind, noFace}
 use Rattle.job.specs.InOrder.{WindInOrder, InternalInOrder, FaceInOrder, InOrder}

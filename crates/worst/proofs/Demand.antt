@@ -10,8 +10,8 @@ use lib.ListN.{length, getD}
 use Rattle.whole.proofs.Order.{*ℤ-assoc}
 use Rattle.worst.specs.declared.Side.{Side}
 use Rattle.worst.specs.declared.Axis.{Axis}
-use Rattle.job.specs.declared.Wind.{Wind}
-use Rattle.job.specs.declared.Face.{Face}
+use Rattle.entry.specs.declared.Wind.{Wind}
+use Rattle.entry.specs.declared.Face.{Face}
 use Rattle.worst.specs.Best.{Within, at}
 use Rattle.worst.specs.Cases.{Case, numbers, worst}
 use Rattle.job.specs.Carried.{noWind}

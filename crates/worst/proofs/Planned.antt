@@ -10,8 +10,8 @@ use lib.ListN.{length, getD, take}
 use Rattle.worst.specs.declared.Side.{Side}
 use Rattle.worst.specs.declared.Axis.{Axis}
 use Rattle.worst.specs.declared.Axis.the-variants.{X, Y, Z}
-use Rattle.job.specs.declared.Wind.{Wind}
-use Rattle.job.specs.declared.Face.{Face}
+use Rattle.entry.specs.declared.Wind.{Wind}
+use Rattle.entry.specs.declared.Face.{Face}
 use Rattle.worst.specs.declared.surface.Surface.{Surface}
 use Rattle.worst.specs.declared.surface.Plan.{Plan}
 use Rattle.worst.specs.Best.{short, Best, none, at, better, best}

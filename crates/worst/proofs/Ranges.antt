@@ -12,8 +12,8 @@ use lib.Dec.{eqb}
 use Rattle.whole.proofs.Size.{natAbs-add, minus-small, times-small}
 use Rattle.worst.specs.declared.Axis.{Axis}
 use Rattle.worst.specs.declared.Axis.the-variants.{X, Y, Z}
-use Rattle.job.specs.declared.Wind.{Wind}
-use Rattle.job.specs.declared.Face.{Face}
+use Rattle.entry.specs.declared.Wind.{Wind}
+use Rattle.entry.specs.declared.Face.{Face}
 use Rattle.worst.specs.declared.surface.Gust.{Gust}
 use Rattle.worst.specs.declared.surface.Plan.{Plan}
 use Rattle.worst.specs.Cases.{Case, total, caseTotal}

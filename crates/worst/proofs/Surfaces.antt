@@ -6,7 +6,7 @@ use Rattle.book.specs.declared.Building.{Building}
 use Rattle.book.specs.declared.Answer.the-variants.{One, Two, Refused}
 use Rattle.book.specs.Answer.{valuesOf}
 use Rattle.book.specs.Question.{outsideOf}
-use Rattle.job.specs.declared.Face.{Face}
+use Rattle.entry.specs.declared.Face.{Face}
 use Rattle.worst.specs.Planned.{metOf, surfaceOf, surfaceOn}
 
 module _ (b : Building) (d : ℕ) (f : Face) where

@@ -7,10 +7,10 @@ use lib.IntN.{ℤ, pos, _-ℤ_, _*ℤ_}
 use lib.ListN.{length, getD}
 use Rattle.worst.specs.declared.Axis.{Axis}
 use Rattle.worst.specs.declared.Axis.the-variants.{X, Y, Z}
-use Rattle.job.specs.declared.Wind.{Wind}
-use Rattle.job.specs.declared.Face.{Face}
+use Rattle.entry.specs.declared.Wind.{Wind}
+use Rattle.entry.specs.declared.Face.{Face}
 use Rattle.job.specs.Carried.{noWind}
-use Rattle.job.specs.Sections.{both}
+use Rattle.entry.specs.Says.{both}
 use Rattle.worst.specs.Cases.{Loads, numbers}
 
 -- what a job gives: of its building the air density, and the outside coefficients of a zone under a direction, in thousandths

@@ -11,8 +11,8 @@ use Rattle.book.specs.declared.Building.{Building}
 use Rattle.job.specs.declared.Job.{Job}
 use Rattle.job.specs.declared.Winds.{Winds}
 use Rattle.job.specs.declared.Internals.{Internals}
-use Rattle.job.specs.declared.Wind.{Wind}
-use Rattle.job.specs.declared.Face.{Face}
+use Rattle.entry.specs.declared.Wind.{Wind}
+use Rattle.entry.specs.declared.Face.{Face}
 use Rattle.worst.specs.declared.surface.Surface.{Surface}
 use Rattle.worst.specs.declared.surface.Gust.{Gust}
 use Rattle.worst.specs.declared.surface.Inside.{Inside}

@@ -19,12 +19,12 @@ use crate::surface::Row;
 use crate::surface::Surface;
 use book::Answer;
 use book::Building;
-use job::BOTH;
-use job::Face;
+use entry::BOTH;
+use entry::Face;
+use entry::Wind;
 use job::Faces;
 use job::Internals;
 use job::Job;
-use job::Wind;
 use job::Winds;
 
 fn gust(b: Building, w: Wind) -> Gust

@@ -3,6 +3,7 @@ use mathlib.Core.Path.{_∙_, ap, ap₂}
 use mir.Facts.{toZ-ofZ}
 use Rattle.book.specs.Building.{buildingFault}
 use Rattle.book.specs.Question.{zoneOn}
+use Rattle.entry.specs.declared.Face.{Face}
 use Rattle.job.specs.Rules.{unless}
 use borrow.Author.Needs.{needs, sfits-of}
 use Rattle.job.proofs.faults.own_fault.Statement.{statement}
@@ -19,7 +20,7 @@ zone c =
     let l = z .before .before in
     let s = l .before in
     rw (s .before .before .before .k .given .1, s .enum-told5 .given .1)
-    (c .unless .ensures ∙ ap (unless 6) (z .zone-on .ensures ∙ ap₂ zoneOn (toZ-ofZ (sfits-of (z .before .struct-told .given .1 .1 .1 .1 .0 .1))) (l .letter-at .ensures)))
+    (c .unless .ensures ∙ ap (unless 6) (z .zone-on .ensures ∙ ap₂ zoneOn (toZ-ofZ (sfits-of (z .before .struct-told .given .1 .1 .1 .1 .0 .1))) (ap (λ (f : Face). f .zone) (l .face-of .ensures))))
 
 pub own-fault-spec : {M : Type 1} → statement M
 own-fault-spec =

@@ -3,7 +3,7 @@ use mathlib.Core.Path.{refl}
 use Rattle.job.specs.declared.Section.the-variants.{W}
 use Rattle.job.specs.declared.Kind.the-variants.{Entry}
 use Rattle.job.specs.Sections.{rules}
-use Rattle.job.specs.Lines.{windFields}
+use Rattle.entry.specs.Fields.{windFields}
 use Rattle.job.proofs.Lower.{fields-placed}
 use borrow.Author.Needs.{needs}
 use Rattle.job.proofs.given.wind_fault.Statement.{statement}

@@ -15,7 +15,8 @@ use Rattle.job.specs.declared.Kind.the-variants.{Count, Entry}
 use Rattle.job.specs.declared.Job.{Job}
 use Rattle.job.specs.Carried.{carried}
 use Rattle.job.specs.Sections.{about, lineFault}
-use Rattle.job.specs.Lines.{internalFields, entriesOf}
+use Rattle.entry.specs.Fields.{internalFields}
+use Rattle.job.specs.Lines.{entriesOf}
 use Rattle.job.proofs.Walk.{EntriesInOrder}
 use Rattle.job.proofs.Sections.{Counted, countLine}
 use Rattle.job.proofs.Alone.{entryOf, entry-is, most-24, alone-count, alone-counted, alone-entry, alone-next, alone-passed}

@@ -1,7 +1,7 @@
 -- `read_count` meets its contract: after a fault nothing is read, and else the line is the count that was called for.
 use mathlib.Core.Path.{ap, _∙_}
 use native.Mathlib.Omega.{arith}
-use Rattle.job.specs.Sections.{size}
+use Rattle.entry.specs.Says.{size}
 use Rattle.sheet.specs.Steps.{placeAfter}
 use Rattle.sheet.proofs.Within.{earlier-3, count-passed, count-read}
 use borrow.Author.Needs.{needs}

@@ -1,6 +1,6 @@
 -- `prepare::takes_part` meets its contract: the two tests in their order.
 use borrow.Author.Tests.{eq-eqb, ne-eqb}
-use Rattle.job.specs.Sections.{both}
+use Rattle.entry.specs.Says.{both}
 use Rattle.worst.proofs.prepare.takes_part.Statement.{statement}
 use Rattle.worst.proofs.prepare.takes_part.Tie as tie
 

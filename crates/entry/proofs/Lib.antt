@@ -1,0 +1,2 @@
+-- Laws of an entry's fields.
+pub mod Slots

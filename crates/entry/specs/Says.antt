@@ -1,0 +1,59 @@
+-- What a field says, as a number, a letter or a mark; and what the fields of a line say, as an entry.
+use Prim.Native.Nat.{ℕ}
+use mathlib.Core.List.{List}
+use lib.ListN.{getD}
+use lib.IntN.{ℤ, pos, negℤ}
+use Rattle.text.specs.declared.form.Field.{Field}
+use Rattle.text.specs.declared.form.Field.the-variants.{Bad, Plus, Minus, Letter, Dash}
+use Rattle.book.specs.declared.Building.{Building}
+use Rattle.entry.specs.declared.Wind.{Wind}
+use Rattle.entry.specs.declared.Face.{Face}
+
+-- a mark that stands for both directions
+abbrev pub both : ℕ
+both = 4294967295
+
+abbrev pub number : Field → ℤ
+number (Plus m) = pos m
+number (Minus m) = negℤ (pos m)
+number (Letter b) = pos 0
+number Dash = pos 0
+number Bad = pos 0
+
+abbrev pub size : Field → ℕ
+size (Plus m) = m
+size (Minus m) = m
+size (Letter b) = 0
+size Dash = 0
+size Bad = 0
+
+abbrev pub letter : Field → ℕ
+letter (Letter b) = b
+letter (Plus m) = 0
+letter (Minus m) = 0
+letter Dash = 0
+letter Bad = 0
+
+abbrev pub mark : Field → ℕ
+mark Dash = both
+mark (Plus m) = m
+mark (Minus m) = m
+mark (Letter b) = 0
+mark Bad = 0
+
+abbrev pub at : List Field → ℕ → Field
+at fs i = getD fs i Bad
+
+abbrev pub buildingOf : List Field → Building
+buildingOf fs =
+    record { h = number (at fs 0); a = number (at fs 1); b = number (at fs 2); density = number (at fs 3); kind = number (at fs 4); x = number (at fs 5) }
+
+abbrev pub windOf : List Field → Wind
+windOf fs = record { direction = size (at fs 0); speed = size (at fs 1) }
+
+abbrev pub internalOf : List Field → ℤ
+internalOf fs = number (at fs 0)
+
+abbrev pub faceOf : List Field → Face
+faceOf fs =
+    record { zone = letter (at fs 0); mark = mark (at fs 1); x = number (at fs 2); y = number (at fs 3); z = number (at fs 4) }

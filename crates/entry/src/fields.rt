@@ -1,0 +1,115 @@
+// An entry as a line of fields.
+use crate::BOTH;
+use crate::Face;
+use crate::Wind;
+use book::Building;
+use lines::row::Line;
+use lines::row::Slot;
+use text::form::Field;
+ghost use mathlib.Core.Path.{_≡_};
+ghost use Rattle.lines.specs.Held.{slot, lineOf};
+ghost use Rattle.entry.specs.Fields.{naturalField, numberField, markField, buildingFields, windFields, internalFields, faceFields};
+
+fn slot(f: Field) -> Slot
+    ensures { λ r. ⌜ r ≡ slot f ⌝ }
+{
+    Slot { field: f }
+}
+
+fn natural_slot(n: u32) -> Slot
+    ensures { λ r. ⌜ r ≡ slot (naturalField n) ⌝ }
+{
+    if n <= 9999999 {
+        return slot(Field::Plus(n));
+    }
+    slot(Field::Bad)
+}
+
+fn number_slot(z: i64) -> Slot
+    ensures { λ r. ⌜ r ≡ slot (numberField z) ⌝ }
+{
+    let m = whole::magnitude(z);
+    if 9999999 < m {
+        return slot(Field::Bad);
+    }
+    if z < 0 {
+        return slot(Field::Minus(m as u32));
+    }
+    slot(Field::Plus(m as u32))
+}
+
+fn mark_slot(m: u32) -> Slot
+    ensures { λ r. ⌜ r ≡ slot (markField m) ⌝ }
+{
+    if m == BOTH {
+        return slot(Field::Dash);
+    }
+    natural_slot(m)
+}
+
+pub fn building_line(g: Building) -> Line
+    ensures { λ r. ⌜ r ≡ lineOf 0 (buildingFields g) ⌝ }
+{
+    let fields = [
+        number_slot(g.h),
+        number_slot(g.a),
+        number_slot(g.b),
+        number_slot(g.density),
+        number_slot(g.kind),
+        number_slot(g.x),
+    ];
+    Line {
+        count: 6,
+        next: 0,
+        fields,
+    }
+}
+
+pub fn wind_line(w: Wind) -> Line
+    ensures { λ r. ⌜ r ≡ lineOf 0 (windFields w) ⌝ }
+{
+    let no = slot(Field::Bad);
+    let fields = [
+        natural_slot(w.direction),
+        natural_slot(w.speed),
+        no,
+        no,
+        no,
+        no,
+    ];
+    Line {
+        count: 2,
+        next: 0,
+        fields,
+    }
+}
+
+pub fn internal_line(i: i64) -> Line
+    ensures { λ r. ⌜ r ≡ lineOf 0 (internalFields i) ⌝ }
+{
+    let no = slot(Field::Bad);
+    let fields = [number_slot(i), no, no, no, no, no];
+    Line {
+        count: 1,
+        next: 0,
+        fields,
+    }
+}
+
+pub fn face_line(f: Face) -> Line
+    ensures { λ r. ⌜ r ≡ lineOf 0 (faceFields f) ⌝ }
+{
+    let fields = [
+        slot(Field::Letter(f.zone)),
+        mark_slot(f.mark),
+        number_slot(f.x),
+        number_slot(f.y),
+        number_slot(f.z),
+        slot(Field::Bad),
+    ];
+    Line {
+        count: 5,
+        next: 0,
+        fields,
+    }
+}

@@ -1,0 +1,21 @@
+// The entries of a sheet beside the building: as records, as the fields of their lines, and from these back.
+pub mod fields;
+pub mod says;
+
+// A wind: its direction in degrees and its speed in 0.1 m/s.
+pub struct Wind {
+    pub direction: u32,
+    pub speed: u32,
+}
+
+// A face: its zone's letter, the direction that it is marked for, and its projected areas in dm².
+pub struct Face {
+    pub zone: u8,
+    pub mark: u32,
+    pub x: i64,
+    pub y: i64,
+    pub z: i64,
+}
+
+// The mark of a face that stands for both directions: no sheet can carry this number.
+pub const BOTH: u32 = 4294967295;

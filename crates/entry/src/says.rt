@@ -1,0 +1,124 @@
+// What a field says, as a number, a letter or a mark; and what a line says, as an entry.
+use crate::BOTH;
+use crate::Face;
+use crate::Wind;
+use book::Building;
+use lines::row::Line;
+use text::form::Field;
+ghost use mathlib.Core.Path.{_≡_};
+ghost use Rattle.lines.specs.Held.{held};
+ghost use Rattle.entry.specs.Says.{number, size, letter, mark, at, buildingOf, windOf, internalOf, faceOf};
+
+pub(crate) fn number_of(f: Field) -> i64
+    ensures { λ r. ⌜ r ≡ number f ⌝ }
+{
+    match f {
+        Field::Plus(m) => m as i64,
+        Field::Minus(m) => 0 - (m as i64),
+        Field::Letter(_) => 0,
+        Field::Dash => 0,
+        Field::Bad => 0,
+    }
+}
+
+pub fn size_of(f: Field) -> u32
+    ensures { λ r. ⌜ r ≡ size f ⌝ }
+{
+    match f {
+        Field::Plus(n) => n,
+        Field::Minus(n) => n,
+        Field::Letter(_) => 0,
+        Field::Dash => 0,
+        Field::Bad => 0,
+    }
+}
+
+pub(crate) fn letter_of(f: Field) -> u8
+    ensures { λ r. ⌜ r ≡ letter f ⌝ }
+{
+    match f {
+        Field::Letter(b) => b,
+        Field::Plus(_) => 0,
+        Field::Minus(_) => 0,
+        Field::Dash => 0,
+        Field::Bad => 0,
+    }
+}
+
+pub(crate) fn mark_of(f: Field) -> u32
+    ensures { λ r. ⌜ r ≡ mark f ⌝ }
+{
+    match f {
+        Field::Dash => BOTH,
+        Field::Plus(m) => m,
+        Field::Minus(m) => m,
+        Field::Letter(_) => 0,
+        Field::Bad => 0,
+    }
+}
+
+// ---- a line
+
+fn number_at(x: Line, i: usize) -> i64
+    ensures { λ r. ⌜ r ≡ number (at (held x) i) ⌝ }
+{
+    number_of(lines::row::field_at(x, i))
+}
+
+fn size_at(x: Line, i: usize) -> u32
+    ensures { λ r. ⌜ r ≡ size (at (held x) i) ⌝ }
+{
+    size_of(lines::row::field_at(x, i))
+}
+
+fn letter_at(x: Line, i: usize) -> u8
+    ensures { λ r. ⌜ r ≡ letter (at (held x) i) ⌝ }
+{
+    letter_of(lines::row::field_at(x, i))
+}
+
+fn mark_at(x: Line, i: usize) -> u32
+    ensures { λ r. ⌜ r ≡ mark (at (held x) i) ⌝ }
+{
+    mark_of(lines::row::field_at(x, i))
+}
+
+pub fn building_of(x: Line) -> Building
+    ensures { λ r. ⌜ r ≡ buildingOf (held x) ⌝ }
+{
+    Building {
+        h: number_at(x, 0),
+        a: number_at(x, 1),
+        b: number_at(x, 2),
+        density: number_at(x, 3),
+        kind: number_at(x, 4),
+        x: number_at(x, 5),
+    }
+}
+
+pub fn wind_of(x: Line) -> Wind
+    ensures { λ r. ⌜ r ≡ windOf (held x) ⌝ }
+{
+    Wind {
+        direction: size_at(x, 0),
+        speed: size_at(x, 1),
+    }
+}
+
+pub fn internal_of(x: Line) -> i64
+    ensures { λ r. ⌜ r ≡ internalOf (held x) ⌝ }
+{
+    number_at(x, 0)
+}
+
+pub fn face_of(x: Line) -> Face
+    ensures { λ r. ⌜ r ≡ faceOf (held x) ⌝ }
+{
+    Face {
+        zone: letter_at(x, 0),
+        mark: mark_at(x, 1),
+        x: number_at(x, 2),
+        y: number_at(x, 3),
+        z: number_at(x, 4),
+    }
+}
