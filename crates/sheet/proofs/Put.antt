@@ -1,6 +1,6 @@
 -- Laws of a section written line by line: its count, and after that its entries, one behind the other.
 use Prim.Native.Nat.{ℕ, _+_, _≤_, _<_}
-use mathlib.Core.Path.{_≡_}
+use mathlib.Core.Path.{_≡_, sym, _∙_}
 use mathlib.Core.List.{List, [], _∷_, _++_}
 use native.Mathlib.Numerals.{add-one}
 use native.Mathlib.Omega.{arith}
@@ -15,8 +15,23 @@ use Rattle.lines.proofs.Held.{held-all}
 use Rattle.lines.proofs.Round.{textOf-append}
 use Rattle.text.proofs.Writing.{then, put-nothing, put-length}
 use Rattle.job.specs.declared.Section.{Section}
-use Rattle.job.specs.Lines.{sectionOf}
+use Rattle.job.specs.declared.Section.the-variants.{B, W, I, F}
+use Rattle.job.specs.declared.Job.{Job}
+use Rattle.job.specs.Carried.{carried}
+use Rattle.job.specs.Lines.{entriesOf, sectionOf}
 use Rattle.job.proofs.Sections.{countLine}
+use Rattle.job.proofs.Alone.{entryOf, entry-is}
+
+-- a line made of entry i holds it
+module _ (j : Job) where
+  entry-six : (s : Section) (i : ℕ) → length (entryOf j s i) ≤ 6
+  entry-six B i = omega arith
+  entry-six W i = omega arith
+  entry-six I i = omega arith
+  entry-six F i = omega arith
+
+  pub entry-held : (s : Section) (i : ℕ) (x : Line) → i < length (entriesOf (carried j) s) → x ≡ lineOf 0 (entryOf j s i) → held x ≡ getD (entriesOf (carried j) s) i []
+  entry-held s i x h e = rw e (held-all 0 (entryOf j s i) (entry-six s i) .0 ∙ sym (entry-is j s i h))
 
 -- lines, and then others from where they ended
 pub then-lines : {l m n : List ℕ} {at r r′ : ℕ} (xs ys : List (List Field)) → Put l at (textOf xs) m r → Put m r (textOf ys) n r′ → Put l at (textOf (xs ++ ys)) n r′

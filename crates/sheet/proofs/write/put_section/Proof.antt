@@ -18,8 +18,8 @@ use Rattle.job.specs.Sections.{about}
 use Rattle.entry.specs.Fields.{internalFields}
 use Rattle.job.specs.Lines.{entriesOf}
 use Rattle.job.proofs.Sections.{countLine}
-use Rattle.job.proofs.Alone.{entryOf, entry-held, most-24}
-use Rattle.sheet.proofs.Put.{put-none, put-entry, put-all}
+use Rattle.job.proofs.Alone.{entryOf, most-24}
+use Rattle.sheet.proofs.Put.{entry-held, put-none, put-entry, put-all}
 use borrow.Author.Needs.{needs, sfits-of}
 use Rattle.sheet.proofs.write.put_section.Statement.{statement}
 use Rattle.sheet.proofs.write.put_section.Tie as tie
