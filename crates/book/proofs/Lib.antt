@@ -4,6 +4,7 @@ pub mod Between
 pub mod Spot
 pub mod Tables
 pub mod Rows
+pub mod Limits
 pub mod Accepted
 pub mod Roofed
 pub mod Places

@@ -1,10 +1,10 @@
 -- What the machine has of a signed number, and of several tests put together.
 use mathlib.Core.Path.{_≡_, ap, _∙_}
-use mathlib.Core.Bool.{Bool, false, _||_, or-false}
+use mathlib.Core.Bool.{Bool, _||_}
 use Prim.Native.Nat.{_^_, _<_}
 use lib.IntN.{ℤ}
 use lib.Signed.{mag}
-use mir.Syntax.{w64}
+use mir.Syntax.{w32, w64}
 use mir.Val.{toZ, ofZ}
 use mir.ValLaws.{toZ-ofZ}
 
@@ -16,9 +16,17 @@ plain z h = toZ-ofZ w64 z (record { sfits = h })
 pub said : {A : Type 0} (f : ℤ → A) (z : ℤ) {r : A} → r ≡ f (toZ w64 (ofZ w64 z)) → mag z < 2 ^ 63 → r ≡ f z
 said f z e h = e ∙ ap f (plain z h)
 
+-- what a call says of its result of 32 bits, said of the result as a struct has it
+pub kept : (z : ℤ) {v : ℤ} → mag z < 2 ^ 31 → z ≡ v → toZ w32 (ofZ w32 z) ≡ v
+kept z h e = toZ-ofZ w32 z (record { sfits = h }) ∙ e
+
+-- the same of a test of three fields
+pub tested : {A : Type 0} (f : ℤ → ℤ → ℤ → A) (x y z : ℤ) {r : A} → r ≡ f (toZ w64 (ofZ w64 x)) (toZ w64 (ofZ w64 y)) (toZ w64 (ofZ w64 z)) → mag x < 2 ^ 63 → mag y < 2 ^ 63 → mag z < 2 ^ 63 → r ≡ f x y z
+tested f x y z e h k l = e ∙ (λ i. f (plain x h i) (plain y k i) (plain z l i))
+
 -- six tests by five calls of `either`
 pub any-of-six : {t₁ t₂ t₃ t₄ t₅ t₆ r₁ r₂ r₃ r₄ r₅ u₁ u₂ u₃ u₄ u₅ u₆ : Bool} →
     r₁ ≡ (t₅ || t₆) → r₂ ≡ (t₄ || r₁) → r₃ ≡ (t₃ || r₂) → r₄ ≡ (t₂ || r₃) → r₅ ≡ (t₁ || r₄) →
     t₁ ≡ u₁ → t₂ ≡ u₂ → t₃ ≡ u₃ → t₄ ≡ u₄ → t₅ ≡ u₅ → t₆ ≡ u₆ →
-    r₅ ≡ (u₁ || (u₂ || (u₃ || (u₄ || (u₅ || (u₆ || false))))))
-any-of-six {u₆} a b c d e f g h i j k = cc (or-false u₆)
+    r₅ ≡ (u₁ || (u₂ || (u₃ || (u₄ || (u₅ || u₆)))))
+any-of-six a b c d e f g h i j k = cc

@@ -5,7 +5,7 @@ ghost use Rattle.book.specs.Roof as roof;
 ghost use Rattle.book.specs.Roof.{outOfRoof, roofOf};
 ghost use Rattle.book.specs.Order.{Ranged};
 ghost use Rattle.book.specs.Building as building;
-ghost use Rattle.book.specs.Building.{tooLong, outOfForm, outOfRange, outOfWalls};
+ghost use Rattle.book.specs.Building.{someBeyond, outOfForm, outOfRange, outOfWalls};
 use super::Building;
 use super::tests::beyond;
 use super::tests::either;
@@ -19,42 +19,74 @@ pub(crate) struct Sizes {
     pub x: u64,
 }
 
-fn too_long(z: i64) -> bool
-    ensures { λ r. ⌜ r ≡ tooLong z ⌝ }
+// One of the line's numbers is below the least of its limits, or above the greatest.
+fn some_beyond(least: Building, greatest: Building, g: Building) -> bool
+    ensures { λ r. ⌜ r ≡ someBeyond least greatest g ⌝ }
 {
-    9999999 < whole::magnitude(z)
+    either(
+        beyond(least.h, greatest.h, g.h),
+        either(
+            beyond(least.a, greatest.a, g.a),
+            either(
+                beyond(least.b, greatest.b, g.b),
+                either(
+                    beyond(least.density, greatest.density, g.density),
+                    either(
+                        beyond(least.kind, greatest.kind, g.kind),
+                        beyond(least.x, greatest.x, g.x),
+                    ),
+                ),
+            ),
+        ),
+    )
 }
 
+// More than 7 digits.
 pub(crate) fn out_of_form(g: Building) -> bool
     ensures { λ r. ⌜ r ≡ outOfForm g ⌝ }
 {
-    either(
-        too_long(g.h),
-        either(
-            too_long(g.a),
-            either(
-                too_long(g.b),
-                either(too_long(g.density), either(too_long(g.kind), too_long(g.x))),
-            ),
-        ),
+    some_beyond(
+        Building {
+            h: -9999999,
+            a: -9999999,
+            b: -9999999,
+            density: -9999999,
+            kind: -9999999,
+            x: -9999999,
+        },
+        Building {
+            h: 9999999,
+            a: 9999999,
+            b: 9999999,
+            density: 9999999,
+            kind: 9999999,
+            x: 9999999,
+        },
+        g,
     )
 }
 
 pub(crate) fn out_of_range(g: Building) -> bool
     ensures { λ r. ⌜ r ≡ outOfRange g ⌝ }
 {
-    either(
-        beyond(100, 30000, g.h),
-        either(
-            beyond(100, 30000, g.a),
-            either(
-                beyond(100, 30000, g.b),
-                either(
-                    beyond(1000, 1500, g.density),
-                    either(beyond(0, 5, g.kind), beyond(0, 30000, g.x)),
-                ),
-            ),
-        ),
+    some_beyond(
+        Building {
+            h: 100,
+            a: 100,
+            b: 100,
+            density: 1000,
+            kind: 0,
+            x: 0,
+        },
+        Building {
+            h: 30000,
+            a: 30000,
+            b: 30000,
+            density: 1500,
+            kind: 5,
+            x: 30000,
+        },
+        g,
     )
 }
 
