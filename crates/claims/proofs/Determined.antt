@@ -9,6 +9,7 @@ use Rattle.whole.proofs.magnitude.Reads as magnitude
 use Rattle.text.proofs.form.field_of.Reads as field-of
 use Rattle.lines.proofs.row.line_at.Reads as line-at
 use Rattle.lines.proofs.row.field_at.Reads as field-at
+use Rattle.lines.proofs.line.held_count.Reads as held-count
 use Rattle.lines.proofs.line.put_field.Reads as put-field
 use Rattle.lines.proofs.line.put_line.Reads as put-line
 use Rattle.text.proofs.page.put_byte.Reads as put-byte
@@ -93,6 +94,9 @@ line-at-determined κ a r r′ s s′ p q = same p q
 
 field-at-determined : OneAnswer field-at.Post
 field-at-determined κ a r r′ s s′ p q = same p q
+
+held-count-determined : OneAnswer held-count.Post
+held-count-determined κ a r r′ s s′ p q = same p q
 
 put-field-determined : OneAnswerAndBuffer put-field.Post (λ κ s. now (s .0))
 put-field-determined κ a r r′ s s′ p q = same-put p q
