@@ -1,13 +1,16 @@
--- What an accepted job gives: every number is in its range, every face has one or two coefficients, and so it can be prepared.
-use mathlib.Core.Path.{_≡_, refl, sym, subst}
+-- What an accepted job gives: every number is in its range, every face has one or two coefficients, and so it can be reckoned.
+use mathlib.Core.Path.{_≡_, refl, sym, _∙_, subst}
 use mathlib.Core.Logic.{_⊎_, ⊎-elim}
 use mathlib.Core.Bool.{true}
 use mathlib.Core.List.{List, List·Memᴰ}
 use Prim.Native.Nat.{ℕ, zero, suc, _≤_, _<_}
+use native.Mathlib.Nat.{mul-pos}
 use native.Mathlib.Omega.{arith}
 use lib.IntN.{ℤ, pos, natAbs}
-use lib.ListN.{getD}
+use lib.Signed.{_<ℤ_}
+use lib.ListN.{length, getD}
 use Rattle.whole.specs.Lists.{firstOf, Every}
+use Rattle.whole.proofs.Parts.{lt-by}
 use Rattle.whole.proofs.Lists.{every-at, every-member, firstOf-length, firstOf-getD}
 use Rattle.book.specs.declared.Answer.{Answer}
 use Rattle.book.specs.Answer.{valuesOf}
@@ -19,16 +22,17 @@ use Rattle.entry.specs.declared.Face.{Face}
 use Rattle.job.specs.declared.Job.{Job}
 use Rattle.job.specs.Carried.{Carried, carried, noWind, noFace}
 use Rattle.job.specs.InOrder.{WindInOrder, InternalInOrder, FaceInOrder, InOrder}
-use Rattle.worst.specs.declared.Side.the-variants.{Greatest, Least}
 use Rattle.worst.specs.declared.Axis.{Axis}
 use Rattle.worst.specs.declared.Axis.the-variants.{X, Y, Z}
-use Rattle.worst.specs.declared.surface.Plan.{Plan}
-use Rattle.worst.specs.Shown.{shown}
+use Rattle.worst.specs.declared.Six.{Six}
+use Rattle.worst.specs.declared.sums.Axes.{Axes}
+use Rattle.worst.specs.Forces.{pressure}
 use Rattle.worst.specs.Worst.{given, extremes, sixExtremes}
-use Rattle.worst.specs.Engine.{Fine, extremesOf, sixOf}
-use Rattle.worst.specs.Planned.{Ready, IsPlan}
-use Rattle.worst.proofs.Planned.{OneOrTwo, alone, pair, Sound, worst-planned}
-use Rattle.worst.proofs.Ranges.{InRange, plan-fine}
+use Rattle.worst.specs.Engine.{surfaceOn, sumsOf, axesOf, extremesOf, Small, AxesSmall, FacesSmall, Ready, Meets}
+use Rattle.worst.proofs.OneFace.{OneOrTwo, alone, pair}
+use Rattle.worst.proofs.AllCells.{Sound, surfaces, extremes-are}
+use Rattle.worst.proofs.Added.{axes-small}
+use Rattle.worst.proofs.Ranges.{FaceSmall, InRange, surface-small}
 
 -- ---- a zone's answer
 
@@ -50,31 +54,47 @@ known kind d =
 -- ---- what is carried
 
 module _ (c : Carried) (o : InOrder c) where
-  answered : (d : ℕ) → (d ≡ 0) ⊎ (d ≡ 90) → (f : Face) → List·Memᴰ f (c .faces) → Alternatives 1200 (natAbs (c .building .kind)) (f .zone) (outsideOf (c .building) (pos d) (f .zone))
-  answered d e f m =
-      zone-answered (c .building) (pos d) (f .zone) (o .building) (known (c .building .kind) d e) (every-member (FaceInOrder (c .building)) (c .faces) (o .faces) m .on)
+  answered : (d : ℕ) → (d ≡ 0) ⊎ (d ≡ 90) → (f : Face) → FaceInOrder (c .building) f → Alternatives 1200 (natAbs (c .building .kind)) (f .zone) (outsideOf (c .building) (pos d) (f .zone))
+  answered d e f h = zone-answered (c .building) (pos d) (f .zone) (o .building) (known (c .building .kind) d e) (h .on)
 
-  direction-in : (w : Wind) → List·Memᴰ w (c .winds) → (w .direction ≡ 0) ⊎ (w .direction ≡ 90)
-  direction-in w m = every-member WindInOrder (c .winds) (o .winds) m .direction
+  face-in : (f : Face) → List·Memᴰ f (c .faces) → FaceInOrder (c .building) f
+  face-in f m = every-member (FaceInOrder (c .building)) (c .faces) (o .faces) m
+
+  wind-in : (w : Wind) → List·Memᴰ w (c .winds) → WindInOrder w
+  wind-in w m = every-member WindInOrder (c .winds) (o .winds) m
+
+  -- a density is at least 1000 and a speed at least 1
+  pressure-above : (w : Wind) → WindInOrder w → pos 0 <ℤ pressure (c .building .density) w
+  pressure-above w h =
+      let b = good-fields (c .building) (o .building) .density in
+      subst (λ z. pos 0 <ℤ pressure z w) (b .plain)
+      (lt-by _ _ (omega (arith, mul-pos {m = natAbs (c .building .density)} (omega (arith, b .from)) (mul-pos (h .speed .low) (h .speed .low)))))
 
   pub given-sound : Sound (given c)
   given-sound =
-      record { direction = direction-in; outside = λ w f mw mf a. one-or-two (answered (w .direction) (direction-in w mw) f mf) }
+      record {
+        direction = λ w m. wind-in w m .direction;
+        pressed = λ w m. pressure-above w (wind-in w m);
+        outside = λ w f mw mf a. one-or-two (answered (w .direction) (wind-in w mw .direction) f (face-in f mf));
+      }
+
+  face-small : (f : Face) → FaceInOrder (c .building) f → FaceSmall f
+  face-small f h = record { x = h .x; y = h .y; z = h .z }
+
+  surface-on-small : (d : ℕ) → (d ≡ 0) ⊎ (d ≡ 90) → (f : Face) → FaceInOrder (c .building) f → Small (surfaceOn (c .building) d f)
+  surface-on-small d e f h =
+      surface-small (valuesOf (outsideOf (c .building) (pos d) (f .zone))) d f (values-small (answered d e f h)) (face-small f h)
 
   pub given-in-range : InRange (given c)
   given-in-range =
       record {
         density = good-fields (c .building) (o .building) .density .to;
-        someWind = omega (arith, o .winds-counted .low);
-        fewWinds = o .winds-counted .high;
-        speed = λ w m. every-member WindInOrder (c .winds) (o .winds) m .speed .high;
-        someInternal = omega (arith, o .internals-counted .low);
-        fewInternals = o .internals-counted .high;
+        speed = λ w m. wind-in w m .speed .high;
         internal = λ i m. every-member InternalInOrder (c .internals) (o .internals) m;
         fewFaces = o .faces-counted .high;
-        face = λ f m. let h = every-member (FaceInOrder (c .building)) (c .faces) (o .faces) m in record { x = h .x; y = h .y; z = h .z };
-        direction = direction-in;
-        outside = λ d e f m. values-small (answered d e f m);
+        face = λ f m. face-small f (face-in f m);
+        direction = λ w m. wind-in w m .direction;
+        outside = λ d e f m. values-small (answered d e f (face-in f m));
       }
 
 -- ---- a record
@@ -88,23 +108,38 @@ module _ (j : Job) (o : InOrder (carried j)) where
   pub job-ready : Ready j
   unfolding carried
   job-ready =
+      let winds = firstOf-length noWind (j .winds .count) (j .winds .entry) in
+      let internals = firstOf-length (pos 0) (j .internals .count) (j .internals .entry) in
       record {
         density = good-fields (j .building) (o .building) .density .to;
-        winds = (omega (arith, o .winds-counted .high, firstOf-length noWind (j .winds .count) (j .winds .entry)), λ k l. counted-at WindInOrder noWind (j .winds .count) (j .winds .entry) (o .winds) k l .speed .high);
-        internals = (omega (arith, o .internals-counted .high, firstOf-length (pos 0) (j .internals .count) (j .internals .entry)), counted-at InternalInOrder (pos 0) (j .internals .count) (j .internals .entry) (o .internals));
+        someWind = omega (arith, o .winds-counted .low, winds);
+        winds = omega (arith, o .winds-counted .high, winds);
+        slow = λ k l. counted-at WindInOrder noWind (j .winds .count) (j .winds .entry) (o .winds) k l .speed .high;
+        someInternal = omega (arith, o .internals-counted .low, internals);
+        internals = (omega (arith, o .internals-counted .high, internals), counted-at InternalInOrder (pos 0) (j .internals .count) (j .internals .entry) (o .internals));
         faces = omega (arith, o .faces-counted .high, firstOf-length noFace (j .faces .count) (j .faces .entry));
+        small = λ d e k l. surface-on-small (carried j) o d e (getD (j .faces .entry) k noFace) (counted-at (FaceInOrder (j .building)) noFace (j .faces .count) (j .faces .entry) (o .faces) k l);
       }
 
--- ---- the six extremes
+  -- the faces that a direction meets, and their sums
+  pub met-few : (d n : ℕ) → (d ≡ 0) ⊎ (d ≡ 90) → Meets j d n → (n ≤ 24) × FacesSmall (j .building) d n (j .faces .entry)
+  met-few d n e h =
+      (omega (arith, job-ready .faces, h .most), λ i l. job-ready .small d e i (omega (arith, h .most)))
 
-module _ (c : Carried) (o : InOrder c) (p : Plan) (h : IsPlan (given c) p) where
-  pub carried-fine : Fine p
-  carried-fine = plan-fine (given c) p h (given-in-range c o)
+  pub met-small : (d n : ℕ) → (d ≡ 0) ⊎ (d ≡ 90) → Meets j d n → (p : Axes) → p ≡ axesOf (surfaces j d n) → AxesSmall 24 p
+  met-small d n e h p q =
+      let few = met-few d n e h in
+      subst (AxesSmall 24) (sym q) (axes-small (surfaceOn (j .building) d) (j .faces .entry) noFace n (few .1) 24 (few .0))
 
-  extremes-planned : (axis : Axis) → extremesOf p axis ≡ extremes axis c
-  extremes-planned axis =
-      λ j. record { greatest = shown (h .faceCount j) (sym (worst-planned (given c) p h (given-sound c o) Greatest axis) j); least = shown (h .faceCount j) (sym (worst-planned (given c) p h (given-sound c o) Least axis) j) }
+  -- ---- the six extremes
 
-  pub six-planned : sixOf p ≡ sixExtremes c
-  unfolding sixExtremes
-  six-planned = λ j. record { x = extremes-planned X j; y = extremes-planned Y j; z = extremes-planned Z j }
+  -- of sums under direction 0 and under direction 90
+  module _ (room : j .faces .count ≤ length (j .faces .entry)) (m n : ℕ) (hm : Meets j 0 m) (hn : Meets j 90 n) (zero ninety : Axes) (ez : zero ≡ axesOf (surfaces j 0 m)) (en : ninety ≡ axesOf (surfaces j 90 n)) where
+    on : (axis : Axis) → extremesOf j (sumsOf axis (surfaces j 0 m)) (sumsOf axis (surfaces j 90 n)) ≡ extremes axis (carried j)
+    on axis = extremes-are j (given-sound (carried j) o) room m n hm hn axis
+
+    pub six-are : _≡_ {A = Six} (record { x = extremesOf j (zero .x) (ninety .x); y = extremesOf j (zero .y) (ninety .y); z = extremesOf j (zero .z) (ninety .z) }) (sixExtremes (carried j))
+    unfolding sixExtremes
+    six-are =
+        (λ k. record { x = extremesOf j (ez k .x) (en k .x); y = extremesOf j (ez k .y) (en k .y); z = extremesOf j (ez k .z) (en k .z) })
+        ∙ (λ k. record { x = on X k; y = on Y k; z = on Z k })

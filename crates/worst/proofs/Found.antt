@@ -1,18 +1,17 @@
--- A plan with a wind and an internal coefficient has a best cell, and its numbers are of the plan.
+-- A job with a wind and an internal coefficient has a best cell, and its numbers are of the job.
 use mathlib.Core.Path.{_≡_, refl, sym, ap, _∙_, subst}
 use mathlib.Core.Bool.{Bool, true, false, cond}
 use Prim.Native.Nat.{ℕ, zero, suc, _+_, _≤_, _<_}
 use native.Mathlib.Omega.{arith}
 use lib.Dec.{eqb}
 use Rattle.worst.specs.declared.Side.{Side}
-use Rattle.worst.specs.declared.Axis.{Axis}
-use Rattle.worst.specs.declared.surface.Plan.{Plan}
+use Rattle.job.specs.declared.Job.{Job}
+use Rattle.worst.specs.declared.sums.Sums.{Sums}
 use Rattle.worst.specs.declared.tops.Top.{Top}
 use Rattle.worst.specs.Best.{short, Best, none, at, better}
 use Rattle.worst.specs.Cases.{numbers}
-use Rattle.worst.specs.Quick.{over, tagged}
-use Rattle.worst.specs.Shown.{shown}
-use Rattle.worst.specs.Engine.{Fine, OnPlan, spot, topOf, windBest, planBest, planWorst, caseAt}
+use Rattle.worst.specs.Quick.{over}
+use Rattle.worst.specs.Engine.{Ready, OnJob, spot, topOf, windBest, bestCell}
 
 -- something was found, and P holds of it
 abbrev pub Found : {A : Type 0} → (A → Type 0) → Best A → Type 0
@@ -43,32 +42,28 @@ module _ {A : Type 0} (s : Side) (P : A → Type 0) where
       better-found (g k) (over s g (numbers (suc n) (suc k))) (f k (omega arith) (omega arith))
       (over-found g (suc n) (suc k) (omega arith) (λ x l u. f x (omega arith) (omega arith)))
 
-planBest-found : (s : Side) (axis : Axis) (p : Plan) → Fine p → Found (OnPlan p) (planBest s axis p)
-unfolding planBest
-planBest-found s axis p h =
-    over-found s (OnPlan p) (windBest s axis p) (p .winds .count) 1 (h .someWind)
-    (λ w lw uw. over-found s (OnPlan p) _ (p .internals .count) 1 (h .someInternal) (λ i li ui. record { wind = omega arith; wind≤ = omega arith; internal = omega arith; internal≤ = omega arith }))
+module _ (s : Side) (j : Job) (zero ninety : Sums) (h : Ready j) where
+  bestCell-found : Found (OnJob j) (bestCell s j zero ninety)
+  unfolding bestCell
+  bestCell-found =
+      over-found s (OnJob j) (windBest s (j .building) (j .winds) (j .internals) zero ninety) (j .winds .count) 1 (h .someWind)
+      (λ w lw uw. over-found s (OnJob j) _ (j .internals .count) 1 (h .someInternal) (λ i li ui. record { wind = omega arith; wind≤ = omega arith; internal = omega arith; internal≤ = omega arith }))
 
--- the best cell, as a `Top` has it
-module _ (s : Side) (axis : Axis) (p : Plan) (top : Top) (h : Fine p) (e : topOf top ≡ planBest s axis p) where
-  pub record IsTop : Type 0 where
-    pub onPlan : OnPlan p (spot (top .wind) (top .internal))
-    pub best : planBest s axis p ≡ at (top .total) (spot (top .wind) (top .internal))
+  -- the best cell, as a `Top` has it
+  pub record IsTop (top : Top) : Type 0 where
+    pub onJob : OnJob j (spot (top .wind) (top .internal))
+    pub best : at (top .total) (spot (top .wind) (top .internal)) ≡ bestCell s j zero ninety
 
-  pub is-top : IsTop
-  is-top = go (eqb (top .wind) 0) refl
+  pub is-top : (top : Top) → topOf top ≡ bestCell s j zero ninety → IsTop top
+  is-top top e = go (eqb (top .wind) 0) refl
     where
-      found : Found (OnPlan p) (topOf top)
-      found = subst (Found (OnPlan p)) (sym e) (planBest-found s axis p h)
+      found : Found (OnJob j) (topOf top)
+      found = subst (Found (OnJob j)) (sym e) bestCell-found
 
-      go : (t : Bool) → eqb (top .wind) 0 ≡ t → IsTop
-      go true z = absurd (subst (λ t. Found (OnPlan p) (cond t none (at (top .total) (spot (top .wind) (top .internal))))) z found)
+      go : (t : Bool) → eqb (top .wind) 0 ≡ t → IsTop top
+      go true z = absurd (subst (λ t. Found (OnJob j) (cond t none (at (top .total) (spot (top .wind) (top .internal))))) z found)
       go false z =
           record {
-            onPlan = subst (λ t. Found (OnPlan p) (cond t none (at (top .total) (spot (top .wind) (top .internal))))) z found;
-            best = sym e ∙ ap (λ t. cond t none (at (top .total) (spot (top .wind) (top .internal)))) z;
+            onJob = subst (λ t. Found (OnJob j) (cond t none (at (top .total) (spot (top .wind) (top .internal))))) z found;
+            best = sym (ap (λ t. cond t none (at (top .total) (spot (top .wind) (top .internal)))) z) ∙ e;
           }
-
-  pub shown-top : shown (p .faces) (at (top .total) (caseAt s axis p (spot (top .wind) (top .internal)))) ≡ shown (p .faces) (planWorst s axis p)
-  unfolding tagged
-  shown-top = ap (λ b. shown (p .faces) (tagged (caseAt s axis p) b)) (sym (is-top .best))

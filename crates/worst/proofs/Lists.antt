@@ -3,31 +3,18 @@ use mathlib.Core.Path.{_≡_, refl, sym, ap, _∙_}
 use mathlib.Core.Logic.{⊎-elim}
 use mathlib.Core.List.{List, [], _∷_, map, List·Memᴰ, List·Memᴰ·head, List·Memᴰ·tail, List·Memᴰ·not-nil, List·Memᴰ·cases-cons}
 use Prim.Native.Nat.{ℕ, zero, suc, _+_, _≤_, _<_}
-use native.Mathlib.Numerals.{add-one}
 use native.Mathlib.Omega.{arith}
-use lib.ListN.{length, getD, take, drop, length-map}
+use lib.ListN.{length, getD, length-map}
 use borrow.Author.Tests.{eqb-true, eqb-false}
 use lib.Dec.{eqb}
 use lib.IntN.{ℤ, _+ℤ_}
-use lib.Seq.{drop-cons, length-take-le, getD-take}
 use Rattle.whole.proofs.Tests.{by-test}
-use Rattle.whole.proofs.Lists.{getD-map}
 use Rattle.worst.specs.Cases.{numbers}
 use Rattle.worst.specs.Quick.{sum}
 
 -- an array of structs in a struct: what is known of its length stands at the list of the elements' parts
 pub mapped-length : {X Y : Type 0} (f : X → Y) (l : List X) (n : ℕ) → length (map f l) ≡ n → length l ≡ n
 mapped-length f l n e = sym (length-map l f) ∙ e
-
--- the entry at i, of the entries that count
-pub drop-take-cons : {X : Type 0} (n : ℕ) (l : List X) (i : ℕ) (d : X) → i < n → n ≤ length l → drop i (take n l) ≡ getD l i d ∷ drop (i + 1) (take n l)
-drop-take-cons n l i d h k =
-    let t : i < length (take n l) = omega (arith, length-take-le n l k) in
-    drop-cons (take n l) i d t ∙ (λ j. getD-take n l i d h j ∷ drop (sym (add-one i) j) (take n l))
-
--- an entry, where the first n are made of another list's
-pub made-at : {X Y : Type 0} (f : X → Y) (from : List X) (to : List Y) (n i : ℕ) (d : X) (e : Y) → take n to ≡ map f from → i < n → i < length from → getD to i e ≡ f (getD from i d)
-made-at f from to n i d e h k l = sym (getD-take n to i e k) ∙ ap (λ r. getD r i e) h ∙ getD-map f from i d e l
 
 -- ---- entries by their number
 

@@ -19,7 +19,7 @@ use Rattle.worst.specs.Shown.{shown}
 use Rattle.worst.specs.Worst.{given, extreme}
 use Rattle.worst.proofs.Lists.{getD-member, member-numbers}
 use Rattle.worst.proofs.Members.{worst-found, worst-is}
-use Rattle.worst.proofs.Planned.{OneOrTwo, alone, pair}
+use Rattle.worst.proofs.OneFace.{OneOrTwo, alone, pair}
 use Rattle.worst.proofs.Demand.{SameSite, AllIn, Faster, given-more, given-faster}
 use Rattle.worst.proofs.Accepted.{given-sound}
 

@@ -1,20 +1,35 @@
--- What a face's answer makes of it: one coefficient twice, or two, or none.
-use mathlib.Core.Path.{_≡_, sym, ap}
-use Prim.Native.Nat.{ℕ}
+-- A face that takes part, with the coefficients that were answered, is as its direction meets it; so is nothing, where it does not.
+use mathlib.Core.Path.{_≡_, sym, ap, _∙_}
+use mathlib.Core.Bool.{true, false, cond}
+use Prim.Native.Nat.{ℕ, _-_}
 use lib.IntN.{ℤ, pos}
+use lib.ListN.{length, getD}
 use Rattle.book.specs.declared.Building.{Building}
+use Rattle.book.specs.declared.Answer.{Answer}
 use Rattle.book.specs.declared.Answer.the-variants.{One, Two, Refused}
 use Rattle.book.specs.Answer.{valuesOf}
 use Rattle.book.specs.Question.{outsideOf}
 use Rattle.entry.specs.declared.Face.{Face}
-use Rattle.worst.specs.Planned.{metOf, surfaceOf, surfaceOn}
+use Rattle.worst.specs.Forces.{acts}
+use Rattle.worst.specs.Engine.{noSurface, surfaceWith, surfaceOf, surfaceOn}
 
 module _ (b : Building) (d : ℕ) (f : Face) where
-  pub surface-one : (v : ℤ) → outsideOf b (pos d) (f .zone) ≡ One v → metOf v v d f ≡ surfaceOn b d f
-  surface-one v e = ap (λ a. surfaceOf (valuesOf a) d f) (sym e)
+  pub surface-aside : acts f d ≡ false → noSurface ≡ surfaceOn b d f
+  surface-aside e =
+      let outs = valuesOf (outsideOf b (pos d) (f .zone)) in
+      ap (λ t. cond t (surfaceWith (getD outs 0 (pos 0)) (getD outs (length outs - 1) (pos 0)) f) noSurface) (sym e)
 
-  pub surface-two : (v u : ℤ) → outsideOf b (pos d) (f .zone) ≡ Two v u → metOf v u d f ≡ surfaceOn b d f
-  surface-two v u e = ap (λ a. surfaceOf (valuesOf a) d f) (sym e)
+  -- by the answer to its question
+  module _ (e : acts f d ≡ true) where
+    abbrev answered : Answer → Type 0
+    answered a = outsideOf b (pos d) (f .zone) ≡ a
 
-  pub surface-none : (number line : ℕ) → outsideOf b (pos d) (f .zone) ≡ Refused number line → metOf (pos 0) (pos 0) d f ≡ surfaceOn b d f
-  surface-none number line e = ap (λ a. surfaceOf (valuesOf a) d f) (sym e)
+    pub surface-one : (v : ℤ) → answered (One v) → surfaceWith v v f ≡ surfaceOn b d f
+    surface-one v q = ap (λ t. cond t (surfaceWith v v f) noSurface) (sym e) ∙ ap (λ a. surfaceOf (valuesOf a) d f) (sym q)
+
+    pub surface-two : (v u : ℤ) → answered (Two v u) → surfaceWith v u f ≡ surfaceOn b d f
+    surface-two v u q = ap (λ t. cond t (surfaceWith v u f) noSurface) (sym e) ∙ ap (λ a. surfaceOf (valuesOf a) d f) (sym q)
+
+    pub surface-none : (number line : ℕ) → answered (Refused number line) → surfaceWith (pos 0) (pos 0) f ≡ surfaceOn b d f
+    surface-none number line q =
+        ap (λ t. cond t (surfaceWith (pos 0) (pos 0) f) noSurface) (sym e) ∙ ap (λ a. surfaceOf (valuesOf a) d f) (sym q)

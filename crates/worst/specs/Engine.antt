@@ -1,71 +1,60 @@
 -- What the engine's own records say. Only contracts of private functions cite it.
+use mathlib.Core.Path.{_≡_}
+use mathlib.Core.Logic.{_⊎_}
 use mathlib.Core.Bool.{cond}
-use mathlib.Core.List.{List, [], map}
+use mathlib.Core.List.{List, map}
 use Prim.Native.Nat.{ℕ, _-_, _*_, _≤_, _<_}
 use lib.IntN.{ℤ, pos, natAbs, _+ℤ_, _-ℤ_, _*ℤ_}
-use lib.ListN.{getD, take}
+use lib.ListN.{length, getD, set}
 use lib.Dec.{eqb}
+use Rattle.book.specs.declared.Building.{Building}
+use Rattle.book.specs.Answer.{valuesOf}
+use Rattle.book.specs.Question.{outsideOf}
+use Rattle.job.specs.declared.Job.{Job}
+use Rattle.job.specs.declared.Winds.{Winds}
+use Rattle.job.specs.declared.Internals.{Internals}
+use Rattle.entry.specs.declared.Wind.{Wind}
+use Rattle.entry.specs.declared.Face.{Face}
+use Rattle.job.specs.Carried.{noWind, noFace}
 use Rattle.worst.specs.declared.Side.{Side}
 use Rattle.worst.specs.declared.Side.the-variants.{Greatest, Least}
 use Rattle.worst.specs.declared.Axis.{Axis}
 use Rattle.worst.specs.declared.Axis.the-variants.{X, Y, Z}
+use Rattle.worst.specs.declared.Extreme.{Extreme}
 use Rattle.worst.specs.declared.Extremes.{Extremes}
-use Rattle.worst.specs.declared.Six.{Six}
 use Rattle.worst.specs.declared.surface.Surface.{Surface}
-use Rattle.worst.specs.declared.surface.Row.{Row}
-use Rattle.worst.specs.declared.surface.Gust.{Gust}
-use Rattle.worst.specs.declared.surface.Inside.{Inside}
-use Rattle.worst.specs.declared.surface.Gusts.{Gusts}
-use Rattle.worst.specs.declared.surface.Insides.{Insides}
-use Rattle.worst.specs.declared.surface.Plan.{Plan}
-use Rattle.worst.specs.declared.cell.Span.{Span}
-use Rattle.worst.specs.declared.cell.Spans.{Spans}
+use Rattle.worst.specs.declared.sums.Span.{Span}
+use Rattle.worst.specs.declared.sums.Sums.{Sums}
+use Rattle.worst.specs.declared.sums.Axes.{Axes}
 use Rattle.worst.specs.declared.tops.Top.{Top}
 use Rattle.worst.specs.declared.tops.Ends.{Ends}
-use Rattle.worst.specs.declared.tops.Tops.{Tops}
 use Rattle.worst.specs.Best.{short, Best, none, at}
-use Rattle.worst.specs.Cases.{Case, numbers}
-use Rattle.worst.specs.Shown.{shown}
-use Rattle.worst.specs.Quick.{over, sum, tagged}
+use Rattle.worst.specs.Cases.{numbers}
+use Rattle.worst.specs.Forces.{acts, pressure}
+use Rattle.worst.specs.Shown.{padded, shown}
+use Rattle.worst.specs.Quick.{over, sum}
 
--- ---- bounds
+-- ---- a face as a direction meets it
 
--- a surface's numbers are those of an acceptable job
-pub record Small (f : Surface) : Type 0 where
-  pub first : natAbs (f .first) ≤ 1200
-  pub second : natAbs (f .second) ≤ 1200
-  pub x : natAbs (f .x) ≤ 100000
-  pub y : natAbs (f .y) ≤ 100000
-  pub z : natAbs (f .z) ≤ 100000
+abbrev pub surfaceWith : ℤ → ℤ → Face → Surface
+surfaceWith first last f = record { first = first; second = last; x = f .x; y = f .y; z = f .z }
 
-abbrev pub Mild : Gust → Type 0
-Mild g = natAbs (g .pressure) ≤ 1500000000
-
-abbrev pub Weak : Inside → Type 0
-Weak c = natAbs (c .coefficient) ≤ 1000
-
--- what n faces can come to
-pub record SpanSmall (n : ℕ) (p : Span) : Type 0 where
-  pub greatest : natAbs (p .greatest) ≤ n * 330000000000000000
-  pub least : natAbs (p .least) ≤ n * 330000000000000000
-
-pub record SpansSmall (n : ℕ) (p : Spans) : Type 0 where
-  pub x : SpanSmall n (p .x)
-  pub y : SpanSmall n (p .y)
-  pub z : SpanSmall n (p .z)
-
--- past the end of a row: never read
+-- where it adds nothing
 abbrev pub noSurface : Surface
 noSurface = record { first = pos 0; second = pos 0; x = pos 0; y = pos 0; z = pos 0 }
 
-abbrev pub RowSmall : ℕ → Row → Type 0
-RowSmall n r = (i : ℕ) → i < n → Small (getD (r .face) i noSurface)
+-- the first and the last of its outside coefficients, which are one where it has one
+abbrev pub surfaceOf : List ℤ → ℕ → Face → Surface
+surfaceOf outs direction f =
+    cond (acts f direction) (surfaceWith (getD outs 0 (pos 0)) (getD outs (length outs - 1) (pos 0)) f) noSurface
 
--- ---- forces
+abbrev pub surfaceOn : Building → ℕ → Face → Surface
+surfaceOn b direction f = surfaceOf (valuesOf (outsideOf b (pos direction) (f .zone))) direction f
 
--- the net coefficient times the pressure number
-abbrev pub pressedBy : Gust → Inside → ℤ → ℤ
-pressedBy g c outside = (outside -ℤ c .coefficient) *ℤ g .pressure
+abbrev pub areaOf : Axis → Surface → ℤ
+areaOf X f = f .x
+areaOf Y f = f .y
+areaOf Z f = f .z
 
 -- the further out of two, the first where they are alike; and which it is
 unfoldable pub further : Side → ℤ → ℤ → ℤ
@@ -74,54 +63,51 @@ further s a b = cond (short s a b) b a
 unfoldable pub which : Side → ℤ → ℤ → ℕ
 which s a b = cond (short s a b) 2 1
 
-abbrev pub areaOf : Axis → Surface → ℤ
-areaOf X f = f .x
-areaOf Y f = f .y
-areaOf Z f = f .z
+-- the further of its alternatives, as outside coefficient × area; and which it is
+abbrev pub reach : Side → Axis → Surface → ℤ
+reach s axis f = further s (f .first *ℤ areaOf axis f) (f .second *ℤ areaOf axis f)
 
--- the force of a surface on an axis at its first and at its second alternative
-abbrev pub firstForce : Gust → Inside → Axis → Surface → ℤ
-firstForce g c axis f = pressedBy g c (f .first) *ℤ areaOf axis f
+abbrev pub pick : Side → Axis → Surface → ℕ
+pick s axis f = which s (f .first *ℤ areaOf axis f) (f .second *ℤ areaOf axis f)
 
-abbrev pub secondForce : Gust → Inside → Axis → Surface → ℤ
-secondForce g c axis f = pressedBy g c (f .second) *ℤ areaOf axis f
+-- ---- faces added up
 
--- the further of the two, and which it is
-abbrev pub reach : Side → Axis → Gust → Inside → Surface → ℤ
-reach s axis g c f = further s (firstForce g c axis f) (secondForce g c axis f)
+abbrev pub spanOf : Axis → List Surface → Span
+spanOf axis fs =
+    record { greatest = sum (reach Greatest axis) fs; least = sum (reach Least axis) fs; area = sum (areaOf axis) fs }
 
-abbrev pub pick : Side → Axis → Gust → Inside → Surface → ℕ
-pick s axis g c f = which s (firstForce g c axis f) (secondForce g c axis f)
+abbrev pub sumsOf : Axis → List Surface → Sums
+sumsOf axis fs =
+    record { span = spanOf axis fs; high = padded 24 (map (pick Greatest axis) fs); low = padded 24 (map (pick Least axis) fs) }
 
--- ---- sums
+abbrev pub axesOf : List Surface → Axes
+axesOf fs = record { x = sumsOf X fs; y = sumsOf Y fs; z = sumsOf Z fs }
 
--- a span with one face more
-abbrev pub stretched : Span → ℤ → ℤ → ℤ → Span
-stretched p q r area =
-    record { greatest = p .greatest +ℤ further Greatest (q *ℤ area) (r *ℤ area); least = p .least +ℤ further Least (q *ℤ area) (r *ℤ area) }
+-- one face more, at place i
+abbrev pub withFace : Axis → ℕ → Surface → Sums → Sums
+withFace axis i f p =
+    record { span = record { greatest = p .span .greatest +ℤ reach Greatest axis f; least = p .span .least +ℤ reach Least axis f; area = p .span .area +ℤ areaOf axis f }; high = set (p .high) i (pick Greatest axis f); low = set (p .low) i (pick Least axis f) }
 
-abbrev pub withFace : Gust → Inside → Spans → Surface → Spans
-withFace g c p f =
-    record { x = stretched (p .x) (pressedBy g c (f .first)) (pressedBy g c (f .second)) (f .x); y = stretched (p .y) (pressedBy g c (f .first)) (pressedBy g c (f .second)) (f .y); z = stretched (p .z) (pressedBy g c (f .first)) (pressedBy g c (f .second)) (f .z) }
+abbrev pub withSurface : ℕ → Surface → Axes → Axes
+withSurface i f p = record { x = withFace X i f (p .x); y = withFace Y i f (p .y); z = withFace Z i f (p .z) }
 
--- the sums of one wind and one internal coefficient
-abbrev pub spanOf : Gust → Inside → Axis → List Surface → Span
-spanOf g c axis fs =
-    record { greatest = sum (reach Greatest axis g c) fs; least = sum (reach Least axis g c) fs }
+-- which of two a direction has: the first for 0, the second for 90
+abbrev pub under : {A : Type 0} → ℕ → A → A → A
+under direction zero ninety = cond (eqb direction 90) ninety zero
 
-abbrev pub spansOf : Gust → Inside → List Surface → Spans
-spansOf g c fs = record { x = spanOf g c X fs; y = spanOf g c Y fs; z = spanOf g c Z fs }
+abbrev pub sumOf : Side → Span → ℤ
+sumOf Greatest p = p .greatest
+sumOf Least p = p .least
+
+abbrev pub alternativesOf : Side → Sums → List ℕ
+alternativesOf Greatest p = p .high
+alternativesOf Least p = p .low
 
 -- ---- cells
 
-abbrev pub valueOf : Side → Span → ℤ
-valueOf Greatest p = p .greatest
-valueOf Least p = p .least
-
-abbrev pub sumAt : Axis → Side → Spans → ℤ
-sumAt X s p = valueOf s (p .x)
-sumAt Y s p = valueOf s (p .y)
-sumAt Z s p = valueOf s (p .z)
+-- the total of one wind and one internal coefficient, which is in hundredths
+abbrev pub cellTotal : Side → Span → ℤ → ℤ → ℤ
+cellTotal s p pressure internal = (sumOf s p -ℤ internal *ℤ pos 10 *ℤ p .area) *ℤ pressure
 
 -- where a cell stands: the numbers of its wind and its internal coefficient
 pub record Spot : Type 0 where
@@ -138,76 +124,92 @@ abbrev pub endOf : Side → Ends → Top
 endOf Greatest e = e .greatest
 endOf Least e = e .least
 
-abbrev pub topAt : Axis → Side → Tops → Top
-topAt X s t = endOf s (t .x)
-topAt Y s t = endOf s (t .y)
-topAt Z s t = endOf s (t .z)
-
--- past the end of an array: never read
-abbrev pub noGust : Gust
-noGust = record { pressure = pos 0; row = 0 }
-
-abbrev pub noInside : Inside
-noInside = record { coefficient = pos 0 }
-
-abbrev pub noRow : Row
-noRow = record { face = [] }
-
 -- what stands at a number, from 1
-abbrev pub gustAt : Gusts → ℕ → Gust
-gustAt ws w = getD (ws .at) (w - 1) noGust
+abbrev pub windOf : Winds → ℕ → Wind
+windOf ws w = getD (ws .entry) (w - 1) noWind
 
-abbrev pub insideAt : Insides → ℕ → Inside
-insideAt is i = getD (is .at) (i - 1) noInside
-
-abbrev pub facesAt : Plan → Gust → List Surface
-facesAt p g = take (p .faces) (getD (p .rows) (g .row) noRow .face)
+abbrev pub internalOf : Internals → ℕ → ℤ
+internalOf is i = getD (is .entry) (i - 1) (pos 0)
 
 -- the best of one cell; of a wind's cells; and of all
-abbrev pub cellBest : Side → Axis → List Surface → Gust → Insides → ℕ → ℕ → Best Spot
-cellBest s axis fs g is w i = at (sum (reach s axis g (insideAt is i)) fs) (spot w i)
+abbrev pub cellBest : Side → Span → ℤ → Internals → ℕ → ℕ → Best Spot
+cellBest s p pressure is w i = at (cellTotal s p pressure (internalOf is i)) (spot w i)
 
-abbrev pub windBest : Side → Axis → Plan → ℕ → Best Spot
-windBest s axis p w =
-    over s (cellBest s axis (facesAt p (gustAt (p .winds) w)) (gustAt (p .winds) w) (p .internals) w) (numbers (p .internals .count) 1)
+abbrev pub cellsBest : Side → Span → ℤ → Internals → ℕ → Best Spot
+cellsBest s p pressure is w = over s (cellBest s p pressure is w) (numbers (is .count) 1)
 
-unfoldable pub planBest : Side → Axis → Plan → Best Spot
-planBest s axis p = over s (windBest s axis p) (numbers (p .winds .count) 1)
+abbrev pub windBest : Side → Building → Winds → Internals → Sums → Sums → ℕ → Best Spot
+windBest s b ws is zero ninety w =
+    cellsBest s (under (windOf ws w .direction) zero ninety .span) (pressure (b .density) (windOf ws w)) is w
 
-abbrev pub InsidesWeak : Insides → Type 0
-InsidesWeak is = (is .count ≤ 4) × ((i : ℕ) → i < is .count → Weak (getD (is .at) i noInside))
+unfoldable pub bestCell : Side → Job → Sums → Sums → Best Spot
+bestCell s j zero ninety = over s (windBest s (j .building) (j .winds) (j .internals) zero ninety) (numbers (j .winds .count) 1)
 
-pub record Fine (p : Plan) : Type 0 where
-  pub faces : p .faces ≤ 24
-  pub winds : p .winds .count ≤ 8
-  pub someWind : 0 < p .winds .count
-  pub someInternal : 0 < p .internals .count
-  pub internals : InsidesWeak (p .internals)
-  pub mild : (w : ℕ) → w < p .winds .count → Mild (getD (p .winds .at) w noGust)
-  pub row : (w : ℕ) → w < p .winds .count → getD (p .winds .at) w noGust .row < 2
-  pub small : (k : ℕ) → k < 2 → RowSmall (p .faces) (getD (p .rows) k noRow)
+-- a cell as it is shown
+abbrev pub cellShown : Side → Job → Sums → Sums → Best Spot → Extreme
+cellShown s j zero ninety none = shown (j .faces .count) none
+cellShown s j zero ninety (at v t) =
+    record { total = v; wind = t .wind; internal = t .internal; faces = j .faces .count; alternative = alternativesOf s (under (windOf (j .winds) (t .wind) .direction) zero ninety) }
 
--- ---- the six extremes
+abbrev pub extremesOf : Job → Sums → Sums → Extremes
+extremesOf j zero ninety =
+    record { greatest = cellShown Greatest j zero ninety (bestCell Greatest j zero ninety); least = cellShown Least j zero ninety (bestCell Least j zero ninety) }
 
--- a cell of the plan
-pub record OnPlan (p : Plan) (t : Spot) : Type 0 where
+-- ---- bounds
+
+-- a surface's numbers are those of an acceptable job
+pub record Small (f : Surface) : Type 0 where
+  pub first : natAbs (f .first) ≤ 1200
+  pub second : natAbs (f .second) ≤ 1200
+  pub x : natAbs (f .x) ≤ 100000
+  pub y : natAbs (f .y) ≤ 100000
+  pub z : natAbs (f .z) ≤ 100000
+
+-- what n faces can come to
+pub record SpanSmall (n : ℕ) (p : Span) : Type 0 where
+  pub greatest : natAbs (p .greatest) ≤ n * 120000000
+  pub least : natAbs (p .least) ≤ n * 120000000
+  pub area : natAbs (p .area) ≤ n * 100000
+
+abbrev pub SumsSmall : ℕ → Sums → Type 0
+SumsSmall n p = SpanSmall n (p .span)
+
+pub record AxesSmall (n : ℕ) (p : Axes) : Type 0 where
+  pub x : SumsSmall n (p .x)
+  pub y : SumsSmall n (p .y)
+  pub z : SumsSmall n (p .z)
+
+abbrev pub FacesSmall : Building → ℕ → ℕ → List Face → Type 0
+FacesSmall b direction n fs = (i : ℕ) → i < n → Small (surfaceOn b direction (getD fs i noFace))
+
+abbrev pub Dense : Building → Type 0
+Dense b = natAbs (b .density) ≤ 1500
+
+abbrev pub Slow : Wind → Type 0
+Slow w = w .speed ≤ 1000
+
+abbrev pub LowInternals : Internals → Type 0
+LowInternals is = (is .count ≤ 4) × ((k : ℕ) → k < is .count → natAbs (getD (is .entry) k (pos 0)) ≤ 100)
+
+-- a job that can be reckoned
+pub record Ready (j : Job) : Type 0 where
+  pub density : Dense (j .building)
+  pub someWind : 0 < j .winds .count
+  pub winds : j .winds .count ≤ 8
+  pub slow : (k : ℕ) → k < j .winds .count → Slow (getD (j .winds .entry) k noWind)
+  pub someInternal : 0 < j .internals .count
+  pub internals : LowInternals (j .internals)
+  pub faces : j .faces .count ≤ 24
+  pub small : (d : ℕ) → (d ≡ 0) ⊎ (d ≡ 90) → FacesSmall (j .building) d (j .faces .count) (j .faces .entry)
+
+-- n faces, which are all of them where a wind has the direction
+pub record Meets (j : Job) (direction n : ℕ) : Type 0 where
+  pub most : n ≤ j .faces .count
+  pub all : (k : ℕ) → k < j .winds .count → getD (j .winds .entry) k noWind .direction ≡ direction → n ≡ j .faces .count
+
+-- a cell of the job
+pub record OnJob (j : Job) (t : Spot) : Type 0 where
   pub wind : 0 < t .wind
-  pub wind≤ : t .wind ≤ p .winds .count
+  pub wind≤ : t .wind ≤ j .winds .count
   pub internal : 0 < t .internal
-  pub internal≤ : t .internal ≤ p .internals .count
-
--- the best choice of a cell, as a case
-abbrev pub caseAt : Side → Axis → Plan → Spot → Case ℕ ℕ ℕ
-caseAt s axis p t =
-    let g = gustAt (p .winds) (t .wind) in
-    record { wind = t .wind; internal = t .internal; chosen = map (pick s axis g (insideAt (p .internals) (t .internal))) (facesAt p g) }
-
-abbrev pub planWorst : Side → Axis → Plan → Best (Case ℕ ℕ ℕ)
-planWorst s axis p = tagged (caseAt s axis p) (planBest s axis p)
-
-abbrev pub extremesOf : Plan → Axis → Extremes
-extremesOf p axis =
-    record { greatest = shown (p .faces) (planWorst Greatest axis p); least = shown (p .faces) (planWorst Least axis p) }
-
-abbrev pub sixOf : Plan → Six
-sixOf p = record { x = extremesOf p X; y = extremesOf p Y; z = extremesOf p Z }
+  pub internal≤ : t .internal ≤ j .internals .count

@@ -4,12 +4,10 @@ ghost use Rattle.worst.specs.Worst.{worstOf};
 use job::Job;
 
 mod surface; // a face as a wind's direction meets it
-mod cell; // the sums of one wind and one internal coefficient
+mod sums; // the faces of a direction, added up
 mod tops; // the best cell so far
 mod cells; // every wind and internal coefficient in order
-mod chosen; // the alternatives of the best choice
 mod engine; // the six extremes
-mod prepare; // from a job to its plan
 mod reckon; // a refusal, or the six extremes
 
 pub enum Side {

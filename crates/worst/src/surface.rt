@@ -1,4 +1,12 @@
-// A face as the winds of one direction meet it: looked up once, and then only multiplied.
+// A face as the winds of one direction meet it. The coefficients of a face are looked up here, and nowhere else.
+ghost use mathlib.Core.Path.{_≡_};
+ghost use mathlib.Core.Bool.{true};
+ghost use Rattle.worst.specs.Forces.{acts};
+ghost use Rattle.worst.specs.Engine.{surfaceWith, surfaceOn};
+use book::Answer;
+use book::Building;
+use entry::BOTH;
+use entry::Face;
 
 // The outside coefficients in thousandths and the projected areas. A face with one alternative has it twice;
 // one that is marked for another direction has no area.
@@ -10,36 +18,54 @@ pub struct Surface {
     pub z: i64,
 }
 
-// The faces of a job under one direction.
-pub struct Row {
-    pub face: [Surface; 24],
+// Whether a face takes part under a direction.
+fn takes_part(f: Face, direction: u32) -> bool
+    ensures { λ r. ⌜ r ≡ acts f direction ⌝ }
+{
+    if f.mark == BOTH {
+        return true;
+    }
+    f.mark == direction
 }
 
-// A wind: its pressure number, and which row of faces its direction meets.
-pub struct Gust {
-    pub pressure: i64,
-    pub row: usize,
+// A face with its first and its last outside coefficient.
+fn with_outside(f: Face, first: i32, last: i32) -> Surface
+    ensures { λ r. ⌜ r ≡ surfaceWith first last f ⌝ }
+{
+    Surface {
+        first: first as i64,
+        second: last as i64,
+        x: f.x,
+        y: f.y,
+        z: f.z,
+    }
 }
 
-// An internal coefficient in thousandths.
-pub struct Inside {
-    pub coefficient: i64,
+// A face that takes part: its coefficients are looked up.
+fn looked_up(b: Building, direction: u32, f: Face) -> Surface
+    requires { ⌜ acts f direction ≡ true ⌝ }
+    ensures { λ r. ⌜ r ≡ surfaceOn b direction f ⌝ }
+{
+    let answer = book::outside(b, direction as i64, f.zone);
+    match answer {
+        Answer::One(v) => with_outside(f, v, v),
+        Answer::Two(v, w) => with_outside(f, v, w),
+        Answer::Refused(_, _) => with_outside(f, 0, 0),
+    }
 }
 
-pub struct Gusts {
-    pub count: usize,
-    pub at: [Gust; 8],
-}
-
-pub struct Insides {
-    pub count: usize,
-    pub at: [Inside; 4],
-}
-
-// A job as the engine wants it: nothing is left to look up.
-pub struct Plan {
-    pub winds: Gusts,
-    pub internals: Insides,
-    pub faces: usize,
-    pub rows: [Row; 2],
+// Any face; nothing is looked up for one that does not take part.
+pub(crate) fn surface_on(b: Building, direction: u32, f: Face) -> Surface
+    ensures { λ r. ⌜ r ≡ surfaceOn b direction f ⌝ }
+{
+    if takes_part(f, direction) {
+        return looked_up(b, direction, f);
+    }
+    Surface {
+        first: 0,
+        second: 0,
+        x: 0,
+        y: 0,
+        z: 0,
+    }
 }

@@ -1,79 +1,77 @@
 -- `cells::over_internals` meets its contract: the loop's state is `Run` over the internal coefficients.
-use mathlib.Core.Path.{ap, _∙_}
-use Prim.Native.Nat.{ℕ, _≤_, _-_}
+use mathlib.Core.Path.{_≡_, ap, _∙_}
+use Prim.Native.Nat.{ℕ, _+_, _≤_, _-_}
 use native.Mathlib.Omega.{arith}
 use borrow.Author.Needs.{needs}
-use lib.ListN.{take}
-use Rattle.worst.specs.declared.Axis.{Axis}
-use Rattle.worst.specs.declared.Side.{Side}
-use Rattle.worst.specs.declared.surface.Row.{Row}
-use Rattle.worst.specs.declared.surface.Gust.{Gust}
-use Rattle.worst.specs.declared.surface.Insides.{Insides}
-use Rattle.worst.specs.Best.{Best, better}
-use Rattle.worst.specs.Engine.{Spot, topOf, topAt, cellBest}
-use Rattle.worst.proofs.Runs.{Run, run-start, run-step, run-end, cellBest-is}
+use lib.IntN.{ℤ, pos, natAbs}
+use lib.ListN.{getD}
+use mir.Syntax.{w64}
+use mir.Val.{toZ, ofZ}
+use mir.ValLaws.{toZ-ofZ}
+use Rattle.whole.proofs.Size.{num≤, back}
+use Rattle.job.specs.declared.Internals.{Internals}
+use Rattle.worst.specs.Best.{at, better}
+use Rattle.worst.specs.Engine.{spot, topOf, endOf, cellTotal, cellBest, cellsBest}
+use Rattle.worst.proofs.Runs.{Run, run-start, run-step, run-end, at-next}
 use Rattle.worst.proofs.cells.over_internals.Statement.{statement}
 use Rattle.worst.proofs.cells.over_internals.Tie as tie
 
-abbrev cells : Row → ℕ → Gust → Insides → ℕ → Axis → Side → ℕ → Best Spot
-cells row n g is w axis s i = cellBest s axis (take n (row .face)) g is w i
-
 abbrev Inv-loop : tie.InvT-loop
-Inv-loop row n g wind internals count best₀ i₀ best i =
-    (i ≤ count) × Run (cells row n g internals wind) count best₀ best i
+Inv-loop span pressure wind internals count best₀ i₀ best i =
+    (i ≤ count) × Run (λ s. cellBest s span (toZ w64 pressure) internals wind) count best₀ best i
 
 abbrev μ-loop : tie.MeasureT-loop
-μ-loop row n g wind internals count best₀ i₀ best i = count - i
+μ-loop span pressure wind internals count best₀ i₀ best i = count - i
+
+-- the pressure number and an internal coefficient, read back from their bits
+pressed : (a : tie.Start Inv-loop μ-loop) → toZ w64 (ofZ w64 (a .args .pressure)) ≡ a .args .pressure
+pressed a = toZ-ofZ w64 (a .args .pressure) (a .fits .pressure)
+
+plain : (is : Internals) (i : ℕ) → natAbs (getD (is .entry) i (pos 0)) ≤ 100 → toZ w64 (ofZ w64 (getD (is .entry) i (pos 0))) ≡ getD (is .entry) i (pos 0)
+plain is i h = back w64 (num≤ (getD (is .entry) i (pos 0)) h) tt .same
+
+cast-count : tie.Need-cast-count Inv-loop μ-loop
+cast-count c = search needs
 
 loop-holds : tie.Need-loop-holds Inv-loop μ-loop
 loop-holds c = (search needs, run-start _ _ _)
 
-mul-c : tie.Need-mul-c Inv-loop μ-loop
-mul-c c = search needs
+mul-internal : tie.Need-mul-internal Inv-loop μ-loop
+mul-internal c = search needs
 
-element-copy-out-c : tie.Need-element-copy-out-c Inv-loop μ-loop
-element-copy-out-c c = search needs
-
-cell-requires : tie.Need-cell-requires Inv-loop μ-loop
-cell-requires c κs =
-    let a = c .before .before .before in
-    (a .pre .0, a .pre .1, a .pre .2, a .pre .3 .1 (c .before .before .loop .i) (c .before .loop-test .taken))
+element-copy-out-internal : tie.Need-element-copy-out-internal Inv-loop μ-loop
+element-copy-out-internal c = search needs
 
 add-i : tie.Need-add-i Inv-loop μ-loop
 add-i c = search needs
 
-kept-tops-requires : tie.Need-kept-tops-requires Inv-loop μ-loop
-kept-tops-requires c κs = search needs
+with-cell-requires : tie.Need-with-cell-requires Inv-loop μ-loop
+with-cell-requires c κs =
+    let a = c .before .before .before in
+    let some = a .pre .3 in
+    let low = a .pre .2 .1 (c .before .before .loop .i) (c .before .loop-test .taken) in
+    (a .pre .0, rw (pressed a) (a .pre .1), rw (plain (a .args .t4) (c .before .before .loop .i) low) low, omega arith)
 
 loop-less : tie.Need-loop-less Inv-loop μ-loop
 loop-less c = search needs
 
 loop-again : tie.Need-loop-again Inv-loop μ-loop
 loop-again c =
-    let a = c .before .before .before .before .before in
-    let l = c .before .before .before .before .loop in
-    let t = c .before .before .before .loop-test .taken in (
+    let a = c .before .before .before .before in
+    let l = c .before .before .before .loop in
+    let t = c .before .before .loop-test .taken in
+    let internals = a .args .t4 in (
       omega arith,
-      run-step _ _ _ (l .best) (c .kept-tops .result) (l .i) t (l .inv .1)
-          (λ axis s. c .kept-tops .ensures axis s
-          ∙ ap (better s (topOf (topAt axis s (l .best)))) (cellBest-is axis s (take (a .args .n) (a .args .row .face)) (a .args .g) (a .args .t4) (a .args .wind) (l .i) (c .before .cell .result) (c .before .cell .ensures))),
+      run-step _ _ _ (l .best) (c .with-cell .result) (l .i) t (l .inv .1)
+          (λ s. c .with-cell .ensures s ∙ ap (λ (x : ℤ). better s (topOf (endOf s (l .best))) (at (cellTotal s (a .args .span) (toZ w64 (ofZ w64 (a .args .pressure))) x) (spot (a .args .wind) (l .i + 1)))) (plain internals (l .i) (a .pre .2 .1 (l .i) t) ∙ at-next (λ k. getD (internals .entry) k (pos 0)) (l .i))),
     )
 
 returns : tie.Need-returns Inv-loop μ-loop
-returns c = run-end _ _ _ (c .before .loop .best) (c .before .loop .i) (c .loop-test .left) (c .before .loop .inv .1)
+returns c =
+    let a = c .before .before in
+    let l = c .before .loop in
+    λ s. run-end _ _ _ (l .best) (l .i) (c .loop-test .left) (l .inv .1) s
+    ∙ ap (λ (p : ℤ). better s (topOf (endOf s (a .args .ends))) (cellsBest s (a .args .span) p (a .args .t4) (a .args .wind))) (pressed a)
 
 pub over-internals-spec : {M : Type 1} → statement M
-over-internals-spec =
-    tie.close
-    (tie.spec
-    Inv-loop
-    μ-loop
-    loop-holds
-    mul-c
-    element-copy-out-c
-    cell-requires
-    add-i
-    kept-tops-requires
-    loop-less
-    loop-again
-    returns)
+over-internals-spec = tie.close (tie.spec Inv-loop μ-loop cast-count loop-holds mul-internal element-copy-out-internal add-i with-cell-requires loop-less loop-again returns)

@@ -1,64 +1,102 @@
 -- `cells::over_winds` meets its contract: the loop's state is `Run` over the winds, and it begins with nothing.
-use mathlib.Core.Path.{ap, _∙_}
-use Prim.Native.Nat.{_≤_, _-_}
+use mathlib.Core.Path.{sym, ap, _∙_, subst}
+use Prim.Native.Nat.{_+_, _≤_, _-_}
 use native.Mathlib.Omega.{arith}
 use borrow.Author.Needs.{needs}
+use lib.ListN.{getD}
+use Rattle.whole.proofs.Size.{Num, bound}
+use Rattle.entry.specs.declared.Wind.{Wind}
+use Rattle.job.specs.Carried.{noWind}
 use Rattle.worst.specs.Best.{better}
-use Rattle.worst.specs.Engine.{topOf, topAt, windBest, planBest}
-use Rattle.worst.proofs.Runs.{Run, run-start, run-step, run-end, windBest-is, nothing-yet}
+use Rattle.worst.specs.Forces.{pressure}
+use Rattle.worst.specs.Engine.{Slow, SumsSmall, under, topOf, endOf, cellsBest, windBest, bestCell}
+use Rattle.worst.proofs.Told.{told}
+use Rattle.worst.proofs.Added.{under-small}
+use Rattle.worst.proofs.Ranges.{pressure-small}
+use Rattle.worst.proofs.Runs.{Run, run-start, run-step, run-end, at-next, nothing-before}
 use Rattle.worst.proofs.cells.over_winds.Statement.{statement}
 use Rattle.worst.proofs.cells.over_winds.Tie as tie
 
 abbrev Inv-loop : tie.InvT-loop
-Inv-loop plan winds internals n count best₀ w₀ best w =
-    (w ≤ count) × Run (λ axis s. windBest s axis plan) count best₀ best w
+Inv-loop zero ninety b winds internals count best₀ w₀ best w =
+    (w ≤ count) × Run (λ s. windBest s b winds internals zero ninety) count best₀ best w
 
 abbrev μ-loop : tie.MeasureT-loop
-μ-loop plan winds internals n count best₀ w₀ best w = count - w
+μ-loop zero ninety b winds internals count best₀ w₀ best w = count - w
+
+cast-count : tie.Need-cast-count Inv-loop μ-loop
+cast-count c = search needs
 
 loop-holds : tie.Need-loop-holds Inv-loop μ-loop
 loop-holds c = (search needs, run-start _ _ _)
 
-mul-g : tie.Need-mul-g Inv-loop μ-loop
-mul-g c = search needs
+mul-wind : tie.Need-mul-wind Inv-loop μ-loop
+mul-wind c = search needs
 
-element-copy-out-g : tie.Need-element-copy-out-g Inv-loop μ-loop
-element-copy-out-g c = search needs
+element-copy-out-wind : tie.Need-element-copy-out-wind Inv-loop μ-loop
+element-copy-out-wind c = search needs
 
-mul-row : tie.Need-mul-row Inv-loop μ-loop
-mul-row c =
-    omega (arith, c .before .before .before .before .before .pre .row (c .before .before .loop .w) (c .before .loop-test .taken))
+abbrev start : tie.After-wind Inv-loop μ-loop → tie.Start Inv-loop μ-loop
+start c = c .before .before .before .before .before .before
 
-element-copy-out-row : tie.Need-element-copy-out-row Inv-loop μ-loop
-element-copy-out-row c =
-    c .before .before .before .before .before .pre .row (c .before .before .loop .w) (c .before .loop-test .taken)
+-- the wind is one of the job's
+abbrev blowing : tie.After-wind Inv-loop μ-loop → Wind
+blowing c = getD (start c .args .job .winds .entry) (c .before .before .loop .w) noWind
+
+slow : (c : tie.After-wind Inv-loop μ-loop) → Slow (blowing c)
+slow c =
+    let t = c .before .loop-test .taken in
+    start c .pre .0 .slow (c .before .before .loop .w) (omega (arith, start c .pre .0 .someWind))
+
+pressure-of-requires : tie.Need-pressure-of-requires Inv-loop μ-loop
+pressure-of-requires c κs = (start c .pre .0 .density, slow c)
+
+-- the pressure number
+abbrev force : tie.After-pressure-of Inv-loop μ-loop → Num
+force c =
+    let a = start (c .before) in
+    told (c .pressure-of .result) (pressure (a .args .job .building .density) (blowing (c .before))) (c .pressure-of .ensures)
+    (pressure-small (a .args .job .building .density) (blowing (c .before)) (a .pre .0 .density) (slow (c .before))) tt
+
+sums-under-requires : tie.Need-sums-under-requires Inv-loop μ-loop
+sums-under-requires c κs = search needs
 
 add-w : tie.Need-add-w Inv-loop μ-loop
 add-w c = search needs
 
 over-internals-requires : tie.Need-over-internals-requires Inv-loop μ-loop
 over-internals-requires c κs =
-    let a = c .before .before .before .before .before .before in
-    let l = c .before .before .before .loop in
-    let t = c .before .before .loop-test .taken in
-    (a .pre .faces, a .pre .small _ (a .pre .row (l .w) t), a .pre .mild (l .w) t, a .pre .internals, omega arith)
+    let a = start (c .before .before) in (
+      subst (SumsSmall 24) (sym (c .sums-under .ensures)) (under-small 24 (blowing (c .before .before) .direction) (a .args .zero) (a .args .ninety) (a .pre .1) (a .pre .2)),
+      bound (force (c .before)),
+      a .pre .0 .internals,
+      omega arith,
+    )
 
 loop-less : tie.Need-loop-less Inv-loop μ-loop
 loop-less c = search needs
 
 loop-again : tie.Need-loop-again Inv-loop μ-loop
 loop-again c =
-    let a = c .before .before .before .before .before .before .before in
-    let l = c .before .before .before .before .loop in
-    let t = c .before .before .before .loop-test .taken in (
-      omega arith,
-      run-step _ _ _ (l .best) (c .over-internals .result) (l .w) t (l .inv .1)
-          (λ axis s. c .over-internals .ensures axis s ∙ ap (better s (topOf (topAt axis s (l .best)))) (windBest-is axis s (a .args .t1) (l .w))),
+    let u = c .before in
+    let l = u .before .before .before .before .loop in
+    let t = u .before .before .before .loop-test .taken in
+    let a = start (u .before .before) in
+    let j = a .args .job in (
+      omega (arith, a .pre .0 .someWind),
+      run-step _ _ _ (l .best) (c .over-internals .result) (l .w) (omega (arith, a .pre .0 .someWind)) (l .inv .1)
+          (λ s. c .over-internals .ensures s
+          ∙ (λ k. better s (topOf (endOf s (l .best))) (cellsBest s (u .sums-under .ensures k .span) (force (u .before) .same k) (j .internals) (l .w + 1)))
+          ∙ ap (λ (w : Wind). better s (topOf (endOf s (l .best))) (cellsBest s (under (w .direction) (a .args .zero) (a .args .ninety) .span) (pressure (j .building .density) w) (j .internals) (l .w + 1))) (at-next (λ k. getD (j .winds .entry) k noWind) (l .w))),
     )
 
+-- every wind has been gone through
 returns : tie.Need-returns Inv-loop μ-loop
-unfolding planBest
-returns c = nothing-yet (c .before .before .before .before .args .t1) (c .before .loop .best) (run-end _ _ _ (c .before .loop .best) (c .before .loop .w) (c .loop-test .left) (c .before .loop .inv .1))
+unfolding bestCell
+returns c =
+    let l = c .before .loop in
+    let left = c .loop-test .left in
+    λ s. run-end _ _ _ (l .best) (l .w) (omega arith) (l .inv .1) s ∙ nothing-before _ s
 
 pub over-winds-spec : {M : Type 1} → statement M
 over-winds-spec =
@@ -66,11 +104,12 @@ over-winds-spec =
     (tie.spec
     Inv-loop
     μ-loop
+    cast-count
     loop-holds
-    mul-g
-    element-copy-out-g
-    mul-row
-    element-copy-out-row
+    mul-wind
+    element-copy-out-wind
+    pressure-of-requires
+    sums-under-requires
     add-w
     over-internals-requires
     loop-less

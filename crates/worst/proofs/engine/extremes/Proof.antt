@@ -1,26 +1,36 @@
 -- `engine::extremes` meets its contract: each top is the best cell of its side.
-use mathlib.Core.Path.{_∙_}
+use mathlib.Core.Path.{ap, _∙_}
+use borrow.Author.Needs.{needs}
+use Rattle.worst.specs.declared.Side.{Side}
 use Rattle.worst.specs.declared.Side.the-variants.{Greatest, Least}
-use Rattle.worst.proofs.Found.{is-top, shown-top}
+use Rattle.worst.specs.Engine.{endOf, cellShown}
+use Rattle.worst.proofs.Found.{IsTop, is-top}
 use Rattle.worst.proofs.engine.extremes.Statement.{statement}
 use Rattle.worst.proofs.engine.extremes.Tie as tie
 
+over-winds-requires : tie.Need-over-winds-requires
+over-winds-requires c κs = search needs
+
+top : (c : tie.After-over-winds) (s : Side) → IsTop s (c .before .args .job) (c .before .args .zero) (c .before .args .ninety) (c .before .pre .0) (endOf s (c .over-winds .result))
+top c s =
+    let a = c .before in
+    is-top s (a .args .job) (a .args .zero) (a .args .ninety) (a .pre .0) (endOf s (c .over-winds .result)) (c .over-winds .ensures s)
+
 extreme-requires : tie.Need-extreme-requires
-extreme-requires c κs =
-    (c .pre .0, is-top Greatest (c .args .axis) (c .args .plan) (c .args .ends .greatest) (c .pre .0) (c .pre .1 Greatest) .onPlan)
+extreme-requires c κs = (c .before .pre .0, top c Greatest .onJob)
 
 extreme-requires-2 : tie.Need-extreme-requires-2
-extreme-requires-2 c κs =
-    let a = c .before in
-    (a .pre .0, is-top Least (a .args .axis) (a .args .plan) (a .args .ends .least) (a .pre .0) (a .pre .1 Least) .onPlan)
+extreme-requires-2 c κs = (c .before .before .pre .0, top (c .before) Least .onJob)
 
 returns : tie.Need-returns
 returns c =
-    let a = c .before .before in
+    let w = c .before .before in
+    let a = w .before in
     λ j. record {
-      greatest = (c .before .extreme .ensures ∙ shown-top Greatest (a .args .axis) (a .args .plan) (a .args .ends .greatest) (a .pre .0) (a .pre .1 Greatest)) j;
-      least = (c .extreme2 .ensures ∙ shown-top Least (a .args .axis) (a .args .plan) (a .args .ends .least) (a .pre .0) (a .pre .1 Least)) j;
+      greatest = (c .before .extreme .ensures ∙ ap (cellShown Greatest (a .args .job) (a .args .zero) (a .args .ninety)) (top w Greatest .best)) j;
+      least = (c .extreme2 .ensures ∙ ap (cellShown Least (a .args .job) (a .args .zero) (a .args .ninety)) (top w Least .best)) j;
     }
 
 pub extremes-spec : {M : Type 1} → statement M
-extremes-spec = tie.close (tie.spec extreme-requires extreme-requires-2 returns)
+extremes-spec =
+    tie.close (tie.spec over-winds-requires extreme-requires extreme-requires-2 returns)

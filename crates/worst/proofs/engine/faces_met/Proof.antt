@@ -1,0 +1,61 @@
+-- `engine::faces_met` meets its contract: no wind before i has the direction.
+use mathlib.Core.Path.{_≡_, refl, sym, ap, _∙_}
+use Prim.Native.Nat.{ℕ, _≤_, _<_, _-_}
+use native.Mathlib.Omega.{arith}
+use borrow.Author.Needs.{needs}
+use borrow.Author.Tests.{eqb-true, eqb-false}
+use lib.Dec.{eqb}
+use lib.ListN.{getD}
+use Rattle.whole.proofs.Tests.{by-test}
+use Rattle.job.specs.Carried.{noWind}
+use Rattle.worst.proofs.engine.faces_met.Statement.{statement}
+use Rattle.worst.proofs.engine.faces_met.Tie as tie
+
+abbrev Inv-loop : tie.InvT-loop
+Inv-loop job direction winds count i₀ i =
+    (i ≤ count) × ((k : ℕ) → k < i → getD (winds .entry) k noWind .direction ≡ direction → ⊥)
+
+abbrev μ-loop : tie.MeasureT-loop
+μ-loop job direction winds count i₀ i = count - i
+
+cast-count : tie.Need-cast-count Inv-loop μ-loop
+cast-count c = search needs
+
+loop-holds : tie.Need-loop-holds Inv-loop μ-loop
+loop-holds c = (search needs, λ k l e. absurd (omega arith))
+
+mul-w : tie.Need-mul-w Inv-loop μ-loop
+mul-w c = search needs
+
+element-copy-out-w : tie.Need-element-copy-out-w Inv-loop μ-loop
+element-copy-out-w c = search needs
+
+cast-result : tie.Need-cast-result Inv-loop μ-loop
+cast-result c = search needs
+
+returns : tie.Need-returns Inv-loop μ-loop
+returns c = record { most = omega arith; all = λ k l e. refl }
+
+add-i : tie.Need-add-i Inv-loop μ-loop
+add-i c = search needs
+
+loop-less : tie.Need-loop-less Inv-loop μ-loop
+loop-less c = search needs
+
+loop-again : tie.Need-loop-again Inv-loop μ-loop
+loop-again c =
+    let l = c .before .before .before .before .loop in
+    let t = c .before .before .before .loop-test .taken in
+    let winds = c .before .before .before .before .before .before .args .job .winds in (
+      omega arith,
+      λ k h e. by-test (eqb k (l .i)) (λ q. c .if1 .left (ap (λ m. getD (winds .entry) m noWind .direction) (sym (eqb-true k (l .i) q)) ∙ e)) (λ q. l .inv .1 k (omega (arith, eqb-false k (l .i) q)) e),
+    )
+
+returns-2 : tie.Need-returns-2 Inv-loop μ-loop
+returns-2 c =
+    let l = c .before .loop in
+    let left = c .loop-test .left in
+    record { most = omega arith; all = λ k h e. absurd (l .inv .1 k (omega arith) e) }
+
+pub faces-met-spec : {M : Type 1} → statement M
+faces-met-spec = tie.close (tie.spec Inv-loop μ-loop cast-count loop-holds mul-w element-copy-out-w cast-result returns add-i loop-less loop-again returns-2)

@@ -1,0 +1,31 @@
+-- `sums::the_further` meets its contract: the test is on the two numbers.
+use mathlib.Core.Path.{_≡_, sym, _∙_}
+use mir.Syntax.{w64}
+use mir.ValLaws.{toZ-ofZ}
+use borrow.Author.Needs.{needs}
+use Rattle.worst.specs.Best.{short}
+use Rattle.worst.specs.Engine.{further}
+use Rattle.worst.proofs.Kept.{short-read}
+use Rattle.worst.proofs.sums.the_further.Statement.{statement}
+use Rattle.worst.proofs.sums.the_further.Tie as tie
+
+falls-short-requires : tie.Need-falls-short-requires
+falls-short-requires c κs = search needs
+
+tested : (c : tie.After-falls-short) → c .falls-short .result ≡ short (c .before .args .side) (c .before .args .first) (c .before .args .second)
+tested c = c .falls-short .ensures ∙ short-read (c .before .args .side) (c .before .fits .first) (c .before .fits .second)
+
+returns : tie.Need-returns
+unfolding further
+returns c =
+    let a = c .before .before in
+    rw (sym (tested (c .before)) ∙ c .if1 .taken) (toZ-ofZ w64 (a .args .second) (a .fits .second))
+
+returns-2 : tie.Need-returns-2
+unfolding further
+returns-2 c =
+    let a = c .before .before in
+    rw (sym (tested (c .before)) ∙ c .if1 .left) (toZ-ofZ w64 (a .args .first) (a .fits .first))
+
+pub the-further-spec : {M : Type 1} → statement M
+the-further-spec = tie.close (tie.spec falls-short-requires returns returns-2)

@@ -1,0 +1,75 @@
+-- `surface::looked_up` meets its contract: an arm for each answer.
+use mathlib.Core.Path.{_≡_, sym, ap, _∙_}
+use native.Mathlib.Omega.{arith}
+use lib.IntN.{ℤ, pos}
+use mir.Syntax.{w32, w64}
+use mir.Val.{SFits}
+use mir.ValLaws.{toZ-ofZ, toZ-pos}
+use Rattle.book.specs.Question.{outsideOf}
+use Rattle.worst.specs.Engine.{surfaceWith}
+use Rattle.worst.proofs.Surfaces.{surface-one, surface-two, surface-none}
+use borrow.Author.Needs.{needs}
+use Rattle.worst.proofs.surface.looked_up.Statement.{statement}
+use Rattle.worst.proofs.surface.looked_up.Tie as tie
+
+cast-outside : tie.Need-cast-outside
+cast-outside c = search needs
+
+outside-requires : tie.Need-outside-requires
+outside-requires c κs = search needs
+
+-- the question that was asked
+asked : (c : tie.After-outside) → outsideOf (c .before .args .b) (pos (c .before .args .direction)) (c .before .args .f .zone) ≡ c .outside .result
+asked c =
+    let a = c .before in
+    sym (c .outside .ensures ∙ ap (λ (z : ℤ). outsideOf (a .args .b) z (a .args .f .zone)) (toZ-pos w64 (a .args .direction) (omega (arith, a .fits .direction))))
+
+enum-known-answer : tie.Need-enum-known-answer
+enum-known-answer c = search needs
+
+with-outside-requires : tie.Need-with-outside-requires
+with-outside-requires c κs = search needs
+
+enum-known-answer-2 : tie.Need-enum-known-answer-2
+enum-known-answer-2 c = search needs
+
+with-outside-requires-2 : tie.Need-with-outside-requires-2
+with-outside-requires-2 c κs = search needs
+
+enum-told : tie.Need-enum-told
+enum-told c = search needs
+
+with-outside-requires-3 : tie.Need-with-outside-requires-3
+with-outside-requires-3 c κs = search needs
+
+returns : tie.Need-returns
+returns c =
+    let o = c .before .before .before .before in
+    let a = o .before in
+    let v = c .before .before .answer .given .0 .0 in
+    let f : SFits w32 v = search needs in
+    c .with-outside .ensures
+    ∙ (λ j. surfaceWith (toZ-ofZ w32 v f j) (toZ-ofZ w32 v f j) (a .args .f))
+    ∙ surface-one (a .args .b) (a .args .direction) (a .args .f) (a .pre) v (asked o ∙ c .before .before .answer .given .1)
+
+returns-2 : tie.Need-returns-2
+returns-2 c =
+    let o = c .before .before .before .before in
+    let a = o .before in
+    let v = c .before .before .answer2 .given .0 .0 in
+    let u = c .before .before .answer2 .given .0 .1 .0 in
+    let f : SFits w32 v = search needs in
+    let g : SFits w32 u = search needs in
+    c .with-outside2 .ensures
+    ∙ (λ j. surfaceWith (toZ-ofZ w32 v f j) (toZ-ofZ w32 u g j) (a .args .f))
+    ∙ surface-two (a .args .b) (a .args .direction) (a .args .f) (a .pre) v u (asked o ∙ c .before .before .answer2 .given .1)
+
+returns-3 : tie.Need-returns-3
+returns-3 c =
+    let o = c .before .before .before in
+    let a = o .before in
+    c .with-outside3 .ensures
+    ∙ surface-none (a .args .b) (a .args .direction) (a .args .f) (a .pre) _ _ (asked o ∙ c .before .enum-told .given .1)
+
+pub looked-up-spec : {M : Type 1} → statement M
+looked-up-spec = tie.close (tie.spec cast-outside outside-requires enum-known-answer with-outside-requires enum-known-answer-2 with-outside-requires-2 enum-told with-outside-requires-3 returns returns-2 returns-3)
