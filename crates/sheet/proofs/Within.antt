@@ -34,16 +34,16 @@ earlier-3 F = omega arith
 -- the line x at p is read as k, behind which `rest` of what follows the section is called for
 module _
     (sec : Section) (g : Building) (s : List ℕ) (began : Carried → List Kind → Reading) (p : Place) (added next : Carried → Carried) (k : Kind) (rest : List Kind → List Kind)
-    (x : Line) (hx : x ≡ lineAt s (p .next)) (f : ℕ) (hf : f ≡ lineFault k g (held x)) (z : p .number ≡ 0)
+    {x : Line} (hx : x ≡ lineAt s (p .next)) {f : ℕ} (hf : f ≡ lineFault k g (held x)) (z : p .number ≡ 0)
     (same : (c : Carried) → added c .building ≡ c .building)
     (learns : (c : Carried) → learn k (held x) (added c) ≡ next c)
     (so-far : (c : Carried) (ks : List Kind) → c .building ≡ g → onward p (added c) (k ∷ rest ks) s ≡ began c ks) where
   fault-is : (c : Carried) → c .building ≡ g → f ≡ lineFault k (added c .building) (held x)
   fault-is c e = hf ∙ ap (λ (h : Building). lineFault k h (held x)) (sym (same c ∙ e))
 
-  pub line-read : (q : Place) (n left : ℕ) → q ≡ placeAfter p f (x .next) left → ((ks : List Kind) → calls k (held x) ++ rest ks ≡ entries sec left ++ ks) → n ≤ about sec .most → p .line ≤ 26 + 25 * earlier sec
+  pub line-read : {q : Place} (n left : ℕ) → q ≡ placeAfter p f (x .next) left → ((ks : List Kind) → calls k (held x) ++ rest ks ≡ entries sec left ++ ks) → n ≤ about sec .most → p .line ≤ 26 + 25 * earlier sec
       → (f ≡ 0 → (n + left ≤ about sec .most) × (p .line + 1 + left ≤ 26 + 25 * earlier sec)) → Within sec g s began q n next
-  line-read q n left hq called most line room = rw hq (after-either (λ (r : Place). Within sec g s began r n next) p f (x .next) left on stop)
+  line-read n left hq called most line room = rw hq (after-either (λ (r : Place). Within sec g s began r n next) p f (x .next) left on stop)
     where
       on : f ≡ 0 → Within sec g s began (record { number = 0; line = p .line + 1; next = x .next; left = left }) n next
       on h =
@@ -76,11 +76,11 @@ module _ (sec : Section) (g : Building) (s : List ℕ) (p : Place) (b : Before s
         onwards = λ c ks e. onward-same p c c (entries sec (p .left) ++ ks) (Count sec ∷ ks) s h;
       }
 
-  pub count-read : p .number ≡ 0 → (x : Line) → x ≡ lineAt s (p .next) → (f : ℕ) → f ≡ lineFault (Count sec) g (held x) → (q : Place) → q ≡ placeAfter p f (x .next) (size (at (held x) 1))
+  pub count-read : p .number ≡ 0 → {x : Line} → x ≡ lineAt s (p .next) → {f : ℕ} → f ≡ lineFault (Count sec) g (held x) → {q : Place} → q ≡ placeAfter p f (x .next) (size (at (held x) 1))
       → Within sec g s (fromCount sec s p) q 0 (λ c. c)
-  count-read z x hx f hf q hq =
-      line-read sec g s (fromCount sec s p) p (λ c. c) (λ c. c) (Count sec) (λ ks. ks) x hx f hf z (λ c. refl) (λ c. refl) (λ c ks e. refl)
-      q 0 (size (at (held x) 1)) hq (λ ks. refl) (omega arith) (omega (arith, b .line))
+  count-read z {x} hx hf hq =
+      line-read sec g s (fromCount sec s p) p (λ c. c) (λ c. c) (Count sec) (λ ks. ks) hx hf z (λ c. refl) (λ c. refl) (λ c ks e. refl)
+      0 (size (at (held x) 1)) hq (λ ks. refl) (omega arith) (omega (arith, b .line))
       (λ h.
       let m = count-most sec g (held x) (sym hf ∙ h) in
       (omega arith, omega (arith, b .line, most-24 sec)))
@@ -98,10 +98,6 @@ entries-next sec zero h = absurd (omega arith)
 entries-next sec (suc n) h =
     let q : suc n - 1 ≡ n = omega arith in
     rw q
-
--- fewer are left
-pub fewer-left : (p q : Place) (f next : ℕ) → (p .left ≡ 0 → ⊥) → q ≡ placeAfter p f next (p .left - 1) → q .left < p .left
-fewer-left p q f next more e = rw e (after-either (λ (r : Place). r .left < p .left) p f next (p .left - 1) (λ h. omega arith) (λ h. omega arith))
 
 -- how the entries of a section are carried: a line brings the entry that it says, behind the others
 pub record Carries {A : Type 0} (sec : Section) (of : List Field → A) (with : Carried → List A → Carried) : Type 0 where
@@ -130,18 +126,18 @@ module _ {A : Type 0} {sec : Section} {d : A} {of : List Field → A} {with : Ca
 
   -- after one entry more
   pub section-on : {began : Carried → List Kind → Reading} {p : Place} {count : ℕ} {entry : List A} → SectionRead sec d with g s began p count entry → (p .left ≡ 0 → ⊥)
-      → (x : Line) → x ≡ lineAt s (p .next) → (f : ℕ) → f ≡ lineFault (Entry sec) g (held x) → (q : Place) → q ≡ placeAfter p f (x .next) (p .left - 1) → (y : A) → y ≡ of (held x)
+      → {x : Line} → x ≡ lineAt s (p .next) → {f : ℕ} → f ≡ lineFault (Entry sec) g (held x) → {q : Place} → q ≡ placeAfter p f (x .next) (p .left - 1) → {y : A} → y ≡ of (held x)
       → SectionRead sec d with g s began q (count + 1) (set entry count y)
-  section-on {began} {p} {count} r more x hx f hf q hq y hy =
+  section-on {began} {p} {count} r more {x} hx hf hq {y} hy =
       let w = r .within in
       let l = r .list in
       record {
         list = l ++ (y ∷ []);
         holds = one-more y (r .holds) (omega (arith, r .holds .counts, w .room));
         within = line-read sec g s (λ c. began (with c [])) p (λ c. with c l) (λ c. with c (l ++ (y ∷ []))) (Entry sec) (λ ks. entries sec (p .left - 1) ++ ks)
-            x hx f hf (w .sound (omega arith)) (λ c. t .same c l) (λ c. rw hy (t .learns c l (held x)))
+            hx hf (w .sound (omega arith)) (λ c. t .same c l) (λ c. rw hy (t .learns c l (held x)))
             (λ c ks e. ap (λ (ls : List Kind). onward p (with c l) (ls ++ ks) s) (sym (entries-next sec (p .left) (omega arith))) ∙ w .onwards c ks e)
-            q (count + 1) (p .left - 1) hq (λ ks. refl) (omega (arith, w .room)) (omega (arith, w .line)) (λ h. (omega (arith, w .room), omega (arith, w .line)));
+            (count + 1) (p .left - 1) hq (λ ks. refl) (omega (arith, w .room)) (omega (arith, w .line)) (λ h. (omega (arith, w .room), omega (arith, w .line)));
       }
 
   -- and all the way from the count

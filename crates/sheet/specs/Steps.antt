@@ -48,7 +48,7 @@ withFaces c l = record { building = c .building; winds = c .winds; internals = c
 
 -- ---- the place where reading stands
 
--- after a line that has the fault n
+-- after a line: at its fault n, or at the next line with `left` entries called for
 abbrev pub placeAfter : Place → ℕ → ℕ → ℕ → Place
 placeAfter p n next left =
     cond (eqb n 0) (record { number = 0; line = p .line + 1; next = next; left = left }) (record { number = n; line = p .line; next = p .next; left = 0 })

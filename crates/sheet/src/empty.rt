@@ -9,7 +9,6 @@ use job::Winds;
 ghost use mathlib.Core.Path.{_≡_};
 ghost use mathlib.Core.List.{[]};
 ghost use lib.IntN.{pos};
-ghost use Rattle.whole.specs.Lists.{firstOf};
 ghost use Rattle.job.specs.Carried.{nothing, noBuilding, noWind, noFace, recorded};
 ghost use Rattle.sheet.specs.Steps.{Holds};
 

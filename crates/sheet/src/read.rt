@@ -7,8 +7,11 @@ use crate::sections::read_internals;
 use crate::sections::read_winds;
 use job::Job;
 ghost use mathlib.Core.Path.{_≡_};
+ghost use mathlib.Core.List.{[]};
+ghost use Rattle.job.specs.Carried.{Carried, recorded};
 ghost use Rattle.job.specs.Walk.{Refused};
 ghost use Rattle.sheet.specs.Sheet.{reading, answer};
+ghost use Rattle.sheet.specs.Steps.{onward};
 
 // What comes of reading: the number of the fault and the line that has it, both 0 where the sheet is accepted; and the job, all zero where it is refused.
 pub struct Read {
@@ -28,6 +31,23 @@ fn refused(number: u32, line: u32) -> Read
     }
 }
 
+// The answer at the end of the last section: j, where nothing follows.
+fn at_end(s: &[u8], at: Place, j: Job) -> Read
+    ensures { λ r. ⌜ ((c : Carried) → j ≡ recorded c → r ≡ answer (onward at c [] (now (s .entry)))) ⌝ }
+{
+    if at.number != 0 {
+        return refused(at.number, at.line);
+    }
+    if at.next < s.len() {
+        return refused(1, at.line);
+    }
+    Read {
+        number: 0,
+        line: 0,
+        job: j,
+    }
+}
+
 // What the text s says.
 pub fn read_sheet(s: &[u8]) -> Read
     ensures { λ r. ⌜ r ≡ answer (reading (now (s .entry))) ⌝ }
@@ -41,17 +61,10 @@ pub fn read_sheet(s: &[u8]) -> Read
     let b = read_building(s, start);
     let building = b.building;
     let w = read_winds(s, b.at, building);
-    let i = read_internals(s, w.at, building);
-    let f = read_faces(s, i.at, building);
-    let end = f.at;
-    if end.number != 0 {
-        return refused(end.number, end.line);
-    }
-    if end.next < s.len() {
-        return refused(1, end.line);
-    }
     let winds = w.winds;
+    let i = read_internals(s, w.at, building);
     let internals = i.internals;
+    let f = read_faces(s, i.at, building);
     let faces = f.faces;
     let job = Job {
         building: building,
@@ -59,9 +72,5 @@ pub fn read_sheet(s: &[u8]) -> Read
         internals: internals,
         faces: faces,
     };
-    Read {
-        number: 0,
-        line: 0,
-        job: job,
-    }
+    at_end(s, f.at, job)
 }

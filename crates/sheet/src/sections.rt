@@ -19,9 +19,9 @@ use lines::row::field_at;
 use lines::row::line_at;
 ghost use mathlib.Core.Path.{_≡_};
 ghost use mathlib.Core.List.{List};
-ghost use Prim.Native.Nat.{_<_};
+ghost use Prim.Native.Nat.{_≤_, _<_};
 ghost use lib.IntN.{pos};
-ghost use Rattle.job.specs.Carried.{Carried, nothing, noWind, noFace};
+ghost use Rattle.job.specs.Carried.{nothing, noWind, noFace};
 ghost use Rattle.sheet.specs.Steps.{Before, Within, SectionRead, placeAfter, onward, fromCount, withBuilding, withWinds, withInternals, withFaces};
 
 // ---- line by line
@@ -34,10 +34,10 @@ pub(crate) struct Place {
     pub left: u32,
 }
 
-// The place after a line that has the fault n: nothing more is called for. Or, where n is 0, at the next line.
+// The place after a line: at its fault n, where nothing more is called for; or, where n is 0, at the next line, with `left` entries called for.
 fn after_line(at: Place, n: u32, next: usize, left: u32) -> Place
     requires { ⌜ at .line < 1000 ⌝ }
-    ensures { λ r. ⌜ r ≡ placeAfter at n next left ⌝ }
+    ensures { λ r. ⌜ (r ≡ placeAfter at n next left) × (r .left ≤ left) ⌝ }
 {
     if n != 0 {
         return Place {
@@ -55,7 +55,7 @@ fn after_line(at: Place, n: u32, next: usize, left: u32) -> Place
     }
 }
 
-// The count of a section.
+// The count of a section: as many entries are left.
 fn read_count(s: &[u8], from: Place, sec: Section, g: Building) -> Place
     requires { ⌜ Before sec from ⌝ }
     ensures { λ r. ⌜ Within sec g (now (s .entry)) (fromCount sec (now (s .entry)) from) r 0 (λ c. c) ⌝ }
@@ -70,7 +70,7 @@ fn read_count(s: &[u8], from: Place, sec: Section, g: Building) -> Place
 
 // ---- section by section
 
-// The place after a section, and what was read of it: that counts only where there is no fault.
+// The place after a section, and what was read of it, which counts only where there is no fault.
 pub(crate) struct BuildingRead {
     pub at: Place,
     pub building: Building,

@@ -1,17 +1,18 @@
 -- `after_line` meets its contract.
+use native.Mathlib.Omega.{arith}
 use borrow.Author.Needs.{needs}
 use borrow.Author.Tests.{eq-eqb, ne-eqb}
 use Rattle.sheet.proofs.sections.after_line.Statement.{statement}
 use Rattle.sheet.proofs.sections.after_line.Tie as tie
 
 returns : tie.Need-returns
-returns c = rw (ne-eqb _ _ (c .if1 .taken))
+returns c = (rw (ne-eqb _ _ (c .if1 .taken)), omega arith)
 
 add-t6 : tie.Need-add-t6
 add-t6 c = search needs
 
 returns-2 : tie.Need-returns-2
-returns-2 c = rw (eq-eqb _ _ (c .before .if1 .left))
+returns-2 c = (rw (eq-eqb _ _ (c .before .if1 .left)), omega arith)
 
 pub after-line-spec : {M : Type 1} → statement M
 after-line-spec = tie.close (tie.spec returns add-t6 returns-2)

@@ -1,11 +1,9 @@
 -- `read_building` meets its contract: with no entry called for it is at a fault, and else the one entry is read.
 use mathlib.Core.Path.{_≡_, refl, ap, _∙_, sym}
-use mathlib.Core.List.{List, _++_}
+use mathlib.Core.List.{_++_}
 use Prim.Native.Nat.{ℕ}
 use native.Mathlib.Omega.{arith}
-use Rattle.lines.specs.Held.{held}
 use Rattle.job.specs.declared.Section.the-variants.{B}
-use Rattle.job.specs.declared.Kind.{Kind}
 use Rattle.job.specs.declared.Kind.the-variants.{Entry}
 use Rattle.job.specs.Carried.{nothing}
 use Rattle.job.specs.Sections.{entries}
@@ -52,13 +50,12 @@ returns-2 c =
     let s = b .args .s .now in
     let p = r .read-count .result in
     let w = r .read-count .ensures in
-    let x = l .line-at .result in
     let one : p .left ≡ 1 = omega (arith, w .room) in
     let v =
     line-read B (n .result) s (fromCount B s (b .args .from)) p (λ g. g) (λ g. withBuilding g (c .building-of .result)) (Entry B) (λ ks. ks)
-    x (l .line-at .ensures) (f .line-fault .result) (f .line-fault .ensures) (w .sound (omega arith)) (λ g. refl) (λ g. ap (withBuilding g) (sym (c .building-of .ensures)))
+    (l .line-at .ensures) (f .line-fault .ensures) (w .sound (omega arith)) (λ g. refl) (λ g. ap (withBuilding g) (sym (c .building-of .ensures)))
     (λ g ks h. ap (λ (m : ℕ). onward p g (entries B m ++ ks) s) (sym one) ∙ w .onwards g ks h)
-    (a .after-line .result) 1 0 (a .after-line .ensures) (λ ks. refl) (omega arith) (omega (arith, w .line)) (λ h. (omega arith, omega (arith, w .line))) in
+    1 0 (a .after-line .ensures .0) (λ ks. refl) (omega arith) (omega (arith, w .line)) (λ h. (omega arith, omega (arith, w .line))) in
     (record { line = omega (arith, v .line); left = omega (arith, v .room) }, λ ks. within-end v (omega (arith, v .room)) nothing ks (sym (n .ensures)))
 
 pub read-building-spec : {M : Type 1} → statement M

@@ -38,9 +38,8 @@ returns-2 c =
     let e = l .before in
     let b = e .before .before .before in
     let x = l .line-at .result in
-    count-read (b .args .sec) (b .args .g) (b .args .s .now) (b .args .from) (b .pre) (e .if1 .left) x (l .line-at .ensures) (f .line-fault .result) (f .line-fault .ensures)
-    (c .after-line .result)
-    (c .after-line .ensures ∙ ap (placeAfter (b .args .from) (f .line-fault .result) (x .next)) (m .size-of .ensures ∙ ap size (m .before .field-at .ensures)))
+    count-read (b .args .sec) (b .args .g) (b .args .s .now) (b .args .from) (b .pre) (e .if1 .left) (l .line-at .ensures) (f .line-fault .ensures)
+    (c .after-line .ensures .0 ∙ ap (placeAfter (b .args .from) (f .line-fault .result) (x .next)) (m .size-of .ensures ∙ ap size (m .before .field-at .ensures)))
 
 pub read-count-spec : {M : Type 1} → statement M
 read-count-spec =

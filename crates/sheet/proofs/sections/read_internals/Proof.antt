@@ -5,7 +5,7 @@ use mir.ValLaws.{toZ-ofZ}
 use mir.Syntax.{w64}
 use Rattle.job.specs.declared.Section.the-variants.{I}
 use Rattle.sheet.specs.Steps.{withInternals, fromEntries, SectionRead}
-use Rattle.sheet.proofs.Within.{fewer-left, internals-carried, section-start, section-on, section-whole}
+use Rattle.sheet.proofs.Within.{internals-carried, section-start, section-on, section-whole}
 use borrow.Author.Needs.{needs, sfits-of}
 use Rattle.sheet.proofs.sections.read_internals.Statement.{statement}
 use Rattle.sheet.proofs.sections.read_internals.Tie as tie
@@ -53,12 +53,7 @@ add-internals : tie.Need-add-internals Inv-loop μ-loop
 add-internals c = search needs
 
 loop-less : tie.Need-loop-less Inv-loop μ-loop
-loop-less c =
-    let a = c .before in
-    let f = a .before .before in
-    let l = f .before in
-    let t = l .before in
-    fewer-left (t .before .before .loop .at) (a .after-line .result) (f .line-fault .result) (l .line-at .result .next) (t .if1 .taken) (a .after-line .ensures)
+loop-less c = search needs
 
 loop-again : tie.Need-loop-again Inv-loop μ-loop
 loop-again c =
@@ -66,8 +61,7 @@ loop-again c =
     let f = a .before .before in
     let l = f .before in
     let t = l .before in
-    section-on internals-carried (t .before .before .loop .inv) (t .if1 .taken) (l .line-at .result) (l .line-at .ensures) (f .line-fault .result) (f .line-fault .ensures)
-    (a .after-line .result) (a .after-line .ensures) _ (toZ-ofZ w64 _ (sfits-of (c .internal-of .ok)) ∙ c .internal-of .ensures)
+    section-on internals-carried (t .before .before .loop .inv) (t .if1 .taken) (l .line-at .ensures) (f .line-fault .ensures) (a .after-line .ensures .0) (toZ-ofZ w64 _ (sfits-of (c .internal-of .ok)) ∙ c .internal-of .ensures)
 
 returns : tie.Need-returns Inv-loop μ-loop
 returns c =

@@ -2,7 +2,7 @@
 use Rattle.job.specs.declared.Section.the-variants.{W}
 use Rattle.job.specs.Carried.{noWind}
 use Rattle.sheet.specs.Steps.{withWinds, fromEntries, SectionRead}
-use Rattle.sheet.proofs.Within.{fewer-left, winds-carried, section-start, section-on, section-whole}
+use Rattle.sheet.proofs.Within.{winds-carried, section-start, section-on, section-whole}
 use borrow.Author.Needs.{needs}
 use Rattle.sheet.proofs.sections.read_winds.Statement.{statement}
 use Rattle.sheet.proofs.sections.read_winds.Tie as tie
@@ -50,12 +50,7 @@ add-winds : tie.Need-add-winds Inv-loop μ-loop
 add-winds c = search needs
 
 loop-less : tie.Need-loop-less Inv-loop μ-loop
-loop-less c =
-    let a = c .before in
-    let f = a .before .before in
-    let l = f .before in
-    let t = l .before in
-    fewer-left (t .before .before .loop .at) (a .after-line .result) (f .line-fault .result) (l .line-at .result .next) (t .if1 .taken) (a .after-line .ensures)
+loop-less c = search needs
 
 loop-again : tie.Need-loop-again Inv-loop μ-loop
 loop-again c =
@@ -63,8 +58,7 @@ loop-again c =
     let f = a .before .before in
     let l = f .before in
     let t = l .before in
-    section-on winds-carried (t .before .before .loop .inv) (t .if1 .taken) (l .line-at .result) (l .line-at .ensures) (f .line-fault .result) (f .line-fault .ensures)
-    (a .after-line .result) (a .after-line .ensures) (c .wind-of .result) (c .wind-of .ensures)
+    section-on winds-carried (t .before .before .loop .inv) (t .if1 .taken) (l .line-at .ensures) (f .line-fault .ensures) (a .after-line .ensures .0) (c .wind-of .ensures)
 
 returns : tie.Need-returns Inv-loop μ-loop
 returns c =
