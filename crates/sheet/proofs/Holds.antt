@@ -1,18 +1,21 @@
--- Laws of a list held in a count and an array: one more behind it, and the record that holds all that a sheet carries.
+-- Laws of a list held in a count and an array: none yet, one more behind it, and the record that holds all that a sheet carries.
 use Prim.Native.Nat.{ℕ, _+_, _<_}
-use mathlib.Core.Path.{_≡_, sym}
+use mathlib.Core.Path.{_≡_, _∙_, sym}
 use mathlib.Core.List.{List, [], _∷_, _++_}
 use native.Mathlib.Omega.{arith}
 use lib.IntN.{pos}
-use lib.ListN.{length, set, length-append}
-use Rattle.whole.proofs.Lists.{firstOf-more}
+use lib.ListN.{length, set, replicate, length-append}
+use Rattle.whole.proofs.Lists.{firstOf-none, firstOf-more}
 use Rattle.job.specs.declared.Job.{Job}
 use Rattle.job.specs.Carried.{Carried, noWind, noFace, recorded}
 use Rattle.sheet.specs.Steps.{Holds}
 
-pub one-more : {A : Type 0} {d : A} {room count : ℕ} {entry list : List A} (y : A) → Holds d room count entry list → length list < room
+pub holds-none : {A : Type 0} {d : A} {room count : ℕ} {entry : List A} → (count ≡ 0) × (entry ≡ replicate room d) → Holds d room count entry []
+holds-none {d = d} {room} h = record { counts = h .0; fills = h .1 ∙ sym (firstOf-none d room) }
+
+pub holds-more : {A : Type 0} {d : A} {room count : ℕ} {entry list : List A} (y : A) → Holds d room count entry list → length list < room
     → Holds d room (count + 1) (set entry count y) (list ++ (y ∷ []))
-one-more {d = d} {room} {count} {entry} {list} y h few =
+holds-more {d = d} {room} {count} {entry} {list} y h few =
     record {
       counts = omega (arith, h .counts, length-append list (y ∷ []));
       fills = rw (h .counts, h .fills) (sym (firstOf-more d room list y few));

@@ -3,7 +3,7 @@ use Prim.Native.Nat.{ℕ, zero, suc, _+_, _-_, _*_, _≤_, _<_}
 use mathlib.Core.Path.{_≡_, refl, ap, _∙_, sym}
 use mathlib.Core.List.{List, [], _∷_, _++_}
 use native.Mathlib.Omega.{arith}
-use lib.ListN.{set}
+use lib.ListN.{set, replicate}
 use Rattle.text.specs.declared.form.Field.{Field}
 use Rattle.lines.specs.declared.row.Line.{Line}
 use Rattle.lines.specs.Held.{held, lineAt}
@@ -18,9 +18,9 @@ use Rattle.job.specs.Sections.{about, lineFault, entries, calls, learn}
 use Rattle.job.specs.Walk.{Reading}
 use Rattle.job.proofs.Alone.{most-24}
 use Rattle.sheet.specs.declared.sections.Place.{Place}
-use Rattle.sheet.specs.Steps.{Holds, withWinds, withInternals, withFaces, placeAfter, onward, fromCount, fromEntries, earlier, Before, Within, SectionRead}
+use Rattle.sheet.specs.Steps.{withWinds, withInternals, withFaces, placeAfter, onward, fromCount, fromEntries, earlier, Before, Within, SectionRead}
 use Rattle.sheet.proofs.Longest.{count-most}
-use Rattle.sheet.proofs.Holds.{one-more}
+use Rattle.sheet.proofs.Holds.{holds-none, holds-more}
 use Rattle.sheet.proofs.Steps.{onward-same, after-either, onward-stop, onward-on}
 
 pub earlier-3 : (sec : Section) → earlier sec ≤ 3
@@ -115,13 +115,13 @@ faces-carried = record { same = λ c l. refl; learns = λ c l x. refl }
 
 module _ {A : Type 0} {sec : Section} {d : A} {of : List Field → A} {with : Carried → List A → Carried} (t : Carries sec of with) {g : Building} {s : List ℕ} where
   -- after the count
-  pub section-start : {began : Carried → List Kind → Reading} {p : Place} {count : ℕ} {entry : List A} → Holds d (about sec .most) count entry [] → Within sec g s began p 0 (λ c. c)
+  pub section-start : {began : Carried → List Kind → Reading} {p : Place} {count : ℕ} {entry : List A} → (count ≡ 0) × (entry ≡ replicate (about sec .most) d) → Within sec g s began p 0 (λ c. c)
       → SectionRead sec d with g s (fromEntries sec s p) p count entry
   section-start h w =
       record {
         list = [];
-        holds = h;
-        within = record { room = omega (arith, h .counts, w .room); line = w .line; sound = w .sound; onwards = λ c ks e. refl };
+        holds = holds-none h;
+        within = record { room = omega (arith, h .0, w .room); line = w .line; sound = w .sound; onwards = λ c ks e. refl };
       }
 
   -- after one entry more
@@ -133,7 +133,7 @@ module _ {A : Type 0} {sec : Section} {d : A} {of : List Field → A} {with : Ca
       let l = r .list in
       record {
         list = l ++ (y ∷ []);
-        holds = one-more y (r .holds) (omega (arith, r .holds .counts, w .room));
+        holds = holds-more y (r .holds) (omega (arith, r .holds .counts, w .room));
         within = line-read sec g s (λ c. began (with c [])) p (λ c. with c l) (λ c. with c (l ++ (y ∷ []))) (Entry sec) (λ ks. entries sec (p .left - 1) ++ ks)
             hx hf (w .sound (omega arith)) (λ c. t .same c l) (λ c. rw hy (t .learns c l (held x)))
             (λ c ks e. ap (λ (ls : List Kind). onward p (with c l) (ls ++ ks) s) (sym (entries-next sec (p .left) (omega arith))) ∙ w .onwards c ks e)

@@ -7,10 +7,9 @@ use job::Internals;
 use job::Job;
 use job::Winds;
 ghost use mathlib.Core.Path.{_≡_};
-ghost use mathlib.Core.List.{[]};
 ghost use lib.IntN.{pos};
+ghost use lib.ListN.{replicate};
 ghost use Rattle.job.specs.Carried.{nothing, noBuilding, noWind, noFace, recorded};
-ghost use Rattle.sheet.specs.Steps.{Holds};
 
 pub(crate) fn no_building() -> Building
     ensures { λ r. ⌜ r ≡ noBuilding ⌝ }
@@ -26,7 +25,7 @@ pub(crate) fn no_building() -> Building
 }
 
 pub(crate) fn no_winds() -> Winds
-    ensures { λ r. ⌜ Holds noWind 8 (r .count) (r .entry) [] ⌝ }
+    ensures { λ r. ⌜ (r .count ≡ 0) × (r .entry ≡ replicate 8 noWind) ⌝ }
 {
     let wind = Wind {
         direction: 0,
@@ -40,7 +39,7 @@ pub(crate) fn no_winds() -> Winds
 }
 
 pub(crate) fn no_internals() -> Internals
-    ensures { λ r. ⌜ Holds (pos 0) 4 (r .count) (r .entry) [] ⌝ }
+    ensures { λ r. ⌜ (r .count ≡ 0) × (r .entry ≡ replicate 4 (pos 0)) ⌝ }
 {
     let internals = [0i64; 4];
     Internals {
@@ -50,7 +49,7 @@ pub(crate) fn no_internals() -> Internals
 }
 
 pub(crate) fn no_faces() -> Faces
-    ensures { λ r. ⌜ Holds noFace 24 (r .count) (r .entry) [] ⌝ }
+    ensures { λ r. ⌜ (r .count ≡ 0) × (r .entry ≡ replicate 24 noFace) ⌝ }
 {
     let face = Face {
         zone: 0,
