@@ -1,6 +1,6 @@
 -- The lower of two faults by tests, and the fault of a line's fields by the place of each.
 use Prim.Native.Nat.{ℕ, zero, suc, _+_, _<_}
-use mathlib.Core.Path.{_≡_, refl, sym, _∙_}
+use mathlib.Core.Path.{_≡_, refl, sym, ap₂, _∙_}
 use mathlib.Core.List.{List, [], _∷_}
 use mathlib.Core.Bool.{cond}
 use native.Mathlib.Omega.{arith}
@@ -29,6 +29,13 @@ lower-none : (a : ℕ) → lower a 0 ≡ a
 unfolding lower
 lower-none zero = refl
 lower-none (suc a) = refl
+
+-- what the code finds, by what it goes by
+pub lower-by : {r a b u v : ℕ} → r ≡ lower a b → a ≡ u → b ≡ v → r ≡ lower u v
+lower-by e p q = e ∙ ap₂ lower p q
+
+pub field-by : {r : ℕ} {q p : Rule} {f g : Field} → r ≡ fieldFault q f → q ≡ p → f ≡ g → r ≡ fieldFault p g
+field-by e p q = e ∙ ap₂ fieldFault p q
 
 -- the lowest fault of the fields from place i on
 abbrev pub lowestFrom : ℕ → List Rule → List Field → ℕ

@@ -1,8 +1,10 @@
 -- `count_fields` meets its contract.
+use mathlib.Core.Path.{sym, ap₂, _∙_}
 use Rattle.lines.specs.Held.{held}
+use Rattle.job.specs.declared.Rule.the-variants.{LetterFrom, NumberFrom}
 use Rattle.job.specs.declared.Kind.the-variants.{Count}
 use Rattle.job.specs.Sections.{rules}
-use Rattle.job.proofs.Lower.{fields-placed, fields-other}
+use Rattle.job.proofs.Lower.{lower-by, field-by, fields-placed, fields-other}
 use borrow.Author.Needs.{needs}
 use Rattle.job.proofs.faults.count_fields.Statement.{statement}
 use Rattle.job.proofs.faults.count_fields.Tie as tie
@@ -14,9 +16,15 @@ returns c =
 
 returns-2 : tie.Need-returns-2
 returns-2 c =
-    let e = c .before .before .before .before .before .before in
+    let n = c .before in
+    let l = n .before .before in
+    let limits = l .before .before in
+    let e = limits .before in
     let a = e .before .before .args in
-    cc (fields-placed (rules (Count (a .s))) (held (a .x)) _ (e .before .held-count .ensures) (e .if1 .left))
+    let q = limits .limits-of .ensures in
+    lower-by (c .lower-of .ensures) (field-by (l .letter-fault .ensures) (ap₂ LetterFrom (q .0) (q .0)) (l .before .field-at .ensures))
+    (field-by (n .from-fault .ensures) (ap₂ (NumberFrom 2) (q .1) (q .2)) (n .before .field-at2 .ensures))
+    ∙ sym (fields-placed (rules (Count (a .s))) (held (a .x)) _ (e .before .held-count .ensures) (e .if1 .left))
 
 pub count-fields-spec : {M : Type 1} → statement M
 count-fields-spec =

@@ -1,4 +1,5 @@
 -- `internal_fields` meets its contract.
+use mathlib.Core.Path.{sym, _∙_}
 use Rattle.job.specs.declared.Section.the-variants.{I}
 use Rattle.job.specs.declared.Kind.the-variants.{Entry}
 use Rattle.job.specs.Sections.{rules}
@@ -13,7 +14,7 @@ returns c = fields-other (rules (Entry I)) _ _ (c .before .held-count .ensures) 
 returns-2 : tie.Need-returns-2
 returns-2 c =
     let e = c .before in
-    cc (fields-placed (rules (Entry I)) _ _ (e .before .held-count .ensures) (e .if1 .left))
+    c .size-at .ensures ∙ sym (fields-placed (rules (Entry I)) _ _ (e .before .held-count .ensures) (e .if1 .left))
 
 pub internal-fields-spec : {M : Type 1} → statement M
 internal-fields-spec =

@@ -1,6 +1,6 @@
 -- `face_fields` meets its contract.
 use Prim.Native.Nat.{ℕ, _^_, _<_}
-use mathlib.Core.Path.{_≡_, refl}
+use mathlib.Core.Path.{_≡_, refl, sym, _∙_}
 use lib.IntN.{ℤ}
 use lib.Signed.{mag}
 use mir.Syntax.{w64}
@@ -11,7 +11,7 @@ use Rattle.job.specs.declared.Kind.the-variants.{Entry}
 use Rattle.job.specs.Rules.{fieldFault}
 use Rattle.job.specs.Sections.{rules}
 use Rattle.entry.specs.Fields.{numberField, faceFields}
-use Rattle.job.proofs.Lower.{fields-placed}
+use Rattle.job.proofs.Lower.{lower-by, fields-placed}
 use Rattle.entry.proofs.Slots.{as-written}
 use borrow.Author.Needs.{needs}
 use Rattle.job.proofs.given.face_fields.Statement.{statement}
@@ -22,17 +22,19 @@ area = as-written (fieldFault (SizeTo 3 100000))
 
 returns : tie.Need-returns
 returns c =
-    let z = c .before .before .before .before .before .before in
+    let m = c .before .before in
+    let zone = m .before in
+    let areas = zone .before in
+    let z = areas .before .before in
     let y = z .before .before in
     let x = y .before .before in
     let q = x .before .struct-told .given in
     let f = x .before .before .args .f in
-    cc (
-      fields-placed (rules (Entry F)) (faceFields f) 5 refl refl,
-      area (f .x) (q .1 .1 .0 .1) (x .size-fault .ensures),
-      area (f .y) (q .1 .1 .1 .0 .1) (y .size-fault2 .ensures),
-      area (f .z) (q .1 .1 .1 .1 .0 .1) (z .size-fault3 .ensures),
-    )
+    lower-by (c .lower-of4 .ensures) (zone .letter-fault .ensures)
+    (lower-by (c .before .lower-of3 .ensures) (m .mark-fault .ensures)
+    (lower-by (areas .lower-of2 .ensures) (area (f .x) (q .1 .1 .0 .1) (x .size-fault .ensures))
+    (lower-by (areas .before .lower-of .ensures) (area (f .y) (q .1 .1 .1 .0 .1) (y .size-fault2 .ensures)) (area (f .z) (q .1 .1 .1 .1 .0 .1) (z .size-fault3 .ensures)))))
+    ∙ sym (fields-placed (rules (Entry F)) (faceFields f) 5 refl refl)
 
 pub face-fields-spec : {M : Type 1} → statement M
 face-fields-spec =

@@ -1,16 +1,19 @@
 -- `wind_fault` meets its contract.
-use mathlib.Core.Path.{refl}
+use mathlib.Core.Path.{refl, sym, _∙_}
 use Rattle.job.specs.declared.Section.the-variants.{W}
 use Rattle.job.specs.declared.Kind.the-variants.{Entry}
 use Rattle.job.specs.Sections.{rules}
 use Rattle.entry.specs.Fields.{windFields}
-use Rattle.job.proofs.Lower.{fields-placed}
+use Rattle.job.proofs.Lower.{lower-by, fields-placed}
 use borrow.Author.Needs.{needs}
 use Rattle.job.proofs.given.wind_fault.Statement.{statement}
 use Rattle.job.proofs.given.wind_fault.Tie as tie
 
 returns : tie.Need-returns
-returns c = cc (fields-placed (rules (Entry W)) (windFields (c .before .before .before .args .w)) 2 refl refl)
+returns c =
+    let v = c .before in
+    lower-by (c .lower-of .ensures) (v .before .direction-fault .ensures) (v .natural-fault .ensures)
+    ∙ sym (fields-placed (rules (Entry W)) (windFields (v .before .before .args .w)) 2 refl refl)
 
 pub wind-fault-spec : {M : Type 1} → statement M
 wind-fault-spec =
