@@ -13,9 +13,9 @@ use crate::tops::Ends;
 use crate::tops::Top;
 use crate::tops::kept;
 use book::Building;
+use entry::Wind;
 use job::Internals;
 use job::Job;
-use entry::Wind;
 
 // The pressure number of a wind.
 fn pressure_of(b: Building, w: Wind) -> i64
