@@ -9,7 +9,8 @@ use borrow.Author.Tests.{lt-ltb, le-ltb, ltb-true, ltb-false}
 use Rattle.whole.proofs.Tests.{by-test}
 use Rattle.book.specs.declared.Building.{Building}
 use Rattle.book.specs.Test.{beyond}
-use Rattle.book.specs.Building.{tooLong, outOfForm, outOfRange, someBeyond}
+use Rattle.book.specs.Building.{tooLong, outOfForm, outOfRange}
+use Rattle.book.specs.Limits.{someBeyond}
 
 -- a line with these numbers
 abbrev line : ℤ → ℤ → ℤ → ℤ → ℤ → ℤ → Building

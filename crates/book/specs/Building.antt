@@ -46,15 +46,6 @@ outOfForm g = some (λ r. tooLong (r .number)) (fields g)
 unfoldable pub outOfRange : Building → Bool
 outOfRange g = some (λ r. beyond (pos (r .least)) (pos (r .greatest)) (r .number)) (fields g)
 
--- the one test that both come to: some number is beyond its limits, which are written as lines too
-abbrev pub someBeyond : Building → Building → Building → Bool
-someBeyond least greatest g =
-    beyond (least .h) (greatest .h) (g .h)
-    || (beyond (least .a) (greatest .a) (g .a)
-    || (beyond (least .b) (greatest .b) (g .b)
-    || (beyond (least .density) (greatest .density) (g .density)
-    || (beyond (least .kind) (greatest .kind) (g .kind) || beyond (least .x) (greatest .x) (g .x)))))
-
 -- ---- 4 and 5: the numbers together, once each is in its range
 
 abbrev pub sizes : Building → Sizes

@@ -9,5 +9,6 @@ pub mod Flat
 pub mod Roof
 pub mod Order
 pub mod Building
+pub mod Limits
 pub mod Answer
 pub mod Question

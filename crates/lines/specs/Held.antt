@@ -38,6 +38,8 @@ lineAt s at = firstLine at (split 10 (drop at s))
 abbrev pub held : Line → List Field
 held x = map (λ (s : Slot). s .field) (take (x .count) (x .fields))
 
+-- ---- how the code finds the end of a field: only contracts of private functions cite it
+
 -- how many bytes stand before the first b
 unfoldable pub until : ℕ → List ℕ → ℕ
 until b [] = 0
