@@ -15,7 +15,7 @@ use Rattle.entry.specs.Says.{buildingOf, windOf, internalOf, faceOf}
 use Rattle.job.specs.Sections.{lineFault, entries, learn}
 use Rattle.job.specs.Lines.{sectionOf, sheetOf}
 use Rattle.job.specs.Walk.{Accepted, Refused, walk, readLines}
-use Rattle.job.proofs.Sections.{Counted, countLine, count-refused, section-refused, section-walk, section-in-order, section-begun, section-last, joined}
+use Rattle.job.proofs.Sections.{Counted, section-refused, section-walk, section-in-order, section-begun, section-last, joined}
 use Rattle.job.proofs.Walk.{learnAll, EntriesInOrder}
 
 pub by-section : (P : Section → Type 0) → P B → P W → P I → P F → (s : Section) → P s
@@ -141,10 +141,6 @@ module _ (es : Section → List (List Field)) where
 
   -- the first line that is not in order: the count of a section that was reached, or an entry of it
   module _ (s : Section) (r : Reached s) where
-    pub sheet-refused-count : (lineFault (Count s) (before s .building) (countLine s (length (es s))) ≡ 0 → ⊥)
-        → readLines (sheetOf es) ≡ Refused (lineFault (Count s) (before s .building) (countLine s (length (es s)))) (lineOf s)
-    sheet-refused-count z = r ∙ count-refused s (later s) (before s) (lineOf s) (es s) (behind s) z
-
     pub sheet-refused : (i : ℕ) → Counted s (length (es s)) → i < length (es s) → EntriesInOrder s (saidBy es .building) (take i (es s))
         → (lineFault (Entry s) (saidBy es .building) (getD (es s) i []) ≡ 0 → ⊥)
         → readLines (sheetOf es) ≡ Refused (lineFault (Entry s) (saidBy es .building) (getD (es s) i [])) (lineOf s + 1 + i)

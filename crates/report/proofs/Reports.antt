@@ -1,9 +1,7 @@
 -- A report and the line that refuses one, by what was judged or read.
-use Prim.Native.Nat.{ℕ, _≤_}
-use mathlib.Core.Path.{_≡_, refl, sym, ap, _∙_}
+use Prim.Native.Nat.{ℕ}
+use mathlib.Core.Path.{_≡_, refl, ap, _∙_}
 use mathlib.Core.List.{List, [], _∷_, _++_, append-assoc}
-use native.Mathlib.Omega.{arith}
-use lib.ListN.{length}
 use Rattle.text.specs.declared.page.Writing.the-variants as written
 use Rattle.text.specs.Writing.{writing, bufferAfter}
 use Rattle.lines.specs.Lines.{rows}

@@ -2,8 +2,8 @@
 use mathlib.Core.Path.{_≡_, refl}
 use mathlib.Core.List.{[], _∷_}
 use lib.IntN.{pos, negsuc}
-use Rattle.text.specs.declared.form.Field.the-variants.{Bad, Plus, Minus, Letter, Dash}
-use Rattle.text.specs.Digits.{allDigits, valueAfter, value, digits, decimal}
+use Rattle.text.specs.declared.form.Field.the-variants.{Bad, Plus, Minus, Dash}
+use Rattle.text.specs.Digits.{allDigits, valueAfter, value, decimal}
 use Rattle.text.specs.Field.{digitsInForm, unsigned, negative, number, field}
 
 -- 9999999 and 12345678, 0 and 00

@@ -1,12 +1,11 @@
 -- Laws of lists: of what holds of every one in a list, and of the first so many.
 use Prim.Native.Nat.{ℕ, zero, suc, _+_, _≤_, _<_}
-use mathlib.Core.Path.{_≡_, refl, sym, ap, _∙_, subst}
+use mathlib.Core.Path.{_≡_, refl, sym, ap, subst}
 use mathlib.Core.Logic.{⊎-elim}
 use mathlib.Core.List.{List, [], _∷_, _++_, map, List·Memᴰ, List·Memᴰ·not-nil, List·Memᴰ·cases-cons}
 use native.Mathlib.Numerals.{add-one}
 use native.Mathlib.Omega.{arith}
-use lib.ListN.{length, getD, take, drop, set, replicate, drop-of-length-le}
-use lib.Seq.{drop-cons}
+use lib.ListN.{length, getD, take, drop, set, replicate}
 use Rattle.whole.specs.Lists.{firstOf, Every}
 
 -- ---- every
@@ -102,17 +101,6 @@ module _ {A : Type 0} (d : A) where
   firstOf-getD (suc n) zero (x ∷ l) h = refl
   firstOf-getD (suc n) (suc i) [] h = firstOf-getD n i [] (omega arith)
   firstOf-getD (suc n) (suc i) (x ∷ l) h = firstOf-getD n i l (omega arith)
-
-  -- one after the other
-  pub firstOf-step : (n i : ℕ) (l : List A) → i < n → drop i (firstOf d n l) ≡ getD l i d ∷ drop (i + 1) (firstOf d n l)
-  firstOf-step n i l h =
-      let k : i < length (firstOf d n l) = rw (firstOf-length n l) h in
-      rw add-one (drop-cons (firstOf d n l) i d k ∙ ap (λ (x : A). x ∷ drop (suc i) (firstOf d n l)) (firstOf-getD n i l h))
-
-  pub firstOf-end : (n i : ℕ) (l : List A) → n ≤ i → drop i (firstOf d n l) ≡ []
-  firstOf-end n i l h =
-      let k : length (firstOf d n l) ≤ i = rw (firstOf-length n l) h in
-      drop-of-length-le (firstOf d n l) k
 
   -- one more at the end of the list takes the place of the first that it lacked
   pub firstOf-more : (n : ℕ) (l : List A) (x : A) → length l < n → firstOf d n (l ++ (x ∷ [])) ≡ set (firstOf d n l) (length l) x

@@ -1,11 +1,10 @@
 -- The order of ℤ: total, transitive, kept by sums and by factors that are not negative; and what a signed test says.
-use mathlib.Core.Path.{_≡_, refl, sym, ap, _∙_, subst}
+use mathlib.Core.Path.{_≡_, refl, ap}
 use mathlib.Core.Logic.{_⊎_, inl, inr}
 use mathlib.Core.Bool.{Bool, true, false}
 use Prim.Native.Nat.{ℕ, _+_, _*_, _≤_}
 use native.Mathlib.Nat.{mul-le-mul-right}
 use native.Mathlib.Omega.{arith}
-use lib.Dec.{T}
 use lib.IntN.{ℤ, pos, _+ℤ_, _*ℤ_}
 use lib.Signed.{ltZ, leZ, _≤ℤ_, _<ℤ_, ltZ-yes, ltZ-no, leZ-yes, clashℤ}
 use Rattle.whole.proofs.Parts.{up, down, order, add-law, up-mul, down-mul, up-scale, down-scale, eq-by, le-at, le-by, lt-by}
@@ -31,23 +30,10 @@ le-true x y e = leZ-yes (holds e)
 pub true-le : {x y : ℤ} → x ≤ℤ y → leZ x y ≡ true
 true-le {x} {y} h = is-true (leZ x y) (h .le)
 
-pub false-le : {x y : ℤ} → y <ℤ x → leZ x y ≡ false
-false-le {x} {y} h = is-false (leZ x y) (λ t. clashℤ h (leZ-yes {a = x} {b = y} t))
-
-pub le-false : (x y : ℤ) → leZ x y ≡ false → y <ℤ x
-le-false x y e = go (ltZ y x) refl
-  where
-    go : (t : Bool) → ltZ y x ≡ t → y <ℤ x
-    go true t = lt-true y x t
-    go false t = absurd (subst T (sym (true-le (lt-false y x t)) ∙ e) tt)
-
 -- ---- the order by itself
 
 pub ≤ℤ-trans : {x y z : ℤ} → x ≤ℤ y → y ≤ℤ z → x ≤ℤ z
 ≤ℤ-trans {x} {y} {z} h k = omega (arith, order)
-
-pub ≤ℤ-<ℤ-trans : {x y z : ℤ} → x ≤ℤ y → y <ℤ z → x <ℤ z
-≤ℤ-<ℤ-trans {x} {y} {z} h k = omega (arith, order)
 
 pub ≤ℤ-antisym : {x y : ℤ} → x ≤ℤ y → y ≤ℤ x → x ≡ y
 ≤ℤ-antisym {x} {y} h k = omega (arith, order)
@@ -63,9 +49,6 @@ pub ≤ℤ-or-<ℤ : (x y : ℤ) → (x ≤ℤ y) ⊎ (y <ℤ x)
     go false e = inl (lt-false y x e)
 
 -- ---- with sums and products
-
-pub +ℤ-mono : {x y u v : ℤ} → x ≤ℤ y → u ≤ℤ v → (x +ℤ u) ≤ℤ (y +ℤ v)
-+ℤ-mono {x} {y} {u} {v} h k = omega (arith, order, add-law x u, add-law y v)
 
 -- adding one number to both sides moves no test
 pub ltZ-+ℤ : (x y z : ℤ) → ltZ (x +ℤ z) (y +ℤ z) ≡ ltZ x y

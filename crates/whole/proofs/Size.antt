@@ -8,12 +8,12 @@ use native.Mathlib.Omega.{arith}
 use mathlib.Core.Bool.{true, false}
 use lib.Dec.{T, ltb, ltb→lt}
 use lib.IntN.{ℤ, pos, negsuc, negℤ, natAbs, _+ℤ_, _-ℤ_, _*ℤ_}
-use lib.Signed.{mag, quotZ, natAbs-le, nonNeg, yes-nonNeg, _≤ℤ_, _<ℤ_, ltZ, leZ}
+use lib.Signed.{mag, quotZ, natAbs-le, nonNeg, yes-nonNeg, _≤ℤ_, _<ℤ_, ltZ}
 use mir.Syntax.{Width}
 use mir.Val.{SFits, Fits, hbits, bits, toZ, ofZ}
 use mir.Facts.{toZ-ofZ, toZ-pos}
-use Rattle.whole.proofs.Parts.{order, le-at, le-by, add-law, up-neg, down-neg, up-mul, down-mul, one-is-zero, natAbs-is}
-use Rattle.whole.proofs.Order.{lt-true, lt-false, le-true}
+use Rattle.whole.proofs.Parts.{le-at, le-by, add-law, up-neg, down-neg, up-mul, down-mul, one-is-zero, natAbs-is}
+use Rattle.whole.proofs.Order.{lt-true, lt-false}
 
 pub natAbs-neg : (z : ℤ) → natAbs (negℤ z) ≡ natAbs z
 natAbs-neg z = omega (arith, natAbs-is z, natAbs-is (negℤ z), up-neg z, down-neg z)
@@ -141,9 +141,6 @@ lt-yes m n e = subst₂ (λ (x y : ℤ). x <ℤ y) (m .same) (n .same) (lt-true 
 
 pub lt-no : (m n : Num) → ltZ (m .has) (n .has) ≡ false → n .is ≤ℤ m .is
 lt-no m n e = subst₂ (λ (x y : ℤ). y ≤ℤ x) (m .same) (n .same) (lt-false (m .has) (n .has) e)
-
-pub le-yes : (m n : Num) → leZ (m .has) (n .has) ≡ true → m .is ≤ℤ n .is
-le-yes m n e = subst₂ (λ (x y : ℤ). x ≤ℤ y) (m .same) (n .same) (le-true (m .has) (n .has) e)
 
 -- a number that is not negative, cast to an unsigned type
 pub unsigned : {w : Width} (n : Num) → pos 0 ≤ℤ n .is → T (ltb (n .most) (2 ^ bits w)) → T (nonNeg (n .has)) × Fits w (natAbs (n .has))

@@ -1,7 +1,5 @@
 -- `write_totals` meets its contract: what is read is refused in one line, or reported.
 use mathlib.Core.Path.{_∙_, sym, ap}
-use mathlib.Core.List.{List}
-use Prim.Native.Nat.{ℕ}
 use denote.Ref.{now}
 use borrow.Author.Needs.{needs}
 use Rattle.text.specs.Writing.{writing, bufferAfter}

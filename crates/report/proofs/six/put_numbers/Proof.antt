@@ -1,7 +1,5 @@
 -- `put_numbers` meets its contract: after i turns the first i numbers are put.
-use Prim.Native.Nat.{ℕ, _≤_, _-_}
-use mathlib.Core.List.{[], _∷_}
-use mathlib.Core.Path.{_≡_, ap, subst}
+use Prim.Native.Nat.{_≤_, _-_}
 use denote.Ref.{now}
 use lib.ListN.{length, take}
 use lib.Seq.{take-all}
