@@ -1,5 +1,5 @@
 // The entry points for a host program in C (include/aralimogga.h). None trusts its caller, and none keeps anything between calls.
-use book::Building;
+use building::Building;
 use panel::Point;
 ghost use mathlib.Core.Path.{_≡_};
 ghost use Rattle.text.specs.Digits.{decimal};

@@ -1,28 +1,33 @@
 -- The answers: which case a place comes to, and how large its alternatives can be.
 use mathlib.Core.Path.{_≡_, refl, sym, subst}
 use mathlib.Core.Bool.{Bool, true, false, _||_}
-use Prim.Native.Nat.{ℕ, zero, suc, _*_, _≤_, _<_}
+use Prim.Native.Nat.{ℕ, _*_, _≤_, _<_}
 use native.Mathlib.Omega.{arith}
 use lib.Dec.{eqb, lit<, lit≤}
 use lib.IntN.{ℤ, pos, natAbs, _*ℤ_}
 use borrow.Author.Tests.{eq-eqb, ne-eqb, eqb-true, eqb-false}
 use Rattle.whole.proofs.Size.{natAbs-neg}
-use Rattle.book.specs.declared.Building.{Building}
-use Rattle.book.specs.declared.faults.Sizes.{Sizes}
+use Rattle.building.specs.declared.Building.{Building}
+use Rattle.building.specs.declared.Sizes.{Sizes}
 use Rattle.book.specs.declared.Answer.{Answer}
 use Rattle.book.specs.declared.Answer.the-variants.{One, Two, Refused}
 use Rattle.book.specs.Line.{cellIn}
+use Rattle.book.specs.Roofs.{roofValue}
 use Rattle.book.specs.Walls.{wallRow, wallCells, wallValue}
-use Rattle.book.specs.Roof.{roofValue}
-use Rattle.book.specs.Order.{InOrder}
-use Rattle.book.specs.Building.{buildingFault, sizes}
+use Rattle.building.specs.Order.{InOrder}
+use Rattle.building.specs.Building.{buildingFault, sizes}
 use Rattle.book.specs.Answer.{numberOf, lineOf, valuesOf}
-use Rattle.book.specs.Question.{E, F, wallPlace, wallColumn, gableColumn, flatColumn, bothSigns, coefficientOf, zoneOn, localOn, knows, refuse, outsideOf}
+use Rattle.building.specs.declared.Question.{Question}
+use Rattle.building.specs.declared.Question.the-variants as asked
+use Rattle.building.specs.Places.{E, F, wallPlace, zoneOn, localOn, knows}
+use Rattle.building.specs.Question.{askedOf}
+use Rattle.building.proofs.Places.{needs-roof, must-be-E}
+use Rattle.building.proofs.Judged.{Told, told, in-question}
+use Rattle.book.specs.Question.{wallColumn, gableColumn, flatColumn, bothSigns, coefficientOf, answer, outsideOf}
 use Rattle.book.proofs.Between.{line-on, line-small}
 use Rattle.book.proofs.Tables.{wall-small}
-use Rattle.book.proofs.Accepted.{in-order}
+use Rattle.building.proofs.Accepted.{in-order}
 use Rattle.book.proofs.Roofed.{roofValue-small, flatValue-small, gableValue-small}
-use Rattle.book.proofs.Places.{needs-roof, must-be-E}
 
 -- ---- the four cases of a coefficient
 
@@ -88,7 +93,7 @@ module _ (s : Sizes) (o : InOrder s) (wind place k : ℕ) (enough : 1200 ≤ k) 
           (one (omega (arith, wallValue-small (s .h) (s .a) (s .b) (wallColumn wind place))))
       go false e = off-wall e
 
--- ---- the question's four outcomes, in the order of its checks
+-- ---- the question
 
 or-true : (t u : Bool) → t ≡ true → (t || u) ≡ true
 or-true t u e = rw e
@@ -107,26 +112,10 @@ small-of : {kind place : ℕ} {a : Answer} → Alternatives 2500 kind place a �
 small-of (one h) = h
 small-of (two h k e f) = (h, k)
 
-refuse-some : (n line : ℕ) (a : Answer) → (n ≡ 0 → ⊥) → refuse n line a ≡ Refused n line
-refuse-some zero line a h = absurd (h refl)
-refuse-some (suc n) line a h = refl
-
 module _ (g : Building) (direction : ℤ) (place : ℕ) where
-  pub bad-building : (buildingFault g ≡ 0 → ⊥) → outsideOf g direction place ≡ Refused (buildingFault g) 2
-  unfolding outsideOf
-  bad-building h = refuse-some (buildingFault g) 2 _ h
-
-  pub bad-direction : buildingFault g ≡ 0 → knows (g .kind) direction ≡ false → outsideOf g direction place ≡ Refused 3 0
-  unfolding outsideOf
-  bad-direction e f = rw (e, f)
-
-  pub bad-place : buildingFault g ≡ 0 → knows (g .kind) direction ≡ true → (zoneOn (g .kind) place || localOn (g .kind) place) ≡ false → outsideOf g direction place ≡ Refused 6 0
-  unfolding outsideOf
-  bad-place e f k = rw (e, f, k)
-
   pub answered : buildingFault g ≡ 0 → knows (g .kind) direction ≡ true → (zoneOn (g .kind) place || localOn (g .kind) place) ≡ true → outsideOf g direction place ≡ coefficientOf (sizes g) (natAbs direction) place
   unfolding outsideOf
-  answered e f k = rw (e, f, k)
+  answered e f k = rw (in-question g direction place e f k)
 
   -- a zone that is on the building, under a direction that it knows, has its alternatives, and none is above 1.200
   pub zone-answered : buildingFault g ≡ 0 → knows (g .kind) direction ≡ true → zoneOn (g .kind) place ≡ true → Alternatives 1200 (natAbs (g .kind)) place (outsideOf g direction place)
@@ -138,18 +127,14 @@ module _ (g : Building) (direction : ℤ) (place : ℕ) where
       (λ w i h. subst (λ (n : ℕ). natAbs (roofValue (sizes g) n) ≤ 1200) (sym (column-E (must-be-E (g .kind) place z w i h))) (flatValue-small (sizes g) o (needs-roof (g .kind) place w on) 0 (lit< tt))))
 
   -- any answer: no alternative is above 2.500
+  small-answer : (q : Question) → Told g direction place q → Small (answer q (natAbs direction) place)
+  small-answer (asked.Of s) f =
+      small-of (alternatives s (f .order) (natAbs direction) place 2500 (lit≤ tt) (f .roofed) (λ w i h. roofValue-small s (f .order) (f .roofed w) (flatColumn place)))
+  small-answer (asked.Refused n l) f = tt
+
   pub answer-small : Small (outsideOf g direction place)
-  answer-small = go (eqb (buildingFault g) 0) (knows (g .kind) direction) (zoneOn (g .kind) place || localOn (g .kind) place) refl refl refl
-    where
-      go : (t u v : Bool) → eqb (buildingFault g) 0 ≡ t → knows (g .kind) direction ≡ u → (zoneOn (g .kind) place || localOn (g .kind) place) ≡ v → Small (outsideOf g direction place)
-      go false u v p q r = subst Small (sym (bad-building (eqb-false (buildingFault g) 0 p))) tt
-      go true false v p q r = subst Small (sym (bad-direction (eqb-true (buildingFault g) 0 p) q)) tt
-      go true true false p q r = subst Small (sym (bad-place (eqb-true (buildingFault g) 0 p) q r)) tt
-      go true true true p q r =
-          let e = eqb-true (buildingFault g) 0 p in
-          let o = in-order g e in
-          subst Small (sym (answered e q r))
-          (small-of (alternatives (sizes g) o (natAbs direction) place 2500 (lit≤ tt) (λ w. needs-roof (g .kind) place w r) (λ w i h. roofValue-small (sizes g) o (needs-roof (g .kind) place w r) (flatColumn place))))
+  unfolding outsideOf
+  answer-small = small-answer (askedOf g direction place) (told g direction place)
 
 -- ---- an answer is no more than its number, its line and its alternatives: what the paper says of it leaves no choice
 

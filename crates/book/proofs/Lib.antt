@@ -1,12 +1,9 @@
--- The laws of the tables and of the building.
-pub mod Machine
+-- The laws of the tables and of the answers.
 pub mod Between
 pub mod Spot
 pub mod Tables
 pub mod Rows
-pub mod Limits
-pub mod Accepted
 pub mod Roofed
-pub mod Places
+pub mod Columns
 pub mod Answers
 pub mod Nets

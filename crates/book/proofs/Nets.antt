@@ -7,9 +7,9 @@ use lib.Dec.{ltb}
 use lib.IntN.{ℤ, pos, negsuc, negℤ, natAbs}
 use borrow.Author.Tests.{ltb-false}
 use Rattle.whole.proofs.Tests.{or-false}
-use Rattle.book.specs.declared.Building.{Building}
+use Rattle.building.specs.declared.Building.{Building}
 use Rattle.book.specs.declared.Answer.the-variants.{One, Two, Refused}
-use Rattle.book.specs.Test.{beyond}
+use Rattle.building.specs.Test.{beyond}
 use Rattle.book.specs.Question.{outsideOf, netOf, less}
 
 pub internal-small : (z : ℤ) → beyond (negℤ (pos 100)) (pos 100) z ≡ false → natAbs z ≤ 100

@@ -3,44 +3,21 @@ use mathlib.Core.Path.{_≡_, refl, sym, ap, _∙_, subst}
 use mathlib.Core.Bool.{Bool, true, false, cond}
 use Prim.Native.Nat.{ℕ, _+_, _*_, _≤_, _<_}
 use native.Mathlib.Omega.{arith}
-use lib.Dec.{T, leb, eqb, leb→le, lit≤}
+use lib.Dec.{eqb, lit≤}
 use lib.IntN.{pos, natAbs, _*ℤ_}
 use lib.ListN.{getD}
 use borrow.Author.Tests.{eqb-true, eqb-false}
-use Rattle.whole.proofs.Table.{all-at, both, both-left, both-right, each-at}
-use Rattle.book.specs.declared.faults.Sizes.{Sizes}
+use Rattle.whole.proofs.Table.{each-at}
+use Rattle.building.specs.declared.Sizes.{Sizes}
 use Rattle.book.specs.Line.{cellIn}
 use Rattle.book.specs.Gable.{blockOf}
-use Rattle.book.specs.Roof.{Roof, roof, roofs, roofOf, along, across, partAts, firstRow, partOf, spotIn, roofCells, roofValue}
-use Rattle.book.specs.Order.{Ranged, InOrder}
+use Rattle.building.specs.Roof.{roofOf}
+use Rattle.building.specs.Order.{InOrder}
+use Rattle.book.specs.Roofs.{partAts, firstRow, partOf, spotIn, roofCells, roofValue}
 use Rattle.book.proofs.Spot.{Good, spot-good}
 use Rattle.book.proofs.Tables.{part, roof-small, gable-small, flat-small}
 use Rattle.book.proofs.Rows.{blockOf-most}
 use Rattle.book.proofs.Between.{Between, line-between, line-small}
-
--- ---- the range of x
-
-abbrev low : Roof → Bool
-low r = both (leb (r .least) 900) (leb (r .greatest) 900)
-
-low-at : (kind : ℕ) → T (low (roofOf kind))
-unfolding roofOf
-low-at kind = all-at low roofs (roof 0 0 false) tt tt kind
-
-pub least-most : (kind : ℕ) → roofOf kind .least ≤ 900
-least-most kind = leb→le _ 900 (both-left (leb (roofOf kind .least) 900) (leb (roofOf kind .greatest) 900) (low-at kind))
-
-pub greatest-most : (kind : ℕ) → roofOf kind .greatest ≤ 900
-greatest-most kind = leb→le _ 900 (both-right (leb (roofOf kind .least) 900) (leb (roofOf kind .greatest) 900) (low-at kind))
-
-one-of : (t : Bool) {m n k : ℕ} → 0 < m → m ≤ k → 0 < n → n ≤ k → (0 < cond t m n) × (cond t m n ≤ k)
-one-of true a b c d = (a, b)
-one-of false a b c d = (c, d)
-
-pub across-range : {s : Sizes} → Ranged s → (0 < across s) × (across s ≤ 30000)
-across-range {s} r = one-of (roofOf (s .kind) .byHeight) (omega arith) (omega arith) (omega arith) (omega arith)
-
--- ---- the part of the tables
 
 -- a part's first row stands at the least x of its kind
 gable-begins : (k : ℕ) → k < 3 → getD (partAts k) 0 0 ≡ roofOf 1 .least
@@ -77,37 +54,37 @@ module _ (s : Sizes) (o : InOrder s) (roofed : 0 < s .kind) where
           record { below = omega arith; begins = flat-begins (s .kind) (omega arith); gable = λ p. absurd (q p) }
 
   -- x is not before the part's first row
-  pub reached : getD (partAts (partOf s)) 0 0 * across s ≤ along s
-  reached = subst (λ (n : ℕ). n * across s ≤ along s) (sym (covered .begins)) (o .x-from)
+  pub reached : getD (partAts (partOf s)) 0 0 * s .across ≤ s .along
+  reached = subst (λ (n : ℕ). n * s .across ≤ s .along) (sym (covered .begins)) (o .x-from)
 
   -- the spot's rows are the part's, and its fraction is one
-  pub found : Good (firstRow (partOf s)) (firstRow (partOf s + 1)) 27000001 (spotIn (partOf s) (along s) (across s))
+  pub found : Good (firstRow (partOf s)) (firstRow (partOf s + 1)) 27000001 (spotIn (partOf s) (s .along) (s .across))
   unfolding spotIn
   found =
       let p = part (partOf s) (covered .below) in
-      let r = spot-good 900 (firstRow (partOf s)) (partAts (partOf s)) (along s) (across s) (p .rises) (across-range (o .ranged) .0) reached in
+      let r = spot-good 900 (firstRow (partOf s)) (partAts (partOf s)) (s .along) (s .across) (p .rises) (o .ranged .across-least) reached in
       let n = p .next in
-      let m = across-range (o .ranged) in
+      let m = o .ranged .across-most in
       record { from = r .from; lower = omega arith; upper = omega arith; within = r .within; some = r .some; small = omega arith }
 
-  pub found-any : Good 0 33 27000001 (spotIn (partOf s) (along s) (across s))
+  pub found-any : Good 0 33 27000001 (spotIn (partOf s) (s .along) (s .across))
   found-any =
       let e = part (partOf s) (covered .below) .end in
       let f = found in
       record { from = omega arith; lower = omega arith; upper = omega arith; within = f .within; some = f .some; small = f .small }
 
   -- the value lies between its two rows, ends included
-  pub roof-between : (col : ℕ) → let r = spotIn (partOf s) (along s) (across s) in Between (cellIn roofCells (r .lower) col *ℤ pos 10) (cellIn roofCells (r .upper) col *ℤ pos 10) (roofValue s col)
+  pub roof-between : (col : ℕ) → let r = spotIn (partOf s) (s .along) (s .across) in Between (cellIn roofCells (r .lower) col *ℤ pos 10) (cellIn roofCells (r .upper) col *ℤ pos 10) (roofValue s col)
   unfolding roofValue
   roof-between col =
-      let r = spotIn (partOf s) (along s) (across s) in
+      let r = spotIn (partOf s) (s .along) (s .across) in
       line-between (cellIn roofCells (r .lower) col) (cellIn roofCells (r .upper) col) (r .part) (r .whole) (found .within) (found .some)
 
   -- and so is small
-  value-small : (k col : ℕ) → natAbs (cellIn roofCells (spotIn (partOf s) (along s) (across s) .lower) col) ≤ k → natAbs (cellIn roofCells (spotIn (partOf s) (along s) (across s) .upper) col) ≤ k → natAbs (roofValue s col) ≤ k * 10
+  value-small : (k col : ℕ) → natAbs (cellIn roofCells (spotIn (partOf s) (s .along) (s .across) .lower) col) ≤ k → natAbs (cellIn roofCells (spotIn (partOf s) (s .along) (s .across) .upper) col) ≤ k → natAbs (roofValue s col) ≤ k * 10
   unfolding roofValue
   value-small k col h g =
-      let r = spotIn (partOf s) (along s) (across s) in
+      let r = spotIn (partOf s) (s .along) (s .across) in
       line-small (cellIn roofCells (r .lower) col) (cellIn roofCells (r .upper) col) (r .part) (r .whole) (found .within) (found .some) k h g
 
   pub roofValue-small : (col : ℕ) → natAbs (roofValue s col) ≤ 2500

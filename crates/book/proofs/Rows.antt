@@ -3,17 +3,12 @@ use mathlib.Core.Path.{_≡_, refl}
 use mathlib.Core.Bool.{Bool, true, false, cond, _&&_}
 use Prim.Native.Nat.{ℕ, _+_, _*_, _≤_, _<_}
 use native.Mathlib.Omega.{arith}
-use borrow.Author.Tests.{le-leb, lt-leb, leb-true, leb-false}
+use borrow.Author.Tests.{leb-true, leb-false}
 use lib.Dec.{leb, lit≤}
-use Rattle.book.specs.Ratio.{_÷_, upTo}
+use Rattle.building.specs.Ratio.{_÷_, upTo}
+use Rattle.building.proofs.Ratios.{upTo-yes, upTo-no}
 use Rattle.book.specs.Gable.{blockOf}
 use Rattle.book.specs.Walls.{wallRow}
-
-pub upTo-yes : (y z n d : ℕ) → d * y ≤ n * z → upTo y z (n ÷ d) ≡ true
-upTo-yes y z n d h = le-leb (d * y) (n * z) h
-
-pub upTo-no : (y z n d : ℕ) → n * z < d * y → upTo y z (n ÷ d) ≡ false
-upTo-no y z n d h = lt-leb (d * y) (n * z) h
 
 -- ---- the block of h/b, by the tests of its three limits
 

@@ -10,7 +10,7 @@ use lib.Seq.{getD-take}
 use Rattle.whole.proofs.Table.{all, all-at, each-at}
 use Rattle.book.specs.Line.{Row, cellIn}
 use Rattle.book.specs.Walls.{wallCells}
-use Rattle.book.specs.Roof.{parts, joined, roofCells, partAts, firstRow}
+use Rattle.book.specs.Roofs.{parts, joined, roofCells, partAts, firstRow}
 use Rattle.book.proofs.Spot.{rising}
 
 -- ---- how large the hundredths are

@@ -2,7 +2,7 @@
 use mathlib.Core.List.{List, [], _∷_}
 use Prim.Native.Nat.{ℕ}
 use Rattle.book.specs.Number.{p, m}
-use Rattle.book.specs.Ratio.{Limit, _÷_, firstUpTo}
+use Rattle.building.specs.Ratio.{Limit, _÷_, firstUpTo}
 use Rattle.book.specs.Line.{Row, row}
 
 -- h/b to 1/2

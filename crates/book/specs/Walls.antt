@@ -1,11 +1,10 @@
 -- Walls, table 3.2.2.2.1, in hundredths.
-use mathlib.Core.Bool.{Bool, cond, _&&_}
+use mathlib.Core.Bool.{cond, _&&_}
 use mathlib.Core.List.{List, [], _∷_, map}
 use Prim.Native.Nat.{ℕ, _+_}
 use lib.IntN.{ℤ}
-use lib.Dec.{ltb}
 use Rattle.book.specs.Number.{p, m}
-use Rattle.book.specs.Ratio.{Limit, _÷_, upTo}
+use Rattle.building.specs.Ratio.{Limit, _÷_, upTo}
 use Rattle.book.specs.Line.{on, valueAt}
 
 -- a row holds for h/b and a/b up to its limits
@@ -27,10 +26,6 @@ walls =
     ∷ wall (6 ÷ 1) (3 ÷ 2) (p 80 ∷ m 25 ∷ m 80 ∷ m 80 ∷ m 80 ∷ m 80 ∷ p 80 ∷ m 25 ∷ m 120 ∷ [])
     ∷ wall (6 ÷ 1) (4 ÷ 1) (p 70 ∷ m 40 ∷ m 70 ∷ m 70 ∷ m 50 ∷ m 50 ∷ p 80 ∷ m 10 ∷ m 120 ∷ [])
     ∷ []
-
--- the table's first rows begin just over a/b = 1
-abbrev pub begun : ℕ → ℕ → Bool
-begun a b = ltb b a
 
 -- the first row, in the book's order, up to whose limits h/b and a/b come
 abbrev pub wallRowFrom : ℕ → List Wall → ℕ → ℕ → ℕ → ℕ

@@ -1,55 +1,28 @@
-// The question about one zone or local, once the building is in order.
+// The coefficient of one zone or local, once the question is in order.
 ghost use mathlib.Core.Path.{_≡_};
-ghost use mathlib.Core.Bool.{true, _||_};
-ghost use Prim.Native.Nat.{_≤_};
+ghost use mathlib.Core.Bool.{true, false};
+ghost use Prim.Native.Nat.{_≤_, _<_};
 ghost use lib.IntN.{natAbs};
-ghost use Rattle.book.specs.Test.{within, is};
-ghost use Rattle.book.specs.Building.{buildingFault, sizes};
+ghost use Rattle.building.specs.Places.{wallPlace};
+ghost use Rattle.building.specs.Order.{InOrder};
 ghost use Rattle.book.specs.Question as question;
-ghost use Rattle.book.specs.Question.{zoneOn, localOn, wallPlace, wallColumn, gableColumn, flatColumn, bothSigns, coefficientOf};
+ghost use Rattle.book.specs.Question.{wallColumn, gableColumn, flatColumn, bothSigns, coefficientOf};
 use super::Answer;
-use super::Building;
-use super::faults::sizes_of;
 use super::roofs::roof_value;
-use super::tests::among;
-use super::tests::beyond;
-use super::tests::both;
-use super::tests::either;
-use super::tests::is;
 use super::walls::wall_value;
+use building::Sizes;
 
-pub(crate) fn gable(kind: i64) -> bool
-    ensures { λ r. ⌜ r ≡ question.gable kind ⌝ }
-{
-    is(1, kind)
-}
-
-pub(crate) fn flat(kind: i64) -> bool
-    ensures { λ r. ⌜ r ≡ question.flat kind ⌝ }
-{
-    !beyond(2, 5, kind)
-}
-
-// The directions that a roof of this kind knows.
-pub(crate) fn knows(kind: i64, direction: i64) -> bool
-    ensures { λ r. ⌜ r ≡ question.knows kind direction ⌝ }
-{
-    either(is(0, direction), is(90, direction))
-}
-
-pub(crate) fn local_on(kind: i64, place: u8) -> bool
-    ensures { λ r. ⌜ r ≡ localOn kind place ⌝ }
-{
-    either(
-        place == b'w',
-        both(flat(kind), either(place == b'1', place == b'2')),
-    )
-}
-
+// On a wall: A to D, and the wall's local.
 fn wall_place(place: u8) -> bool
     ensures { λ r. ⌜ r ≡ wallPlace place ⌝ }
 {
-    either(among(b'A', b'D', place), place == b'w')
+    if place < b'A' {
+        return false;
+    }
+    if place <= b'D' {
+        return true;
+    }
+    place == b'w'
 }
 
 fn wall_column(wind: u64, place: u8) -> usize
@@ -74,7 +47,10 @@ fn gable_column(wind: u64, zone: u8) -> usize
         }
         return 1;
     }
-    if either(zone == b'E', zone == b'G') {
+    if zone == b'E' {
+        return 2;
+    }
+    if zone == b'G' {
         return 2;
     }
     3
@@ -102,12 +78,12 @@ fn both_signs(v: i32) -> Answer
     Answer::Two(v, 0 - v)
 }
 
-pub(crate) fn coefficient(g: Building, wind: u64, place: u8) -> Answer
-    requires { ⌜ buildingFault g ≡ 0 ⌝ }
-    requires { ⌜ (zoneOn (g .kind) place || localOn (g .kind) place) ≡ true ⌝ }
-    ensures { λ r. ⌜ r ≡ coefficientOf (sizes g) wind place ⌝ }
+// A place that is not on a wall needs a roof.
+pub(crate) fn coefficient(s: Sizes, wind: u64, place: u8) -> Answer
+    requires { ⌜ InOrder s ⌝ }
+    requires { ⌜ (wallPlace place ≡ false → 0 < s .kind) ⌝ }
+    ensures { λ r. ⌜ r ≡ coefficientOf s wind place ⌝ }
 {
-    let s = sizes_of(g);
     if wall_place(place) {
         return Answer::One(wall_value(s, wall_column(wind, place)));
     }
@@ -118,6 +94,16 @@ pub(crate) fn coefficient(g: Building, wind: u64, place: u8) -> Answer
         return both_signs(roof_value(s, 1));
     }
     Answer::One(roof_value(s, flat_column(place)))
+}
+
+// An internal coefficient beyond 1 in size, in hundredths.
+pub(crate) fn too_great(internal: i64) -> bool
+    ensures { λ r. ⌜ r ≡ question.tooGreat internal ⌝ }
+{
+    if internal < -100 {
+        return true;
+    }
+    100 < internal
 }
 
 // Hundredths taken off thousandths.

@@ -3,14 +3,13 @@ ghost use mathlib.Core.Path.{_≡_};
 ghost use Prim.Native.Nat.{_<_, _≤_, _*_};
 ghost use lib.ListN.{getD};
 ghost use Rattle.book.specs.Line.{cellIn};
-ghost use Rattle.book.specs.Roof.{roofCells, firstRow, partAts, partOf, spotIn, roofValue};
-ghost use Rattle.book.specs.Order.{InOrder};
-use super::faults;
-use super::faults::Sizes;
+ghost use Rattle.book.specs.Roofs.{roofCells, firstRow, partAts, partOf, spotIn, roofValue};
+ghost use Rattle.building.specs.Order.{InOrder};
 use super::line::Spot;
 use super::line::line_at;
 use super::line::spot_from;
 use super::walls::block_of;
+use building::Sizes;
 
 // The row with which each part begins: gable by h/b; straight eaves, parapet, curved eaves, mansard.
 const FIRST: [usize; 8] = [0, 7, 14, 22, 23, 26, 29, 33];
@@ -130,6 +129,6 @@ pub(crate) fn roof_value(s: Sizes, col: usize) -> i32
     requires { ⌜ (0 < s .kind) × (col < 4) ⌝ }
     ensures { λ r. ⌜ r ≡ roofValue s col ⌝ }
 {
-    let r = spot_in(part_of(s), faults::along(s), faults::across(s));
+    let r = spot_in(part_of(s), s.along, s.across);
     line_at(cell(r.lower, col), cell(r.upper, col), r.part, r.whole)
 }

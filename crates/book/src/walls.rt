@@ -4,9 +4,9 @@ ghost use Prim.Native.Nat.{_<_};
 ghost use Rattle.book.specs.Line.{cellIn};
 ghost use Rattle.book.specs.Gable.{blockOf};
 ghost use Rattle.book.specs.Walls.{wallRow, wallCells, wallValue};
-ghost use Rattle.book.specs.Order.{InOrder};
-use super::faults::Sizes;
+ghost use Rattle.building.specs.Order.{InOrder};
 use super::line::line_at;
+use building::Sizes;
 
 // Wind 0: A B C D; wind 90: A B C D; local.
 const WALLS: [[i16; 9]; 6] = [

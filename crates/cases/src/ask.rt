@@ -1,6 +1,6 @@
 // Questions and records at the corners of paper 01, each with its answer.
 use book::Answer;
-use book::Building;
+use building::Building;
 use entry::Face;
 use entry::Wind;
 use job::Faces;

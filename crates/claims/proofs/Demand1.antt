@@ -26,7 +26,7 @@ use Rattle.aralimogga.specs.Answers.{noText, textOf, noExtreme, totalOf}
 use Rattle.claims.specs.Answers.{AsksNothing, RefusedUnchanged, IsRefused}
 use Rattle.text.proofs.page.emit.Reads as emit
 use Rattle.text.proofs.numeral.write_decimal.Reads as write-decimal
-use Rattle.book.proofs.building_fault.Reads as building-fault
+use Rattle.building.proofs.building_fault.Reads as building-fault
 use Rattle.book.proofs.outside.Reads as outside
 use Rattle.book.proofs.net.Reads as net
 use Rattle.job.proofs.judge.judge.Reads as judge

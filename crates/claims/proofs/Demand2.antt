@@ -1,6 +1,6 @@
 -- Demand 2: coefficients, net coefficients and totals are those of the tables and the sum over faces; and reading and writing undo each other.
 use mathlib.Core.Path.{_≡_, refl, ap, _∙_}
-use mathlib.Core.Bool.{true, false, _||_}
+use mathlib.Core.Bool.{true, false, cond, _||_}
 use mathlib.Core.List.{List, [], _∷_, map}
 use Prim.Native.Nat.{ℕ, _-_, _≤_, _<_}
 use lib.IntN.{ℤ, pos, natAbs, _+ℤ_, _*ℤ_}
@@ -9,17 +9,18 @@ use Rattle.whole.specs.Lists.{Every}
 use Rattle.whole.proofs.Lists.{every-by}
 use Rattle.text.specs.Writing.{writing, bufferAfter}
 use Rattle.lines.specs.Lines.{LinesInForm}
-use Rattle.book.specs.declared.Building.{Building}
+use Rattle.building.specs.declared.Building.{Building}
 use Rattle.book.specs.declared.Answer.{Answer}
 use Rattle.book.specs.declared.Answer.the-variants.{One, Two, Refused}
 use Rattle.book.specs.Line.{cellIn, lineAt}
 use Rattle.book.specs.Walls.{wallRow, wallCells}
-use Rattle.book.specs.Roof.{roofValue, roofCells, spotIn, partOf, along, across}
-use Rattle.book.specs.Building.{buildingFault, sizes}
+use Rattle.book.specs.Roofs.{roofValue, roofCells, spotIn, partOf}
+use Rattle.building.specs.Building.{buildingFault, sizes}
 use Rattle.book.specs.Answer.{valuesOf}
-use Rattle.book.specs.Question.{F, zoneOn, localOn, knows, wallPlace, wallColumn, gableColumn, flatColumn, bothSigns, outsideOf, netOf, less, internalFault, refuse, then, minus}
+use Rattle.building.specs.Places.{F, zoneOn, localOn, knows, wallPlace}
+use Rattle.book.specs.Question.{wallColumn, gableColumn, flatColumn, bothSigns, outsideOf, netOf, less, tooGreat, then, minus}
 use Rattle.book.proofs.Between.{Between, line-between}
-use Rattle.book.proofs.Accepted.{in-order}
+use Rattle.building.proofs.Accepted.{in-order}
 use Rattle.book.proofs.Roofed.{roof-between}
 use Rattle.book.proofs.Answers.{answered, on-wall, wall-on, on-gable, on-f, on-flat}
 use Rattle.job.specs.declared.Job.{Job}
@@ -65,21 +66,21 @@ pub between-rows : (v w : ℤ) (part whole : ℕ) → part ≤ whole → 0 < who
 between-rows = line-between
 
 pub roof-between-rows : (g : Building) → buildingFault g ≡ 0 → 0 < sizes g .kind → (col : ℕ)
-    → let r = spotIn (partOf (sizes g)) (along (sizes g)) (across (sizes g)) in
+    → let r = spotIn (partOf (sizes g)) (sizes g .along) (sizes g .across) in
     Between (cellIn roofCells (r .lower) col *ℤ pos 10) (cellIn roofCells (r .upper) col *ℤ pos 10) (roofValue (sizes g) col)
 roof-between-rows g good roofed col = roof-between (sizes g) (in-order g good) roofed col
 
 -- ---- "net coefficients"
 
 -- Outside minus internal, alternative by alternative; what is refused outside is refused net.
-pub net-coefficients : (g : Building) (direction : ℤ) (place : ℕ) (internal : ℤ) → internalFault internal ≡ 0
+pub net-coefficients : (g : Building) (direction : ℤ) (place : ℕ) (internal : ℤ) → tooGreat internal ≡ false
     → valuesOf (netOf g direction place internal) ≡ map (λ v. less v internal) (valuesOf (outsideOf g direction place))
 unfolding netOf
 net-coefficients g direction place internal ok = go (outsideOf g direction place)
   where
-    go : (r : Answer) → valuesOf (then r (refuse (internalFault internal) 0 (minus r internal))) ≡ map (λ v. less v internal) (valuesOf r)
-    go (One v) = ap (λ (n : ℕ). valuesOf (refuse n 0 (One (less v internal)))) ok
-    go (Two v w) = ap (λ (n : ℕ). valuesOf (refuse n 0 (Two (less v internal) (less w internal)))) ok
+    go : (r : Answer) → valuesOf (then r (cond (tooGreat internal) (Refused 3 0) (minus r internal))) ≡ map (λ v. less v internal) (valuesOf r)
+    go (One v) = rw ok
+    go (Two v w) = rw ok
     go (Refused number line) = refl
 
 -- ---- "totals are those of .. its sum over faces"

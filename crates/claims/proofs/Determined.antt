@@ -18,8 +18,9 @@ use Rattle.text.proofs.page.emit.Reads as emit
 use Rattle.text.proofs.numeral.put_natural.Reads as put-natural
 use Rattle.text.proofs.numeral.put_decimal.Reads as put-decimal
 use Rattle.text.proofs.numeral.write_decimal.Reads as write-decimal
-use Rattle.book.proofs.building_fault.Reads as building-fault
-use Rattle.book.proofs.zone_on.Reads as zone-on
+use Rattle.building.proofs.building_fault.Reads as building-fault
+use Rattle.building.proofs.zone_on.Reads as zone-on
+use Rattle.building.proofs.asked.Reads as asked
 use Rattle.book.proofs.outside.Reads as outside
 use Rattle.book.proofs.net.Reads as net
 use Rattle.entry.proofs.fields.building_line.Reads as building-line
@@ -104,13 +105,18 @@ put-field-determined κ a r r′ s s′ p q = same-put p q
 put-line-determined : OneAnswerAndBuffer put-line.Post (λ κ s. now (s .0))
 put-line-determined κ a r r′ s s′ p q = same-put p q
 
--- ---- book
+-- ---- building
 
 building-fault-determined : OneAnswer building-fault.Post
 building-fault-determined κ a r r′ s s′ p q = same p q
 
 zone-on-determined : OneAnswer zone-on.Post
 zone-on-determined κ a r r′ s s′ p q = same p q
+
+asked-determined : OneAnswer asked.Post
+asked-determined κ a r r′ s s′ p q = same p q
+
+-- ---- book
 
 outside-determined : OneAnswer outside.Post
 outside-determined κ a r r′ s s′ p q = same p q

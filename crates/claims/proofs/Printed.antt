@@ -11,15 +11,18 @@ use Rattle.whole.specs.Newton.{newtons, remainder}
 use Rattle.text.specs.Digits.{allDigits, valueAfter, value}
 use Rattle.text.specs.Field.{digitsInForm, unsigned, negative, number, field}
 use Rattle.lines.specs.Lines.{split, fieldsOf, rowsOf, rows}
-use Rattle.book.specs.declared.Building.{Building}
-use Rattle.book.specs.Test.{beyond}
+use Rattle.building.specs.declared.Building.{Building}
+use Rattle.building.specs.Test.{beyond}
 use Rattle.book.specs.Line.{spotFrom, lineAt}
 use Rattle.book.specs.Walls.{wallRow, wallCells}
 use Rattle.book.specs.Gable.{blockOf}
-use Rattle.book.specs.Roof.{roofValue, roofCells, spotIn, partAts, firstRow, roofOf, outOfRoof}
-use Rattle.book.specs.Building.{buildingFault, outOfForm, outOfRange, outOfWalls, tooLong}
+use Rattle.book.specs.Roofs.{roofValue, roofCells, spotIn, partAts, firstRow}
+use Rattle.building.specs.Roof.{roofOf}
+use Rattle.building.specs.Building.{buildingFault, outOfForm, outOfRange, outOfWalls, outOfRoof, tooLong}
 use Rattle.book.specs.Answer.{valuesOf}
-use Rattle.book.specs.Question.{E, L1, outsideOf, zoneOn, localOn, coefficientOf, wallColumn, gableColumn, flatColumn}
+use Rattle.building.specs.Places.{E, L1, zoneOn, localOn}
+use Rattle.building.specs.Question.{askedOf}
+use Rattle.book.specs.Question.{outsideOf, coefficientOf, wallColumn, gableColumn, flatColumn}
 use Rattle.job.specs.Rules.{fieldFault, lower, lowest, fieldsFault}
 use Rattle.entry.specs.Says.{both}
 use Rattle.job.specs.Sections.{lineFault}
@@ -95,6 +98,6 @@ printed =
     ∷ []
 
 pub printed-hold : Every Holds printed
-unfolding outsideOf buildingFault outOfForm outOfRange outOfWalls outOfRoof tooLong beyond zoneOn localOn roofOf coefficientOf wallColumn gableColumn flatColumn wallRow wallCells blockOf roofValue roofCells spotIn partAts firstRow spotFrom lineAt halfUp roundAway roundDown leftOver reading rows rowsOf split fieldsOf field number unsigned negative digitsInForm allDigits valueAfter value readLines walk lineFault fieldsFault lowest lower fieldFault
+unfolding outsideOf askedOf buildingFault outOfForm outOfRange outOfWalls outOfRoof tooLong beyond zoneOn localOn roofOf coefficientOf wallColumn gableColumn flatColumn wallRow wallCells blockOf roofValue roofCells spotIn partAts firstRow spotFrom lineAt halfUp roundAway roundDown leftOver reading rows rowsOf split fieldsOf field number unsigned negative digitsInForm allDigits valueAfter value readLines walk lineFault fieldsFault lowest lower fieldFault
 printed-hold =
     (refl, (refl, (refl, (refl, (refl, (refl, (refl, (refl, (refl, (refl, (refl, (refl, (refl, ((refl, refl, refl), (refl, (refl, tt))))))))))))))))

@@ -11,10 +11,13 @@ use Rattle.lines.specs.Lines.{split, fieldsOf, rowsOf, rows}
 use Rattle.book.specs.Line.{spotFrom, lineAt}
 use Rattle.book.specs.Walls.{wallRow, wallCells}
 use Rattle.book.specs.Gable.{blockOf}
-use Rattle.book.specs.Roof.{outOfRoof, roofOf, roofCells, partAts, firstRow, spotIn, roofValue}
-use Rattle.book.specs.Building.{buildingFault, outOfForm, outOfRange, outOfWalls, tooLong}
-use Rattle.book.specs.Question.{zoneOn, localOn, wallColumn, gableColumn, flatColumn, coefficientOf, outsideOf}
-use Rattle.book.specs.Test.{beyond}
+use Rattle.book.specs.Roofs.{roofCells, partAts, firstRow, spotIn, roofValue}
+use Rattle.building.specs.Roof.{roofOf}
+use Rattle.building.specs.Building.{buildingFault, outOfForm, outOfRange, outOfWalls, outOfRoof, tooLong}
+use Rattle.building.specs.Places.{zoneOn, localOn}
+use Rattle.building.specs.Question.{askedOf}
+use Rattle.book.specs.Question.{wallColumn, gableColumn, flatColumn, coefficientOf, outsideOf}
+use Rattle.building.specs.Test.{beyond}
 use Rattle.job.specs.Rules.{fieldFault, lower, lowest, fieldsFault}
 use Rattle.job.specs.Sections.{lineFault}
 use Rattle.job.specs.Walk.{walk, readLines}
@@ -44,5 +47,5 @@ lines =
     & "z min -200000000000000 1 2 1 1 1\n"
 
 pub sample : totalsText (reading (bytes sheet)) ≡ bytes lines
-unfolding halfUp roundAway digitsWithin digits decimal allDigits valueAfter value digitsInForm unsigned negative number field split fieldsOf rowsOf rows spotFrom lineAt wallRow wallCells blockOf outOfRoof roofOf roofCells partAts firstRow spotIn roofValue buildingFault outOfForm outOfRange outOfWalls tooLong zoneOn localOn wallColumn gableColumn flatColumn coefficientOf outsideOf beyond fieldFault lower lowest fieldsFault lineFault walk readLines reading better best numbers each choices total cases caseTotal worst padded shown sixExtremes spaced lineText axisText sixText reportText
+unfolding halfUp roundAway digitsWithin digits decimal allDigits valueAfter value digitsInForm unsigned negative number field split fieldsOf rowsOf rows spotFrom lineAt wallRow wallCells blockOf outOfRoof roofOf roofCells partAts firstRow spotIn roofValue buildingFault outOfForm outOfRange outOfWalls tooLong zoneOn localOn wallColumn gableColumn flatColumn coefficientOf outsideOf askedOf beyond fieldFault lower lowest fieldsFault lineFault walk readLines reading better best numbers each choices total cases caseTotal worst padded shown sixExtremes spaced lineText axisText sixText reportText
 sample = refl

@@ -5,7 +5,7 @@ use lib.ListN.{getD}
 use lib.IntN.{ℤ, pos, negℤ}
 use Rattle.text.specs.declared.form.Field.{Field}
 use Rattle.text.specs.declared.form.Field.the-variants.{Bad, Plus, Minus, Letter, Dash}
-use Rattle.book.specs.declared.Building.{Building}
+use Rattle.building.specs.declared.Building.{Building}
 use Rattle.entry.specs.declared.Wind.{Wind}
 use Rattle.entry.specs.declared.Face.{Face}
 

@@ -2,7 +2,7 @@
 use crate::BOTH;
 use crate::Face;
 use crate::Wind;
-use book::Building;
+use building::Building;
 use lines::row::Line;
 use text::form::Field;
 ghost use mathlib.Core.Path.{_≡_};

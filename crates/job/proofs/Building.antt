@@ -8,8 +8,8 @@ use native.Mathlib.Omega.{arith}
 use lib.Dec.{T, leb, leb→le}
 use Rattle.whole.proofs.Table.{both, both-left, both-right}
 use Rattle.whole.proofs.Tests.{by-test}
-use Rattle.book.specs.declared.Building.{Building}
-use Rattle.book.specs.Building.{Fault, faults, first, buildingFault}
+use Rattle.building.specs.declared.Building.{Building}
+use Rattle.building.specs.Building.{Fault, faults, first, buildingFault}
 
 -- each number is at least the one before it, and the first at least m
 abbrev rising : ℕ → List Fault → Bool

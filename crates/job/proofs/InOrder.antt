@@ -11,8 +11,8 @@ use Rattle.whole.specs.Lists.{Every}
 use Rattle.whole.proofs.Lists.{every-by, map-every, every-at}
 use Rattle.whole.proofs.Size.{natAbs-neg}
 use Rattle.text.specs.declared.form.Field.{Field}
-use Rattle.book.specs.declared.Building.{Building}
-use Rattle.book.specs.Question.{zoneOn}
+use Rattle.building.specs.declared.Building.{Building}
+use Rattle.building.specs.Places.{zoneOn}
 use Rattle.job.specs.declared.Rule.the-variants.{NumberFrom, SizeTo, Direction, Mark}
 use Rattle.job.specs.declared.Section.{Section}
 use Rattle.job.specs.declared.Section.the-variants.{B, W, I, F}

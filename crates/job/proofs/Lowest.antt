@@ -12,9 +12,9 @@ use Rattle.whole.proofs.Tests.{by-test}
 use Rattle.whole.proofs.Table.{both-left, both-right, all}
 use Rattle.text.specs.declared.form.Field.{Field}
 use Rattle.text.specs.declared.form.Field.the-variants.{Bad, Plus, Minus, Letter, Dash}
-use Rattle.book.specs.declared.Building.{Building}
-use Rattle.book.specs.Building.{buildingFault}
-use Rattle.book.specs.Question.{zoneOn}
+use Rattle.building.specs.declared.Building.{Building}
+use Rattle.building.specs.Building.{buildingFault}
+use Rattle.building.specs.Places.{zoneOn}
 use Rattle.job.specs.declared.Rule.{Rule}
 use Rattle.job.specs.declared.Rule.the-variants.{LetterFrom, NumberFrom, SizeTo, Direction, Mark}
 use Rattle.job.specs.declared.Section.the-variants.{B, W, I, F}

@@ -5,10 +5,10 @@ use mathlib.Core.List.{List, [], _∷_, _++_, map}
 use lib.ListN.{set, take}
 use Rattle.text.specs.declared.form.Field.{Field}
 use Rattle.text.specs.declared.form.Field.the-variants.{Bad, Plus, Minus, Letter, Dash}
-use Rattle.book.specs.Building.{buildingFault, outOfForm, outOfRange, outOfWalls, tooLong}
-use Rattle.book.specs.Roof.{outOfRoof, roofOf}
-use Rattle.book.specs.Question.{zoneOn}
-use Rattle.book.specs.Test.{beyond}
+use Rattle.building.specs.Building.{buildingFault, outOfForm, outOfRange, outOfWalls, outOfRoof, tooLong}
+use Rattle.building.specs.Roof.{roofOf}
+use Rattle.building.specs.Places.{zoneOn}
+use Rattle.building.specs.Test.{beyond}
 use Rattle.job.specs.Rules.{fieldFault, lower, lowest, fieldsFault}
 use Rattle.job.specs.Sections.{lineFault}
 use Rattle.job.specs.Walk.{walk, verdict, readLines}

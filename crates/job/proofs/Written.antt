@@ -8,8 +8,8 @@ use lib.Dec.{leb, ltb}
 use borrow.Author.Tests.{le-leb, ne-eqb, ltb-true, ltb-false}
 use Rattle.whole.proofs.Tests.{by-test}
 use Rattle.text.specs.declared.form.Field.the-variants.{Bad, Plus}
-use Rattle.book.specs.declared.Building.{Building}
-use Rattle.book.specs.Building.{tooLong, outOfForm, buildingFault}
+use Rattle.building.specs.declared.Building.{Building}
+use Rattle.building.specs.Building.{tooLong, outOfForm, buildingFault}
 use Rattle.job.specs.declared.Rule.{Rule}
 use Rattle.job.specs.declared.Rule.the-variants.{LetterFrom, NumberFrom, SizeTo, Direction, Mark}
 use Rattle.job.specs.declared.Section.{Section}

@@ -5,9 +5,9 @@ use mathlib.Core.List.{List, [], _∷_, _++_, List·Memᴰ}
 use mathlib.Core.Bool.{true, false}
 use lib.ListN.{length, getD}
 use Rattle.text.specs.declared.form.Field.{Field}
-use Rattle.book.specs.declared.Building.{Building}
-use Rattle.book.specs.Building.{Fault, faults}
-use Rattle.book.specs.Question.{zoneOn}
+use Rattle.building.specs.declared.Building.{Building}
+use Rattle.building.specs.Building.{Fault, faults}
+use Rattle.building.specs.Places.{zoneOn}
 use Rattle.job.specs.declared.Rule.the-variants.{Mark}
 use Rattle.job.specs.declared.Section.the-variants.{B, F}
 use Rattle.job.specs.declared.Kind.{Kind}

@@ -6,9 +6,9 @@ use mathlib.Core.Bool.{true}
 use lib.ListN.{length}
 use lib.IntN.{ℤ, natAbs}
 use Rattle.whole.specs.Lists.{Every}
-use Rattle.book.specs.declared.Building.{Building}
-use Rattle.book.specs.Building.{buildingFault}
-use Rattle.book.specs.Question.{zoneOn}
+use Rattle.building.specs.declared.Building.{Building}
+use Rattle.building.specs.Building.{buildingFault}
+use Rattle.building.specs.Places.{zoneOn}
 use Rattle.entry.specs.declared.Wind.{Wind}
 use Rattle.entry.specs.declared.Face.{Face}
 use Rattle.job.specs.Carried.{Carried}

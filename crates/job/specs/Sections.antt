@@ -4,9 +4,9 @@ use mathlib.Core.List.{List, [], _∷_, _++_}
 use mathlib.Core.Bool.{cond}
 use lib.Dec.{eqb}
 use Rattle.text.specs.declared.form.Field.{Field}
-use Rattle.book.specs.declared.Building.{Building}
-use Rattle.book.specs.Building.{buildingFault}
-use Rattle.book.specs.Question.{zoneOn}
+use Rattle.building.specs.declared.Building.{Building}
+use Rattle.building.specs.Building.{buildingFault}
+use Rattle.building.specs.Places.{zoneOn}
 use Rattle.job.specs.declared.Rule.{Rule}
 use Rattle.job.specs.declared.Rule.the-variants.{LetterFrom, NumberFrom, SizeTo, Direction, Mark}
 use Rattle.job.specs.declared.Section.{Section}

@@ -4,7 +4,7 @@ use crate::Rule;
 use crate::Section;
 use crate::fields;
 use crate::shape;
-use book::Building;
+use building::Building;
 use entry::says::building_of;
 use entry::says::face_of;
 use lines::line::held_count;
@@ -132,12 +132,12 @@ fn own_fault(k: Kind, g: Building, x: Line) -> u32
     match k {
         Kind::Count(_) => 0,
         Kind::Entry(s) => match s {
-            Section::B => book::building_fault(building_of(x)),
+            Section::B => building::building_fault(building_of(x)),
             Section::W => 0,
             Section::I => 0,
             Section::F => {
                 let f = face_of(x);
-                fields::unless(6, book::zone_on(g.kind, f.zone))
+                fields::unless(6, building::zone_on(g.kind, f.zone))
             }
         },
     }

@@ -5,7 +5,7 @@ use crate::faults::lower_of;
 use crate::fields;
 use crate::shape;
 use crate::values;
-use book::Building;
+use building::Building;
 use entry::Face;
 use entry::Wind;
 use text::form::Field;
@@ -61,5 +61,5 @@ pub(crate) fn face_fault(g: Building, f: Face) -> u32
     if n != 0 {
         return n;
     }
-    fields::unless(6, book::zone_on(g.kind, f.zone))
+    fields::unless(6, building::zone_on(g.kind, f.zone))
 }

@@ -42,7 +42,7 @@ fn judge_section(j: Job, s: Section, line: u32) -> Verdict
     while i < n {
         let k = i as usize;
         let number = match s {
-            Section::B => book::building_fault(g),
+            Section::B => building::building_fault(g),
             Section::W => {
                 let w = winds.entry[k];
                 given::wind_fault(w)

@@ -1,5 +1,5 @@
 // The job: a building with its winds, internal coefficients and faces, as a record by value.
-use book::Building;
+use building::Building;
 use entry::Face;
 use entry::Wind;
 

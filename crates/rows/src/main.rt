@@ -1,6 +1,6 @@
 // Asks about every printed row of every table: at its ends, and one step to either side of each limit. tools/rows.py works out from the book what must come out.
 use book::Answer;
-use book::Building;
+use building::Building;
 
 // At b 1000: the limits of h/b and of a/b, and the places on the walls.
 const HEIGHTS: [i64; 10] = [100, 499, 500, 501, 1499, 1500, 1501, 5999, 6000, 6001];

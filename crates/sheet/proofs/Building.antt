@@ -14,10 +14,10 @@ use Rattle.text.specs.declared.form.Field.{Field}
 use Rattle.text.specs.declared.form.Field.the-variants.{Plus}
 use Rattle.lines.specs.Lines.{fieldText}
 use Rattle.text.proofs.Digits.{digits-length}
-use Rattle.book.specs.declared.Building.{Building}
-use Rattle.book.specs.Roof.{Roof, roof, roofs, roofOf}
-use Rattle.book.specs.Building.{buildingFault}
-use Rattle.book.proofs.Accepted.{good-fields, in-order}
+use Rattle.building.specs.declared.Building.{Building}
+use Rattle.building.specs.Roof.{Roof, roof, roofs, roofOf}
+use Rattle.building.specs.Building.{buildingFault}
+use Rattle.building.proofs.Accepted.{good-fields, in-order}
 use Rattle.job.specs.declared.Section.the-variants.{B}
 use Rattle.job.specs.declared.Kind.the-variants.{Entry}
 use Rattle.entry.specs.Says.{number, buildingOf}

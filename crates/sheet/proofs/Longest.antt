@@ -14,7 +14,7 @@ use Rattle.text.specs.Digits.{digitsWithin, digits}
 use Rattle.whole.specs.Lists.{Every}
 use Rattle.lines.specs.Lines.{fieldsOf, fieldText, NotBad}
 use Rattle.text.proofs.Digits.{by-tens, length-small, length-more, digits-length}
-use Rattle.book.specs.declared.Building.{Building}
+use Rattle.building.specs.declared.Building.{Building}
 use Rattle.job.specs.declared.Rule.{Rule}
 use Rattle.job.specs.declared.Rule.the-variants.{LetterFrom, NumberFrom, SizeTo, Direction, Mark}
 use Rattle.job.specs.declared.Section.{Section}

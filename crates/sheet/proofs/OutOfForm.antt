@@ -11,7 +11,7 @@ use Rattle.whole.proofs.Tests.{by-test}
 use Rattle.text.specs.declared.form.Field.{Field}
 use Rattle.text.specs.declared.form.Field.the-variants.{Bad}
 use Rattle.lines.specs.Lines.{fieldsOf}
-use Rattle.book.specs.declared.Building.{Building}
+use Rattle.building.specs.declared.Building.{Building}
 use Rattle.job.specs.declared.Rule.{Rule}
 use Rattle.job.specs.declared.Rule.the-variants.{LetterFrom, NumberFrom, SizeTo, Direction, Mark}
 use Rattle.job.specs.declared.Section.the-variants.{B, W, I, F}

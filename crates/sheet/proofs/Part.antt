@@ -14,7 +14,7 @@ use Rattle.text.specs.declared.form.Field.the-variants.{Bad}
 use Rattle.lines.specs.Lines.{rows, fieldsOf}
 use Rattle.lines.specs.Held.{until}
 use Rattle.lines.proofs.Lines.{Free, rows-open, rows-seam}
-use Rattle.book.specs.declared.Building.{Building}
+use Rattle.building.specs.declared.Building.{Building}
 use Rattle.job.specs.declared.Kind.{Kind}
 use Rattle.job.specs.Carried.{Carried, nothing}
 use Rattle.job.specs.Sections.{lineFault, calls, learn}

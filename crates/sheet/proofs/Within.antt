@@ -7,7 +7,7 @@ use lib.ListN.{set, replicate}
 use Rattle.text.specs.declared.form.Field.{Field}
 use Rattle.lines.specs.declared.row.Line.{Line}
 use Rattle.lines.specs.Held.{held, lineAt}
-use Rattle.book.specs.declared.Building.{Building}
+use Rattle.building.specs.declared.Building.{Building}
 use Rattle.job.specs.declared.Section.{Section}
 use Rattle.job.specs.declared.Section.the-variants.{B, W, I, F}
 use Rattle.job.specs.declared.Kind.{Kind}

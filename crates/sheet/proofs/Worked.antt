@@ -8,10 +8,10 @@ use lib.ListN.{length}
 use Rattle.text.specs.Digits.{allDigits, valueAfter, value}
 use Rattle.text.specs.Field.{digitsInForm, unsigned, negative, number, field}
 use Rattle.lines.specs.Lines.{split, fieldsOf, rowsOf, rows}
-use Rattle.book.specs.Building.{buildingFault, outOfForm, outOfRange, outOfWalls, tooLong}
-use Rattle.book.specs.Roof.{outOfRoof, roofOf}
-use Rattle.book.specs.Question.{zoneOn}
-use Rattle.book.specs.Test.{beyond}
+use Rattle.building.specs.Building.{buildingFault, outOfForm, outOfRange, outOfWalls, outOfRoof, tooLong}
+use Rattle.building.specs.Roof.{roofOf}
+use Rattle.building.specs.Places.{zoneOn}
+use Rattle.building.specs.Test.{beyond}
 use Rattle.job.specs.Rules.{fieldFault, lower, lowest, fieldsFault}
 use Rattle.job.specs.Sections.{lineFault}
 use Rattle.job.specs.Walk.{walk, verdict, readLines}

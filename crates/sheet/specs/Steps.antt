@@ -8,7 +8,7 @@ use lib.IntN.{ℤ}
 use lib.ListN.{length, drop}
 use Rattle.whole.specs.Lists.{firstOf}
 use Rattle.lines.specs.Lines.{rows}
-use Rattle.book.specs.declared.Building.{Building}
+use Rattle.building.specs.declared.Building.{Building}
 use Rattle.job.specs.declared.Section.{Section}
 use Rattle.job.specs.declared.Section.the-variants.{B, W, I, F}
 use Rattle.job.specs.declared.Kind.{Kind}

@@ -1,5 +1,5 @@
 // Records with nothing in them yet: every number is zero.
-use book::Building;
+use building::Building;
 use entry::Face;
 use entry::Wind;
 use job::Faces;

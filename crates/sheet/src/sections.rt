@@ -3,7 +3,7 @@ use crate::empty::no_building;
 use crate::empty::no_faces;
 use crate::empty::no_internals;
 use crate::empty::no_winds;
-use book::Building;
+use building::Building;
 use entry::says::building_of;
 use entry::says::face_of;
 use entry::says::internal_of;

@@ -14,8 +14,9 @@ use Rattle.whole.proofs.Parts.{lt-by}
 use Rattle.whole.proofs.Lists.{every-at, every-member, firstOf-length, firstOf-getD}
 use Rattle.book.specs.declared.Answer.{Answer}
 use Rattle.book.specs.Answer.{valuesOf}
-use Rattle.book.specs.Question.{knows, outsideOf}
-use Rattle.book.proofs.Accepted.{good-fields}
+use Rattle.building.specs.Places.{knows}
+use Rattle.book.specs.Question.{outsideOf}
+use Rattle.building.proofs.Accepted.{good-fields}
 use Rattle.book.proofs.Answers.{Alternatives, one, two, zone-answered}
 use Rattle.entry.specs.declared.Wind.{Wind}
 use Rattle.entry.specs.declared.Face.{Face}

@@ -4,7 +4,7 @@ use mathlib.Core.Bool.{true, false, cond}
 use Prim.Native.Nat.{ℕ, _-_}
 use lib.IntN.{ℤ, pos}
 use lib.ListN.{length, getD}
-use Rattle.book.specs.declared.Building.{Building}
+use Rattle.building.specs.declared.Building.{Building}
 use Rattle.book.specs.declared.Answer.{Answer}
 use Rattle.book.specs.declared.Answer.the-variants.{One, Two, Refused}
 use Rattle.book.specs.Answer.{valuesOf}

@@ -12,7 +12,7 @@ use crate::sums::Sums;
 use crate::tops::Ends;
 use crate::tops::Top;
 use crate::tops::kept;
-use book::Building;
+use building::Building;
 use entry::Wind;
 use job::Internals;
 use job::Job;

@@ -10,7 +10,7 @@ use crate::Side;
 use crate::surface::Surface;
 use crate::surface::surface_on;
 use crate::tops::falls_short;
-use book::Building;
+use building::Building;
 use job::Faces;
 
 // Of the products of outside coefficient and area the greatest and the least sum, and the sum of the areas.

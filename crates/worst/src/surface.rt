@@ -4,7 +4,7 @@ ghost use mathlib.Core.Bool.{true};
 ghost use Rattle.worst.specs.Forces.{acts};
 ghost use Rattle.worst.specs.Engine.{surfaceWith, surfaceOn};
 use book::Answer;
-use book::Building;
+use building::Building;
 use entry::BOTH;
 use entry::Face;
 

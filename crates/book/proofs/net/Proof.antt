@@ -9,9 +9,9 @@ use mir.Val.{toZ, ofZ}
 use borrow.Author.Needs.{needs}
 use Rattle.whole.proofs.Size.{returned}
 use Rattle.book.specs.declared.Answer.the-variants.{One, Two}
-use Rattle.book.specs.Test.{beyond}
+use Rattle.building.specs.Test.{beyond}
 use Rattle.book.specs.Question.{outsideOf, less}
-use Rattle.book.proofs.Machine.{plain, said}
+use Rattle.building.proofs.Machine.{plain, said}
 use Rattle.book.proofs.Answers.{Small, answer-small}
 use Rattle.book.proofs.Nets.{internal-small, net-refused, net-one, net-two, net-bad-one, net-bad-two}
 use Rattle.book.proofs.net.Statement.{statement}
@@ -43,8 +43,8 @@ outside-requires c κs = search needs
 enum-known-r : tie.Need-enum-known-r
 enum-known-r c = search needs
 
-beyond-requires : tie.Need-beyond-requires
-beyond-requires c κs = search needs
+too-great-requires : tie.Need-too-great-requires
+too-great-requires c κs = search needs
 
 returns : tie.Need-returns
 returns c =
@@ -52,20 +52,20 @@ returns c =
     let o = r .before .before in
     let s = o .before in
     let a = s .args in
-    sym (net-bad-one (a .g) (a .direction) (a .place) (a .internal) (sym (asked o) ∙ r .r .given .1) (tested (a .internal) (c .before .beyond .ensures) (s .fits .internal .sfits) (c .if1 .taken)))
+    sym (net-bad-one (a .g) (a .direction) (a .place) (a .internal) (sym (asked o) ∙ r .r .given .1) (tested (a .internal) (c .before .too-great .ensures) (s .fits .internal .sfits) (c .if1 .taken)))
 
 less-requires : tie.Need-less-requires
 less-requires c κs =
     let r = c .before .before .before in
     let o = r .before .before in
     let s = o .before in
-    fine (r .r .given .0 .0) (s .args .internal) (c .before .before .known-told .given .0 .1) (s .fits .internal .sfits) (subst Small (r .r .given .1) (small o)) (tested (s .args .internal) (c .before .beyond .ensures) (s .fits .internal .sfits) (c .if1 .left))
+    fine (r .r .given .0 .0) (s .args .internal) (c .before .before .known-told .given .0 .1) (s .fits .internal .sfits) (subst Small (r .r .given .1) (small o)) (tested (s .args .internal) (c .before .too-great .ensures) (s .fits .internal .sfits) (c .if1 .left))
 
 enum-known-r-2 : tie.Need-enum-known-r-2
 enum-known-r-2 c = search needs
 
-beyond-requires-2 : tie.Need-beyond-requires-2
-beyond-requires-2 c κs = search needs
+too-great-requires-2 : tie.Need-too-great-requires-2
+too-great-requires-2 c κs = search needs
 
 returns-2 : tie.Need-returns-2
 returns-2 c =
@@ -73,14 +73,14 @@ returns-2 c =
     let o = r .before .before in
     let s = o .before in
     let a = s .args in
-    sym (net-bad-two (a .g) (a .direction) (a .place) (a .internal) (sym (asked o) ∙ r .r2 .given .1) (tested (a .internal) (c .before .beyond2 .ensures) (s .fits .internal .sfits) (c .if2 .taken)))
+    sym (net-bad-two (a .g) (a .direction) (a .place) (a .internal) (sym (asked o) ∙ r .r2 .given .1) (tested (a .internal) (c .before .too-great2 .ensures) (s .fits .internal .sfits) (c .if2 .taken)))
 
 less-requires-2 : tie.Need-less-requires-2
 less-requires-2 c κs =
     let r = c .before .before .before in
     let o = r .before .before in
     let s = o .before in
-    fine (r .r2 .given .0 .0) (s .args .internal) (c .before .before .known-told2 .given .0 .1) (s .fits .internal .sfits) (subst Small (r .r2 .given .1) (small o) .0) (tested (s .args .internal) (c .before .beyond2 .ensures) (s .fits .internal .sfits) (c .if2 .left))
+    fine (r .r2 .given .0 .0) (s .args .internal) (c .before .before .known-told2 .given .0 .1) (s .fits .internal .sfits) (subst Small (r .r2 .given .1) (small o) .0) (tested (s .args .internal) (c .before .too-great2 .ensures) (s .fits .internal .sfits) (c .if2 .left))
 
 less-requires-3 : tie.Need-less-requires-3
 less-requires-3 c κs =
@@ -88,7 +88,7 @@ less-requires-3 c κs =
     let r = t .before .before .before in
     let o = r .before .before in
     let s = o .before in
-    fine (r .r2 .given .0 .1 .0) (s .args .internal) (t .before .before .known-told2 .given .1 .0 .1) (s .fits .internal .sfits) (subst Small (r .r2 .given .1) (small o) .1) (tested (s .args .internal) (t .before .beyond2 .ensures) (s .fits .internal .sfits) (t .if2 .left))
+    fine (r .r2 .given .0 .1 .0) (s .args .internal) (t .before .before .known-told2 .given .1 .0 .1) (s .fits .internal .sfits) (subst Small (r .r2 .given .1) (small o) .1) (tested (s .args .internal) (t .before .too-great2 .ensures) (s .fits .internal .sfits) (t .if2 .left))
 
 enum-known-r-3 : tie.Need-enum-known-r-3
 enum-known-r-3 c = search needs
@@ -101,7 +101,7 @@ returns-3 c =
     let s = o .before in
     let a = s .args in
     ap One (taken-off (r .r .given .0 .0) (a .internal) (c .less .result) (t .before .before .known-told .given .0 .1) (s .fits .internal .sfits) (c .less .ok) (c .less .ensures))
-    ∙ sym (net-one (a .g) (a .direction) (a .place) (a .internal) (sym (asked o) ∙ r .r .given .1) (tested (a .internal) (t .before .beyond .ensures) (s .fits .internal .sfits) (t .if1 .left)))
+    ∙ sym (net-one (a .g) (a .direction) (a .place) (a .internal) (sym (asked o) ∙ r .r .given .1) (tested (a .internal) (t .before .too-great .ensures) (s .fits .internal .sfits) (t .if1 .left)))
 
 returns-4 : tie.Need-returns-4
 returns-4 c =
@@ -112,7 +112,7 @@ returns-4 c =
     let a = s .args in
     ap₂ Two (taken-off (r .r2 .given .0 .0) (a .internal) (c .before .less2 .result) (t .before .before .known-told2 .given .0 .1) (s .fits .internal .sfits) (c .before .less2 .ok) (c .before .less2 .ensures))
     (taken-off (r .r2 .given .0 .1 .0) (a .internal) (c .less3 .result) (t .before .before .known-told2 .given .1 .0 .1) (s .fits .internal .sfits) (c .less3 .ok) (c .less3 .ensures))
-    ∙ sym (net-two (a .g) (a .direction) (a .place) (a .internal) (sym (asked o) ∙ r .r2 .given .1) (tested (a .internal) (t .before .beyond2 .ensures) (s .fits .internal .sfits) (t .if2 .left)))
+    ∙ sym (net-two (a .g) (a .direction) (a .place) (a .internal) (sym (asked o) ∙ r .r2 .given .1) (tested (a .internal) (t .before .too-great2 .ensures) (s .fits .internal .sfits) (t .if2 .left)))
 
 returns-5 : tie.Need-returns-5
 returns-5 c =
@@ -127,11 +127,11 @@ net-spec =
     (tie.spec
     outside-requires
     enum-known-r
-    beyond-requires
+    too-great-requires
     returns
     less-requires
     enum-known-r-2
-    beyond-requires-2
+    too-great-requires-2
     returns-2
     less-requires-2
     less-requires-3

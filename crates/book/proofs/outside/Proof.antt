@@ -1,99 +1,69 @@
--- `outside`: the checks in their order.
-use mathlib.Core.Path.{_≡_, sym, ap, ap₂, _∙_}
-use mathlib.Core.Bool.{_||_}
+-- `outside`: what the question came to decides the case, and a question in order is about a building in order.
+use mathlib.Core.Path.{_≡_, sym, ap, _∙_, subst}
 use Prim.Native.Nat.{ℕ}
 use lib.IntN.{ℤ, natAbs}
-use borrow.Author.Tests.{not-true, not-false}
 use borrow.Author.Needs.{needs}
-use Rattle.book.specs.declared.Answer.the-variants.{Refused}
-use Rattle.book.specs.Building.{buildingFault, sizes}
-use Rattle.book.specs.Question.{knows, zoneOn, localOn, coefficientOf}
-use Rattle.book.proofs.Machine.{said}
-use Rattle.book.proofs.Answers.{bad-building, bad-direction, bad-place, answered}
+use Rattle.building.specs.declared.Question.{Question}
+use Rattle.building.specs.Question.{askedOf}
+use Rattle.building.proofs.Machine.{said}
+use Rattle.building.proofs.Judged.{Told, told}
+use Rattle.book.specs.Question.{coefficientOf, answer, outsideOf}
 use Rattle.book.proofs.outside.Statement.{statement}
 use Rattle.book.proofs.outside.Tie as tie
 
-good : (c : tie.Else1) → buildingFault (c .before .before .args .g) ≡ 0
-good c = sym (c .before .building-fault .ensures) ∙ c .if1 .left
+-- what was asked, said of the question
+asked : (c : tie.After-asked) → let a = c .before .args in c .asked .result ≡ askedOf (a .g) (a .direction) (a .place)
+asked c =
+    let s = c .before in
+    said (λ (d : ℤ). askedOf (s .args .g) d (s .args .place)) (s .args .direction) (c .asked .ensures) (s .fits .direction .sfits)
 
--- what the tests answered, said of the question
-direction : (c : tie.After-knows) → let a = c .before .before .before .before .args in c .knows .result ≡ knows (a .g .kind) (a .direction)
-direction c =
-    let s = c .before .before .before .before in
-    said (knows (s .args .g .kind)) (s .args .direction) (c .knows .ensures) (s .fits .direction .sfits)
+asked-requires : tie.Need-asked-requires
+asked-requires c κs = search needs
 
-where-it-is : (c : tie.After-either) → let a = c .before .before .before .before .before .before .before .before .before .before .args in c .either .result ≡ (zoneOn (a .g .kind) (a .place) || localOn (a .g .kind) (a .place))
-where-it-is c =
-    let l = c .before in
-    let z = l .before .before in
-    let a = z .before .before .before .before .before .before .before .args in
-    let told = l .before .struct-told3 .given .1 .1 .1 .1 .0 .1 in
-    c .either .ensures
-    ∙ ap₂ _||_ (said (λ (k : ℤ). zoneOn k (a .place)) (a .g .kind) (z .zone-on .ensures) told) (said (λ (k : ℤ). localOn k (a .place)) (a .g .kind) (l .local-on .ensures) told)
-
-building-fault-requires : tie.Need-building-fault-requires
-building-fault-requires c κs = search needs
-
-returns : tie.Need-returns
-returns c =
-    let a = c .before .before .args in
-    ap (λ (n : ℕ). Refused n 2) (c .before .building-fault .ensures)
-    ∙ sym (bad-building (a .g) (a .direction) (a .place) (λ e. c .if1 .taken (c .before .building-fault .ensures ∙ e)))
-
-knows-requires : tie.Need-knows-requires
-knows-requires c κs = search needs
-
-returns-2 : tie.Need-returns-2
-returns-2 c =
-    let a = c .before .before .before .before .before .args in
-    sym (bad-direction (a .g) (a .direction) (a .place) (good (c .before .before .before)) (sym (direction (c .before)) ∙ not-true _ (c .if2 .taken)))
-
-zone-on-requires : tie.Need-zone-on-requires
-zone-on-requires c κs = search needs
-
-local-on-requires : tie.Need-local-on-requires
-local-on-requires c κs = search needs
-
-either-requires : tie.Need-either-requires
-either-requires c κs = search needs
-
-returns-3 : tie.Need-returns-3
-returns-3 c =
-    let k = c .before .before .before .before .before .before .before in
-    let a = k .before .before .before .before .args in
-    sym (bad-place (a .g) (a .direction) (a .place) (good (k .before .before)) (sym (direction k) ∙ not-false _ (c .before .before .before .before .before .before .if2 .left)) (sym (where-it-is (c .before)) ∙ not-true _ (c .if3 .taken)))
+enum-known-q : tie.Need-enum-known-q
+enum-known-q c = search needs
 
 magnitude-requires : tie.Need-magnitude-requires
 magnitude-requires c κs = search needs
 
 coefficient-requires : tie.Need-coefficient-requires
 coefficient-requires c κs =
-    let t = c .before in
-    let k = t .before .before .before .before .before .before .before in
-    (good (k .before .before), sym (where-it-is (t .before)) ∙ not-false _ (t .if3 .left))
+    let q = c .before .before in
+    let d = q .before .before in
+    let a = d .before .args in
+    let f = subst (Told (a .g) (a .direction) (a .place)) (sym (asked d) ∙ q .q .given .1) (told (a .g) (a .direction) (a .place)) in
+    (f .order, f .roofed)
 
-returns-4 : tie.Need-returns-4
-returns-4 c =
-    let t = c .before .before in
-    let k = t .before .before .before .before .before .before .before in
-    let s = k .before .before .before .before in
+enum-known-q-2 : tie.Need-enum-known-q-2
+enum-known-q-2 c = search needs
+
+returns : tie.Need-returns
+unfolding outsideOf
+returns c =
+    let q = c .before .before .before in
+    let d = q .before .before in
+    let s = d .before in
     let a = s .args in
     c .coefficient .ensures
-    ∙ ap (λ (n : ℕ). coefficientOf (sizes (a .g)) n (a .place)) (said natAbs (a .direction) (c .before .magnitude .ensures) (s .fits .direction .sfits))
-    ∙ sym (answered (a .g) (a .direction) (a .place) (good (k .before .before)) (sym (direction k) ∙ not-false _ (t .before .before .before .before .before .before .if2 .left)) (sym (where-it-is (t .before)) ∙ not-false _ (t .if3 .left)))
+    ∙ ap (λ (n : ℕ). coefficientOf (q .q .given .0 .0) n (a .place)) (said natAbs (a .direction) (c .before .magnitude .ensures) (s .fits .direction .sfits))
+    ∙ ap (λ (q : Question). answer q (natAbs (a .direction)) (a .place)) (sym (q .q .given .1) ∙ asked d)
+
+returns-2 : tie.Need-returns-2
+unfolding outsideOf
+returns-2 c =
+    let q = c .before in
+    let d = q .before .before in
+    let a = d .before .args in
+    ap (λ (q : Question). answer q (natAbs (a .direction)) (a .place)) (sym (q .q2 .given .1) ∙ asked d)
 
 pub outside-spec : {M : Type 1} → statement M
 outside-spec =
     tie.close
     (tie.spec
-    building-fault-requires
-    returns
-    knows-requires
-    returns-2
-    zone-on-requires
-    local-on-requires
-    either-requires
-    returns-3
+    asked-requires
+    enum-known-q
     magnitude-requires
     coefficient-requires
-    returns-4)
+    enum-known-q-2
+    returns
+    returns-2)

@@ -1,7 +1,4 @@
 -- `question::gable_column`: by the definition's own tests.
-use mathlib.Core.Path.{sym, _∙_}
-use borrow.Author.Needs.{needs}
-use borrow.Author.Tests.{ne-eqb}
 use Rattle.whole.proofs.Tests.{tests}
 use Rattle.book.specs.Question.{gableColumn}
 use Rattle.book.proofs.question.gable_column.Statement.{statement}
@@ -15,20 +12,17 @@ returns-2 : tie.Need-returns-2
 unfolding gableColumn
 returns-2 c = search tests
 
-either-requires : tie.Need-either-requires
-either-requires c κs = search needs
-
 returns-3 : tie.Need-returns-3
 unfolding gableColumn
-returns-3 c =
-    let s = c .before .before in
-    rw (ne-eqb (s .before .args .wind) 0 (s .if1 .left), sym (c .before .either .ensures) ∙ c .if3 .taken)
+returns-3 c = search tests
 
 returns-4 : tie.Need-returns-4
 unfolding gableColumn
-returns-4 c =
-    let s = c .before .before in
-    rw (ne-eqb (s .before .args .wind) 0 (s .if1 .left), sym (c .before .either .ensures) ∙ c .if3 .left)
+returns-4 c = search tests
+
+returns-5 : tie.Need-returns-5
+unfolding gableColumn
+returns-5 c = search tests
 
 pub gable-column-spec : {M : Type 1} → statement M
-gable-column-spec = tie.close (tie.spec returns returns-2 either-requires returns-3 returns-4)
+gable-column-spec = tie.close (tie.spec returns returns-2 returns-3 returns-4 returns-5)

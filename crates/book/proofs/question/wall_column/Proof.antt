@@ -2,7 +2,7 @@
 use borrow.Author.Needs.{needs}
 use Rattle.whole.proofs.Tests.{tests}
 use Rattle.book.specs.Question.{wallColumn}
-use Rattle.book.proofs.Places.{wall-letter}
+use Rattle.book.proofs.Columns.{wall-letter}
 use Rattle.book.proofs.question.wall_column.Statement.{statement}
 use Rattle.book.proofs.question.wall_column.Tie as tie
 

@@ -1,5 +1,5 @@
 -- `roofs::cell`: the code's cells are the printed tables'.
-use Rattle.book.specs.Roof.{roofCells}
+use Rattle.book.specs.Roofs.{roofCells}
 use borrow.Author.Needs.{needs}
 use Rattle.book.proofs.roofs.cell.Statement.{statement}
 use Rattle.book.proofs.roofs.cell.Tie as tie

@@ -8,7 +8,7 @@ use lib.Dec.{leb, leb→le}
 use lib.ListN.{length, getD, take, drop}
 use Rattle.whole.proofs.Table.{all-at}
 use Rattle.book.specs.Line.{spotFrom}
-use Rattle.book.specs.Roof.{partAts, spotIn}
+use Rattle.book.specs.Roofs.{partAts, spotIn}
 use Rattle.book.proofs.Tables.{ats, Part, part}
 use Rattle.book.proofs.roofs.spot_in.Statement.{statement}
 use Rattle.book.proofs.roofs.spot_in.Tie as tie

@@ -1,8 +1,8 @@
 -- `own_fault` meets its contract.
 use mathlib.Core.Path.{_∙_, ap, ap₂}
 use mir.Facts.{toZ-ofZ}
-use Rattle.book.specs.Building.{buildingFault}
-use Rattle.book.specs.Question.{zoneOn}
+use Rattle.building.specs.Building.{buildingFault}
+use Rattle.building.specs.Places.{zoneOn}
 use Rattle.entry.specs.declared.Face.{Face}
 use Rattle.job.specs.Rules.{unless}
 use borrow.Author.Needs.{needs, sfits-of}

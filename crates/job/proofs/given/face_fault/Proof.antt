@@ -2,7 +2,7 @@
 use mathlib.Core.Path.{_∙_, sym, ap}
 use lib.IntN.{ℤ}
 use mir.Facts.{toZ-ofZ}
-use Rattle.book.specs.Question.{zoneOn}
+use Rattle.building.specs.Places.{zoneOn}
 use Rattle.job.specs.declared.Section.the-variants.{F}
 use Rattle.job.specs.declared.Kind.the-variants.{Entry}
 use Rattle.job.specs.Rules.{unless}

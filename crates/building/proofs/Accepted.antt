@@ -1,0 +1,146 @@
+-- A building in order: each number within its range, and within the tables' limits. And what each fault says.
+use mathlib.Core.Path.{_≡_, refl}
+use mathlib.Core.Bool.{Bool, true, false, cond, not, true≢false}
+use Prim.Native.Nat.{ℕ, suc, _*_, _≤_, _<_}
+use native.Mathlib.Omega.{arith}
+use lib.IntN.{ℤ, pos, negsuc, natAbs}
+use lib.Dec.{ltb}
+use borrow.Author.Tests.{not-false, ltb-true, ltb-false, leb-true}
+use Rattle.whole.proofs.Tests.{or-false}
+use Rattle.building.specs.declared.Building.{Building}
+use Rattle.building.specs.declared.Sizes.{Sizes}
+use Rattle.building.specs.Test.{beyond}
+use Rattle.building.specs.Ratio.{_÷_, upTo}
+use Rattle.building.specs.Roof.{roofOf}
+use Rattle.building.specs.Order.{Ranged, InOrder}
+use Rattle.building.specs.Building.{begun, outOfForm, outOfRange, outOfWalls, outOfRoof, sizes, buildingFault}
+use Rattle.building.proofs.Roofs.{along-most, across-range}
+
+-- ---- each number in its range
+
+pub record Within (least greatest : ℕ) (z : ℤ) : Type 0 where
+  pub from : least ≤ natAbs z
+  pub to : natAbs z ≤ greatest
+  pub plain : pos (natAbs z) ≡ z
+
+pub within : (least greatest : ℕ) (z : ℤ) → beyond (pos least) (pos greatest) z ≡ false → Within least greatest z
+unfolding beyond
+within least greatest (pos n) e =
+    let b = or-false (ltb n least) (ltb greatest n) e in
+    record { from = ltb-false n least (b .0); to = ltb-false greatest n (b .1); plain = refl }
+within least greatest (negsuc n) e = absurd (true≢false e)
+
+-- the building's line, number by number
+pub record Fields (g : Building) : Type 0 where
+  pub h : Within 100 30000 (g .h)
+  pub a : Within 100 30000 (g .a)
+  pub b : Within 100 30000 (g .b)
+  pub density : Within 1000 1500 (g .density)
+  pub kind : Within 0 5 (g .kind)
+  pub x : Within 0 30000 (g .x)
+
+pub fields : (g : Building) → outOfRange g ≡ false → Fields g
+unfolding outOfRange
+fields g e =
+    let r₁ = or-false (beyond (pos 100) (pos 30000) (g .h)) _ e in
+    let r₂ = or-false (beyond (pos 100) (pos 30000) (g .a)) _ (r₁ .1) in
+    let r₃ = or-false (beyond (pos 100) (pos 30000) (g .b)) _ (r₂ .1) in
+    let r₄ = or-false (beyond (pos 1000) (pos 1500) (g .density)) _ (r₃ .1) in
+    let r₅ = or-false (beyond (pos 0) (pos 5) (g .kind)) _ (r₄ .1) in
+    let r₆ = or-false (beyond (pos 0) (pos 30000) (g .x)) false (r₅ .1) in
+    record {
+      h = within 100 30000 (g .h) (r₁ .0);
+      a = within 100 30000 (g .a) (r₂ .0);
+      b = within 100 30000 (g .b) (r₃ .0);
+      density = within 1000 1500 (g .density) (r₄ .0);
+      kind = within 0 5 (g .kind) (r₅ .0);
+      x = within 0 30000 (g .x) (r₆ .0);
+    }
+
+pub ranged : {g : Building} → Fields g → Ranged (sizes g)
+ranged {g} f =
+    let across = across-range (natAbs (g .kind)) (natAbs (g .h)) (f .h .from) (f .h .to) in
+    record {
+      h-least = f .h .from;
+      h-most = f .h .to;
+      a-least = f .a .from;
+      a-most = f .a .to;
+      b-least = f .b .from;
+      b-most = f .b .to;
+      kind-most = f .kind .to;
+      along-most = along-most (natAbs (g .kind)) (natAbs (g .x)) (f .x .to);
+      across-least = across .0;
+      across-most = across .1;
+    }
+
+-- ---- the walls' limits and the roof's
+
+pub in-walls : (s : Sizes) → outOfWalls s ≡ false → (s .h ≤ 6 * s .b) × (s .b < s .a) × (s .a ≤ 4 * s .b)
+unfolding outOfWalls
+in-walls s e =
+    let r₁ = or-false (not (upTo (s .h) (s .b) (6 ÷ 1))) _ e in
+    let r₂ = or-false (not (begun (s .a) (s .b))) (not (upTo (s .a) (s .b) (4 ÷ 1))) (r₁ .1) in
+    let k₁ = leb-true (1 * s .h) (6 * s .b) (not-false _ (r₁ .0)) in
+    let k₂ = ltb-true (s .b) (s .a) (not-false _ (r₂ .0)) in
+    let k₃ = leb-true (1 * s .a) (4 * s .b) (not-false _ (r₂ .1)) in
+    (omega arith, omega arith, omega arith)
+
+pub in-roof : (s : Sizes) → outOfRoof s ≡ false → (roofOf (s .kind) .least * s .across ≤ s .along) × (s .along ≤ roofOf (s .kind) .greatest * s .across)
+unfolding outOfRoof
+in-roof s e =
+    let least = roofOf (s .kind) .least * s .across in
+    let greatest = roofOf (s .kind) .greatest * s .across in
+    let r = or-false (ltb (s .along) least) (ltb greatest (s .along)) e in
+    (ltb-false (s .along) least (r .0), ltb-false greatest (s .along) (r .1))
+
+pub orderly : (g : Building) → Fields g → outOfWalls (sizes g) ≡ false → outOfRoof (sizes g) ≡ false → InOrder (sizes g)
+orderly g f e d =
+    let w = in-walls (sizes g) e in
+    let r = in-roof (sizes g) d in
+    record { ranged = ranged f; h-over-b = w .0; a-above-b = w .1; a-over-b = w .2; x-from = r .0; x-to = r .1 }
+
+-- ---- a line without a fault has passed every test
+
+passed : (t : Bool) (n m : ℕ) → cond t (suc n) m ≡ 0 → (t ≡ false) × (m ≡ 0)
+passed true n m e = absurd (omega arith)
+passed false n m e = (refl, e)
+
+module _ (g : Building) (good : buildingFault g ≡ 0) where
+  passes : (outOfForm g ≡ false) × (outOfRange g ≡ false) × (outOfWalls (sizes g) ≡ false) × (outOfRoof (sizes g) ≡ false)
+  unfolding buildingFault
+  passes =
+      let r₁ = passed (outOfForm g) 0 _ good in
+      let r₂ = passed (outOfRange g) 2 _ (r₁ .1) in
+      let r₃ = passed (outOfWalls (sizes g)) 3 _ (r₂ .1) in
+      let r₄ = passed (outOfRoof (sizes g)) 4 0 (r₃ .1) in
+      (r₁ .0, r₂ .0, r₃ .0, r₄ .0)
+
+  pub in-range : outOfRange g ≡ false
+  in-range = passes .1
+
+  pub good-fields : Fields g
+  good-fields = fields g in-range
+
+  pub in-order : InOrder (sizes g)
+  in-order = orderly g good-fields (passes .2) (passes .3)
+
+-- ---- and a fault has failed its test, having passed those before
+
+-- what each number says of the building
+pub data Why (g : Building) : ℕ → Type 0 where
+  in-form-and-order : Fields g → InOrder (sizes g) → Why g 0
+  a-number-too-long : outOfForm g ≡ true → Why g 1
+  a-number-out-of-range : outOfForm g ≡ false → outOfRange g ≡ true → Why g 3
+  outside-the-wall-table : Fields g → outOfWalls (sizes g) ≡ true → Why g 4
+  outside-the-roof's-range : Fields g → outOfWalls (sizes g) ≡ false → outOfRoof (sizes g) ≡ true → Why g 5
+
+pub why : (g : Building) → Why g (buildingFault g)
+unfolding buildingFault
+why g = go (outOfForm g) (outOfRange g) (outOfWalls (sizes g)) (outOfRoof (sizes g)) refl refl refl refl
+  where
+    go : (t u v w : Bool) → outOfForm g ≡ t → outOfRange g ≡ u → outOfWalls (sizes g) ≡ v → outOfRoof (sizes g) ≡ w → Why g (cond t 1 (cond u 3 (cond v 4 (cond w 5 0))))
+    go true u v w p q r s = a-number-too-long p
+    go false true v w p q r s = a-number-out-of-range p q
+    go false false true w p q r s = outside-the-wall-table (fields g q) r
+    go false false false true p q r s = outside-the-roof's-range (fields g q) r s
+    go false false false false p q r s = in-form-and-order (fields g q) (orderly g (fields g q) r s)

@@ -1,0 +1,20 @@
+-- `faults::along`: by the definition's own test.
+use mathlib.Core.Path.{sym, _∙_}
+use borrow.Author.Needs.{needs}
+use Rattle.building.proofs.faults.along.Statement.{statement}
+use Rattle.building.proofs.faults.along.Tie as tie
+
+by-height-requires : tie.Need-by-height-requires
+by-height-requires c κs = search needs
+
+mul-result : tie.Need-mul-result
+mul-result c = search needs
+
+returns : tie.Need-returns
+returns c = let t = c in rw (sym (t .before .by-height .ensures) ∙ t .if1 .taken)
+
+returns-2 : tie.Need-returns-2
+returns-2 c = rw (sym (c .before .by-height .ensures) ∙ c .if1 .left)
+
+pub along-spec : {M : Type 1} → statement M
+along-spec = tie.close (tie.spec by-height-requires mul-result returns returns-2)

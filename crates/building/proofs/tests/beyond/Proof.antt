@@ -1,0 +1,22 @@
+-- `tests::beyond`: the three numbers are read back as they are.
+use mathlib.Core.Path.{ap₂, _∙_}
+use mathlib.Core.Bool.{_||_}
+use lib.Signed.{ltZ}
+use borrow.Author.Needs.{needs}
+use Rattle.building.specs.Test.{beyond}
+use Rattle.building.proofs.Machine.{plain}
+use Rattle.building.proofs.tests.beyond.Statement.{statement}
+use Rattle.building.proofs.tests.beyond.Tie as tie
+
+either-requires : tie.Need-either-requires
+either-requires c κs = search needs
+
+returns : tie.Need-returns
+unfolding beyond
+returns c =
+    let s = c .before in
+    let e = plain (s .args .z) (s .fits .z .sfits) in
+    c .either .ensures ∙ ap₂ _||_ (ap₂ ltZ e (plain (s .args .least) (s .fits .least .sfits))) (ap₂ ltZ (plain (s .args .greatest) (s .fits .greatest .sfits)) e)
+
+pub beyond-spec : {M : Type 1} → statement M
+beyond-spec = tie.close (tie.spec either-requires returns)

@@ -1,0 +1,69 @@
+-- `zone_on`: the definition's tests, put together as it puts them.
+use mathlib.Core.Path.{ap₂, _∙_}
+use mathlib.Core.Bool.{_&&_, _||_}
+use borrow.Author.Needs.{needs}
+use Rattle.building.specs.Places.{gable, flat, zoneOn}
+use Rattle.building.proofs.Machine.{said}
+use Rattle.building.proofs.zone_on.Statement.{statement}
+use Rattle.building.proofs.zone_on.Tie as tie
+
+among-requires : tie.Need-among-requires
+among-requires c κs = search needs
+
+gable-requires : tie.Need-gable-requires
+gable-requires c κs = search needs
+
+among-requires-2 : tie.Need-among-requires-2
+among-requires-2 c κs = search needs
+
+both-requires : tie.Need-both-requires
+both-requires c κs = search needs
+
+flat-requires : tie.Need-flat-requires
+flat-requires c κs = search needs
+
+among-requires-3 : tie.Need-among-requires-3
+among-requires-3 c κs = search needs
+
+both-requires-2 : tie.Need-both-requires-2
+both-requires-2 c κs = search needs
+
+either-requires : tie.Need-either-requires
+either-requires c κs = search needs
+
+either-requires-2 : tie.Need-either-requires-2
+either-requires-2 c κs = search needs
+
+returns : tie.Need-returns
+unfolding zoneOn
+returns c =
+    let c₂ = c .before .before in
+    let c₃ = c₂ .before in
+    let c₄ = c₃ .before in
+    let c₅ = c₄ .before in
+    let c₆ = c₅ .before in
+    let c₇ = c₆ .before in
+    let c₈ = c₇ .before in
+    let s = c₈ .before in
+    let k = s .args .kind in
+    let f = s .fits .kind .sfits in
+    c .either2 .ensures
+    ∙ ap₂ _||_ (c₈ .among .ensures)
+    (c .before .either .ensures
+    ∙ ap₂ _||_ (c₅ .both .ensures ∙ ap₂ _&&_ (said gable k (c₇ .gable .ensures) f) (c₆ .among2 .ensures))
+    (c₂ .both2 .ensures ∙ ap₂ _&&_ (said flat k (c₄ .flat .ensures) f) (c₃ .among3 .ensures)))
+
+pub zone-on-spec : {M : Type 1} → statement M
+zone-on-spec =
+    tie.close
+    (tie.spec
+    among-requires
+    gable-requires
+    among-requires-2
+    both-requires
+    flat-requires
+    among-requires-3
+    both-requires-2
+    either-requires
+    either-requires-2
+    returns)

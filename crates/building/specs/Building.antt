@@ -1,0 +1,97 @@
+-- The building's line, h a b density kind x, and its faults, the lowest number first.
+use mathlib.Core.Bool.{Bool, false, cond, not, _||_}
+use mathlib.Core.List.{List, [], _∷_}
+use Prim.Native.Nat.{ℕ, _*_}
+use lib.IntN.{ℤ, pos, natAbs}
+use lib.Dec.{ltb}
+use Rattle.building.specs.declared.Building.{Building}
+use Rattle.building.specs.declared.Sizes.{Sizes}
+use Rattle.building.specs.Test.{beyond}
+use Rattle.building.specs.Ratio.{_÷_, upTo}
+use Rattle.building.specs.Roof.{roofOf, alongOf, acrossOf}
+
+-- ---- 1 and 3: each number by itself
+
+pub record Field : Type 0 where
+  pub number : ℤ
+  pub least : ℕ
+  pub greatest : ℕ
+
+abbrev pub field : ℤ → ℕ → ℕ → Field
+field number least greatest = record { number = number; least = least; greatest = greatest }
+
+-- the line's numbers and their ranges
+abbrev pub fields : Building → List Field
+fields g =
+    field (g .h) 100 30000
+    ∷ field (g .a) 100 30000
+    ∷ field (g .b) 100 30000
+    ∷ field (g .density) 1000 1500
+    ∷ field (g .kind) 0 5
+    ∷ field (g .x) 0 30000
+    ∷ []
+
+-- more than 7 digits, which no sheet carries
+unfoldable pub tooLong : ℤ → Bool
+tooLong z = ltb 9999999 (natAbs z)
+
+abbrev pub some : (Field → Bool) → List Field → Bool
+some f [] = false
+some f (r ∷ rs) = f r || some f rs
+
+unfoldable pub outOfForm : Building → Bool
+outOfForm g = some (λ r. tooLong (r .number)) (fields g)
+
+unfoldable pub outOfRange : Building → Bool
+outOfRange g = some (λ r. beyond (pos (r .least)) (pos (r .greatest)) (r .number)) (fields g)
+
+-- ---- 4 and 5: the numbers together, once each is in its range
+
+-- what the tables ask for: lengths, the roof's kind, and x as along/across
+abbrev pub sizes : Building → Sizes
+sizes g =
+    record {
+      h = natAbs (g .h);
+      a = natAbs (g .a);
+      b = natAbs (g .b);
+      kind = natAbs (g .kind);
+      along = alongOf (natAbs (g .kind)) (natAbs (g .x));
+      across = acrossOf (natAbs (g .kind)) (natAbs (g .h));
+    }
+
+-- the walls' table begins just over a/b = 1
+abbrev pub begun : ℕ → ℕ → Bool
+begun a b = ltb b a
+
+-- h/b over 6, a/b before the table begins, a/b over 4
+unfoldable pub outOfWalls : Sizes → Bool
+outOfWalls s = not (upTo (s .h) (s .b) (6 ÷ 1)) || (not (begun (s .a) (s .b)) || not (upTo (s .a) (s .b) (4 ÷ 1)))
+
+-- x below the least of its roof, or above the greatest
+unfoldable pub outOfRoof : Sizes → Bool
+outOfRoof s = ltb (s .along) (roofOf (s .kind) .least * s .across) || ltb (roofOf (s .kind) .greatest * s .across) (s .along)
+
+-- ---- the faults in their order
+
+pub record Fault : Type 0 where
+  pub number : ℕ
+  pub found : Bool
+
+abbrev pub fault : ℕ → Bool → Fault
+fault number found = record { number = number; found = found }
+
+abbrev pub faults : Building → List Fault
+faults g =
+    fault 1 (outOfForm g)
+    ∷ fault 3 (outOfRange g)
+    ∷ fault 4 (outOfWalls (sizes g))
+    ∷ fault 5 (outOfRoof (sizes g))
+    ∷ []
+
+abbrev pub first : List Fault → ℕ
+first [] = 0
+first (f ∷ fs) = cond (f .found) (f .number) (first fs)
+
+-- the number that the building's line gets, 0 where it is in order
+unfoldable pub buildingFault : Building → ℕ
+buildingFault g = first (faults g)

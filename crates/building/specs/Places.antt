@@ -1,0 +1,57 @@
+-- Zones and locals by their bytes, and the directions: which of them a roof of a kind has.
+use mathlib.Core.Bool.{Bool, _&&_, _||_}
+use Prim.Native.Nat.{ℕ}
+use lib.IntN.{ℤ, pos}
+use lib.Dec.{eqb}
+use Rattle.building.specs.Test.{among, is, within}
+
+abbrev pub A : ℕ
+A = 65
+
+abbrev pub D : ℕ
+D = 68
+
+abbrev pub E : ℕ
+E = 69
+
+abbrev pub F : ℕ
+F = 70
+
+abbrev pub G : ℕ
+G = 71
+
+abbrev pub H : ℕ
+H = 72
+
+-- the locals: the wall's `w`, and L1 and L2 as `1` and `2`
+abbrev pub wallLocal : ℕ
+wallLocal = 119
+
+abbrev pub L1 : ℕ
+L1 = 49
+
+abbrev pub L2 : ℕ
+L2 = 50
+
+-- kind 1 is a gable, kinds 2 to 5 are flat
+abbrev pub gable : ℤ → Bool
+gable kind = is 1 kind
+
+abbrev pub flat : ℤ → Bool
+flat kind = within (pos 2) (pos 5) kind
+
+-- A to D exist always, E to H on gables, E and F on flat roofs
+unfoldable pub zoneOn : ℤ → ℕ → Bool
+zoneOn kind zone = among A D zone || (gable kind && among E H zone || flat kind && among E F zone)
+
+-- the wall's always; L1, L2 on flat roofs
+unfoldable pub localOn : ℤ → ℕ → Bool
+localOn kind place = eqb place wallLocal || flat kind && (eqb place L1 || eqb place L2)
+
+-- the directions that a roof of this kind knows
+abbrev pub knows : ℤ → ℤ → Bool
+knows kind direction = is 0 direction || is 90 direction
+
+-- A to D, and the wall's local
+abbrev pub wallPlace : ℕ → Bool
+wallPlace place = among A D place || eqb place wallLocal

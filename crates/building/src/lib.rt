@@ -1,0 +1,85 @@
+// A building: what is wrong with its numbers, which zones its roof has, and a question about one place of it, judged.
+ghost use mathlib.Core.Path.{_≡_};
+ghost use Rattle.building.specs.Building.{buildingFault};
+ghost use Rattle.building.specs.Places.{zoneOn};
+ghost use Rattle.building.specs.Question.{askedOf};
+
+mod faults;
+mod kinds;
+mod tests;
+
+// The numbers of a building's line: cm, g/m³, the roof's kind and number. 64 bits, so that no number of a host program is cut.
+pub struct Building {
+    pub h: i64,
+    pub a: i64,
+    pub b: i64,
+    pub density: i64,
+    pub kind: i64,
+    pub x: i64,
+}
+
+// What of a building the tables ask for, without signs. Along over across is compared with the rows of its roof's table.
+pub struct Sizes {
+    pub h: u64,
+    pub a: u64,
+    pub b: u64,
+    pub kind: u64,
+    pub along: u64,
+    pub across: u64,
+}
+
+// A question in order is one about these sizes; or the refusal's number and line.
+pub enum Question {
+    Of(Sizes),
+    Refused(u32, u32),
+}
+
+// The number that the building's line gets: 0 where it is in order.
+pub fn building_fault(g: Building) -> u32
+    ensures { λ r. ⌜ r ≡ buildingFault g ⌝ }
+{
+    if faults::out_of_form(g) {
+        return 1;
+    }
+    if faults::out_of_range(g) {
+        return 3;
+    }
+    let s = faults::sizes_of(g);
+    if faults::out_of_walls(s) {
+        return 4;
+    }
+    if faults::out_of_roof(s) {
+        return 5;
+    }
+    0
+}
+
+// Whether a roof of this kind has the zone.
+pub fn zone_on(kind: i64, zone: u8) -> bool
+    ensures { λ r. ⌜ r ≡ zoneOn kind zone ⌝ }
+{
+    tests::either(
+        tests::among(b'A', b'D', zone),
+        tests::either(
+            tests::both(kinds::gable(kind), tests::among(b'E', b'H', zone)),
+            tests::both(kinds::flat(kind), tests::among(b'E', b'F', zone)),
+        ),
+    )
+}
+
+// A question about one zone or local under a wind's direction.
+pub fn asked(g: Building, direction: i64, place: u8) -> Question
+    ensures { λ r. ⌜ r ≡ askedOf g direction place ⌝ }
+{
+    let n = building_fault(g);
+    if n != 0 {
+        return Question::Refused(n, 2);
+    }
+    if !kinds::knows(g.kind, direction) {
+        return Question::Refused(3, 0);
+    }
+    if !tests::either(zone_on(g.kind, place), kinds::local_on(g.kind, place)) {
+        return Question::Refused(6, 0);
+    }
+    Question::Of(faults::sizes_of(g))
+}

@@ -1,0 +1,46 @@
+// Tests of numbers, and how two of them are put together.
+ghost use mathlib.Core.Path.{_≡_};
+ghost use mathlib.Core.Bool.{_&&_, _||_};
+ghost use Rattle.building.specs.Test as test;
+
+pub(crate) fn both(a: bool, b: bool) -> bool
+    ensures { λ r. ⌜ r ≡ (a && b) ⌝ }
+{
+    if a {
+        return b;
+    }
+    false
+}
+
+pub(crate) fn either(a: bool, b: bool) -> bool
+    ensures { λ r. ⌜ r ≡ (a || b) ⌝ }
+{
+    if a {
+        return true;
+    }
+    b
+}
+
+// A byte from one to another, both included.
+pub(crate) fn among(least: u8, greatest: u8, n: u8) -> bool
+    ensures { λ r. ⌜ r ≡ test.among least greatest n ⌝ }
+{
+    both(least <= n, n <= greatest)
+}
+
+// A signed number is n.
+pub(crate) fn is(n: u64, z: i64) -> bool
+    ensures { λ r. ⌜ r ≡ test.is n z ⌝ }
+{
+    if z < 0 {
+        return false;
+    }
+    whole::magnitude(z) == n
+}
+
+// Below the least number of a range, or above its greatest.
+pub(crate) fn beyond(least: i64, greatest: i64, z: i64) -> bool
+    ensures { λ r. ⌜ r ≡ test.beyond least greatest z ⌝ }
+{
+    either(z < least, greatest < z)
+}
