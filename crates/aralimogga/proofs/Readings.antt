@@ -11,8 +11,8 @@ use Rattle.sheet.specs.Sheet.{reading, answer, jobWriting, jobBuffer}
 use Rattle.worst.specs.declared.Reckoning.{Reckoning}
 use Rattle.worst.specs.Worst.{reckoned, worstOf}
 use Rattle.report.proofs.Reports.{totals-accepted}
-use Rattle.aralimogga.specs.declared.answers.Text.{Text}
-use Rattle.aralimogga.specs.Answers.{answerOf, noText, textOf, noExtreme, lineOf, totalOf}
+use Rattle.answers.specs.declared.Text.{Text}
+use Rattle.answers.specs.Answers.{answerOf, noText, textOf, noExtreme, lineOf, totalOf}
 
 answer-told : (x : Reading) → record { number = answer x .number; line = answer x .line } ≡ answerOf x
 answer-told (Accepted c) = refl

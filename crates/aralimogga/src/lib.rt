@@ -9,9 +9,7 @@ ghost use Rattle.panel.specs.Bracket.{panelOf};
 ghost use Rattle.panel.specs.Chart.{pointOf};
 ghost use Rattle.sheet.specs.Sheet.{reading, sheetText, jobWriting, jobBuffer};
 ghost use Rattle.report.specs.Report.{reportText};
-ghost use Rattle.aralimogga.specs.Answers.{answerOf, textOf, coefficientOf, doubleOf, totalOf};
-
-mod answers;
+ghost use Rattle.answers.specs.Answers.{answerOf, textOf, coefficientOf, doubleOf, totalOf};
 
 // ---- about a sheet
 

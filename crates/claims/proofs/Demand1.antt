@@ -22,7 +22,7 @@ use Rattle.sheet.specs.Sheet.{reading, answer, sheetText, jobWriting, jobBuffer
 use Rattle.sheet.proofs.RoundTrip.{reading-answers}
 use Rattle.worst.specs.Worst.{noSix, reckoned, worstOf}
 use Rattle.report.specs.Report.{reportText, totalsText}
-use Rattle.aralimogga.specs.Answers.{noText, textOf, noExtreme, totalOf}
+use Rattle.answers.specs.Answers.{noText, textOf, noExtreme, totalOf}
 use Rattle.claims.specs.Answers.{AsksNothing, RefusedUnchanged, IsRefused}
 use Rattle.text.proofs.page.emit.Reads as emit
 use Rattle.text.proofs.numeral.write_decimal.Reads as write-decimal

@@ -42,6 +42,12 @@ use Rattle.report.proofs.write_report.Reads as write-report
 use Rattle.report.proofs.write_totals.Reads as write-totals
 use Rattle.panel.proofs.panel_of.Reads as panel-of
 use Rattle.panel.proofs.chart.Reads as chart
+use Rattle.answers.proofs.no_text.Reads as no-text
+use Rattle.answers.proofs.text_of.Reads as text-of
+use Rattle.answers.proofs.coefficient_of.Reads as coefficient-of
+use Rattle.answers.proofs.double_of.Reads as double-of
+use Rattle.answers.proofs.no_extreme.Reads as no-extreme
+use Rattle.answers.proofs.line_of.Reads as line-of
 use Rattle.aralimogga.proofs.aral_read.Reads as aral-read
 use Rattle.aralimogga.proofs.aral_rewrite.Reads as aral-rewrite
 use Rattle.aralimogga.proofs.aral_report.Reads as aral-report
@@ -190,6 +196,26 @@ panel-of-determined κ a r r′ s s′ p q = same p q
 
 chart-determined : OneAnswer chart.Post
 chart-determined κ a r r′ s s′ p q = same p q
+
+-- ---- answers
+
+no-text-determined : OneAnswer no-text.Post
+no-text-determined κ a r r′ s s′ p q = same p q
+
+text-of-determined : OneAnswer text-of.Post
+text-of-determined κ a r r′ s s′ p q = same p q
+
+coefficient-of-determined : OneAnswer coefficient-of.Post
+coefficient-of-determined κ a r r′ s s′ p q = same p q
+
+double-of-determined : OneAnswer double-of.Post
+double-of-determined κ a r r′ s s′ p q = same p q
+
+no-extreme-determined : OneAnswer no-extreme.Post
+no-extreme-determined κ a r r′ s s′ p q = same p q
+
+line-of-determined : OneAnswer line-of.Post
+line-of-determined κ a r r′ s s′ p q = same p q
 
 -- ---- aralimogga
 

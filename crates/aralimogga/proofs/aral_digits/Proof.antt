@@ -1,7 +1,7 @@
 -- `aral_digits`: the number is read back as it is.
 use mathlib.Core.Path.{_∙_, ap}
 use Rattle.whole.proofs.Size.{param}
-use Rattle.aralimogga.specs.Answers.{textOf}
+use Rattle.answers.specs.Answers.{textOf}
 use borrow.Author.Needs.{needs}
 use Rattle.aralimogga.proofs.aral_digits.Statement.{statement}
 use Rattle.aralimogga.proofs.aral_digits.Tie as tie

@@ -1,7 +1,7 @@
 -- `aral_outside`: each number is read back as it is.
 use mathlib.Core.Path.{ap, _∙_}
 use Rattle.whole.proofs.Size.{param}
-use Rattle.aralimogga.specs.Answers.{coefficientOf}
+use Rattle.answers.specs.Answers.{coefficientOf}
 use borrow.Author.Needs.{needs}
 use Rattle.aralimogga.proofs.aral_outside.Statement.{statement}
 use Rattle.aralimogga.proofs.aral_outside.Tie as tie

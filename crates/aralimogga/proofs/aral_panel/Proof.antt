@@ -2,7 +2,7 @@
 use mathlib.Core.Path.{ap, _∙_}
 use Rattle.whole.proofs.Size.{param}
 use Rattle.panel.specs.Bracket.{panelOf}
-use Rattle.aralimogga.specs.Answers.{doubleOf}
+use Rattle.answers.specs.Answers.{doubleOf}
 use borrow.Author.Needs.{needs}
 use Rattle.aralimogga.proofs.aral_panel.Statement.{statement}
 use Rattle.aralimogga.proofs.aral_panel.Tie as tie

@@ -2,7 +2,7 @@
 use denote.Ref.{now}
 use mathlib.Core.Path.{_∙_, ap}
 use Rattle.whole.proofs.Size.{param}
-use Rattle.aralimogga.specs.Answers.{lineOf}
+use Rattle.answers.specs.Answers.{lineOf}
 use Rattle.aralimogga.proofs.Readings.{total-refused, total-accepted}
 use borrow.Author.Needs.{needs}
 use Rattle.aralimogga.proofs.aral_total.Statement.{statement}

@@ -1,9 +1,9 @@
--- `answers::double_of`: each arm is a clause of `doubleOf`.
+-- `double_of`: each arm is a clause of `doubleOf`.
 use mathlib.Core.Path.{sym, ap}
-use Rattle.aralimogga.specs.Answers.{doubleOf}
+use Rattle.answers.specs.Answers.{doubleOf}
 use borrow.Author.Needs.{needs}
-use Rattle.aralimogga.proofs.answers.double_of.Statement.{statement}
-use Rattle.aralimogga.proofs.answers.double_of.Tie as tie
+use Rattle.answers.proofs.double_of.Statement.{statement}
+use Rattle.answers.proofs.double_of.Tie as tie
 
 enum-known-p : tie.Need-enum-known-p
 enum-known-p c = search needs

@@ -1,12 +1,12 @@
--- `answers::coefficient_of`: each arm is a clause of `coefficientOf`, and a value is read back as it is.
+-- `coefficient_of`: each arm is a clause of `coefficientOf`, and a value is read back as it is.
 use mathlib.Core.Path.{sym, ap, ap₂, _∙_}
 use mir.Syntax.{w32}
 use Rattle.whole.proofs.Size.{returned}
 use Rattle.book.specs.declared.Answer.the-variants.{One, Two}
-use Rattle.aralimogga.specs.Answers.{coefficientOf}
+use Rattle.answers.specs.Answers.{coefficientOf}
 use borrow.Author.Needs.{needs}
-use Rattle.aralimogga.proofs.answers.coefficient_of.Statement.{statement}
-use Rattle.aralimogga.proofs.answers.coefficient_of.Tie as tie
+use Rattle.answers.proofs.coefficient_of.Statement.{statement}
+use Rattle.answers.proofs.coefficient_of.Tie as tie
 
 enum-known-a : tie.Need-enum-known-a
 enum-known-a c = search needs

@@ -15,11 +15,11 @@ use Rattle.job.specs.Walk.{Reading, Accepted, Refused}
 use Rattle.worst.specs.declared.Extreme as worst
 use Rattle.worst.specs.declared.Six.{Six}
 use Rattle.worst.specs.Worst.{sixExtremes}
-use Rattle.aralimogga.specs.declared.answers.Answer.{Answer}
-use Rattle.aralimogga.specs.declared.answers.Text.{Text}
-use Rattle.aralimogga.specs.declared.answers.Coefficient.{Coefficient}
-use Rattle.aralimogga.specs.declared.answers.Extreme.{Extreme}
-use Rattle.aralimogga.specs.declared.answers.Double.{Double}
+use Rattle.answers.specs.declared.Answer.{Answer}
+use Rattle.answers.specs.declared.Text.{Text}
+use Rattle.answers.specs.declared.Coefficient.{Coefficient}
+use Rattle.answers.specs.declared.Extreme.{Extreme}
+use Rattle.answers.specs.declared.Double.{Double}
 
 abbrev pub answerOf : Reading → Answer
 answerOf (Accepted c) = record { number = 0; line = 0 }

@@ -1,4 +1,4 @@
--- `answers::line_of`: a negative number is no line, and another is its own size.
+-- `line_of`: a negative number is no line, and another is its own size.
 use mathlib.Core.Path.{_≡_, refl, ap, _∙_}
 use lib.IntN.{ℤ, pos, negsuc, natAbs}
 use lib.Signed.{_≤ℤ_, _<ℤ_}
@@ -6,10 +6,10 @@ use native.Mathlib.Omega.{arith}
 use Rattle.whole.proofs.Parts.{order}
 use Rattle.whole.proofs.Size.{param, num, lt-yes, lt-no, size}
 use Rattle.worst.specs.declared.Six.{Six}
-use Rattle.aralimogga.specs.Answers.{noExtreme, onLine, lineOf}
+use Rattle.answers.specs.Answers.{noExtreme, onLine, lineOf}
 use borrow.Author.Needs.{needs}
-use Rattle.aralimogga.proofs.answers.line_of.Statement.{statement}
-use Rattle.aralimogga.proofs.answers.line_of.Tie as tie
+use Rattle.answers.proofs.line_of.Statement.{statement}
+use Rattle.answers.proofs.line_of.Tie as tie
 
 below : (s : Six) (z : ℤ) → z <ℤ pos 0 → noExtreme 3 0 ≡ lineOf s z
 below s (pos n) h = absurd (omega (arith, order))

@@ -2,7 +2,7 @@
 use panel::Panel;
 use text::page::Writing;
 ghost use mathlib.Core.Path.{_≡_};
-ghost use Rattle.aralimogga.specs.Answers as told;
+ghost use Rattle.answers.specs.Answers as told;
 
 // The number of a refusal and its line, both 0 where the sheet is accepted.
 #[repr(C)]
@@ -48,7 +48,7 @@ pub struct Double {
     pub high: f64,
 }
 
-pub(crate) fn no_text(number: u32, line: u32) -> Text
+pub fn no_text(number: u32, line: u32) -> Text
     ensures { λ r. ⌜ r ≡ told.noText number line ⌝ }
 {
     Text {
@@ -58,7 +58,7 @@ pub(crate) fn no_text(number: u32, line: u32) -> Text
     }
 }
 
-pub(crate) fn text_of(w: Writing) -> Text
+pub fn text_of(w: Writing) -> Text
     ensures { λ r. ⌜ r ≡ told.textOf w ⌝ }
 {
     match w {
@@ -71,7 +71,7 @@ pub(crate) fn text_of(w: Writing) -> Text
     }
 }
 
-pub(crate) fn coefficient_of(a: book::Answer) -> Coefficient
+pub fn coefficient_of(a: book::Answer) -> Coefficient
     ensures { λ r. ⌜ r ≡ told.coefficientOf a ⌝ }
 {
     match a {
@@ -96,7 +96,7 @@ pub(crate) fn coefficient_of(a: book::Answer) -> Coefficient
     }
 }
 
-pub(crate) fn double_of(p: Panel) -> Double
+pub fn double_of(p: Panel) -> Double
     ensures { λ r. ⌜ r ≡ told.doubleOf p ⌝ }
 {
     match p {
@@ -113,7 +113,7 @@ pub(crate) fn double_of(p: Panel) -> Double
     }
 }
 
-pub(crate) fn no_extreme(number: u32, line: u32) -> Extreme
+pub fn no_extreme(number: u32, line: u32) -> Extreme
     ensures { λ r. ⌜ r ≡ told.noExtreme number line ⌝ }
 {
     let alternative = [0u8; 24];
@@ -168,7 +168,7 @@ fn on_line(six: worst::Six, n: u64) -> Extreme
     no_extreme(3, 0)
 }
 
-pub(crate) fn line_of(six: worst::Six, line: i64) -> Extreme
+pub fn line_of(six: worst::Six, line: i64) -> Extreme
     ensures { λ r. ⌜ r ≡ told.lineOf six line ⌝ }
 {
     if line < 0 {

@@ -1,9 +1,9 @@
--- `answers::on_line`: the tests are those of `onLine`, in its order.
+-- `on_line`: the tests are those of `onLine`, in its order.
 use Rattle.whole.proofs.Tests.{tests}
-use Rattle.aralimogga.specs.Answers.{onLine}
+use Rattle.answers.specs.Answers.{onLine}
 use borrow.Author.Needs.{needs}
-use Rattle.aralimogga.proofs.answers.on_line.Statement.{statement}
-use Rattle.aralimogga.proofs.answers.on_line.Tie as tie
+use Rattle.answers.proofs.on_line.Statement.{statement}
+use Rattle.answers.proofs.on_line.Tie as tie
 
 extreme-of-requires : tie.Need-extreme-of-requires
 extreme-of-requires c κs = search needs

@@ -1,9 +1,9 @@
--- `answers::text_of`: each arm is a clause of `textOf`.
+-- `text_of`: each arm is a clause of `textOf`.
 use mathlib.Core.Path.{sym, ap, _∙_}
-use Rattle.aralimogga.specs.Answers.{textOf}
+use Rattle.answers.specs.Answers.{textOf}
 use borrow.Author.Needs.{needs}
-use Rattle.aralimogga.proofs.answers.text_of.Statement.{statement}
-use Rattle.aralimogga.proofs.answers.text_of.Tie as tie
+use Rattle.answers.proofs.text_of.Statement.{statement}
+use Rattle.answers.proofs.text_of.Tie as tie
 
 enum-known-w : tie.Need-enum-known-w
 enum-known-w c = search needs
