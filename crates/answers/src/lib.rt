@@ -144,35 +144,16 @@ fn extreme_of(e: worst::Extreme) -> Extreme
 }
 
 // One line of the report, counted from 1.
-fn on_line(six: worst::Six, n: u64) -> Extreme
-    ensures { λ r. ⌜ r ≡ told.onLine six n ⌝ }
-{
-    if n == 1 {
-        return extreme_of(six.x.greatest);
-    }
-    if n == 2 {
-        return extreme_of(six.x.least);
-    }
-    if n == 3 {
-        return extreme_of(six.y.greatest);
-    }
-    if n == 4 {
-        return extreme_of(six.y.least);
-    }
-    if n == 5 {
-        return extreme_of(six.z.greatest);
-    }
-    if n == 6 {
-        return extreme_of(six.z.least);
-    }
-    no_extreme(3, 0)
-}
-
 pub fn line_of(six: worst::Six, line: i64) -> Extreme
     ensures { λ r. ⌜ r ≡ told.lineOf six line ⌝ }
 {
-    if line < 0 {
-        return no_extreme(3, 0);
+    match line {
+        1 => extreme_of(six.x.greatest),
+        2 => extreme_of(six.x.least),
+        3 => extreme_of(six.y.greatest),
+        4 => extreme_of(six.y.least),
+        5 => extreme_of(six.z.greatest),
+        6 => extreme_of(six.z.least),
+        _ => no_extreme(3, 0),
     }
-    on_line(six, whole::magnitude(line))
 }

@@ -1,45 +1,94 @@
--- `line_of`: a negative number is no line, and another is its own size.
-use mathlib.Core.Path.{_≡_, refl, ap, _∙_}
-use lib.IntN.{ℤ, pos, negsuc, natAbs}
-use lib.Signed.{_≤ℤ_, _<ℤ_}
-use native.Mathlib.Omega.{arith}
-use Rattle.whole.proofs.Parts.{order}
-use Rattle.whole.proofs.Size.{param, num, lt-yes, lt-no, size}
+-- `line_of`: the arms are the tests of `onLine`, in its order. The machine tells a number by its bits.
+use Prim.Native.Nat.{ℕ}
+use mathlib.Core.Path.{_≡_, refl, sym, ap, _∙_}
+use lib.IntN.{ℤ, pos, negsuc}
+use mir.Syntax.{w64}
+use mir.Val.{toZ, ofZ}
+use mir.Facts.{toZ-ofZ}
+use Rattle.whole.proofs.Tests.{tests}
 use Rattle.worst.specs.declared.Six.{Six}
 use Rattle.answers.specs.Answers.{noExtreme, onLine, lineOf}
 use borrow.Author.Needs.{needs}
 use Rattle.answers.proofs.line_of.Statement.{statement}
 use Rattle.answers.proofs.line_of.Tie as tie
 
-below : (s : Six) (z : ℤ) → z <ℤ pos 0 → noExtreme 3 0 ≡ lineOf s z
-below s (pos n) h = absurd (omega (arith, order))
-below s (negsuc n) h = refl
+-- an arm's own number
+line : (t : tie.Start) (n : ℕ) → ofZ w64 (t .args .line) ≡ n → lineOf (t .args .six) (toZ w64 n) ≡ lineOf (t .args .six) (t .args .line)
+line t n e = ap (lineOf (t .args .six)) (sym (ap (toZ w64) e) ∙ toZ-ofZ (t .fits .line))
 
-above : (s : Six) (z : ℤ) → pos 0 ≤ℤ z → onLine s (natAbs z) ≡ lineOf s z
-above s (pos n) h = refl
-above s (negsuc n) h = absurd (omega (arith, order))
+-- none of the six
+no-line : (s : Six) (z : ℤ) → (ofZ w64 z ≡ 1 → ⊥) → (ofZ w64 z ≡ 2 → ⊥) → (ofZ w64 z ≡ 3 → ⊥) → (ofZ w64 z ≡ 4 → ⊥) → (ofZ w64 z ≡ 5 → ⊥) → (ofZ w64 z ≡ 6 → ⊥)
+    → noExtreme 3 0 ≡ lineOf s z
+unfolding onLine
+no-line s (pos n) a b c d e f = search tests
+no-line s (negsuc n) a b c d e f = refl
+
+extreme-of-requires : tie.Need-extreme-of-requires
+extreme-of-requires c κs = search needs
+
+extreme-of-requires-2 : tie.Need-extreme-of-requires-2
+extreme-of-requires-2 c κs = search needs
+
+extreme-of-requires-3 : tie.Need-extreme-of-requires-3
+extreme-of-requires-3 c κs = search needs
+
+extreme-of-requires-4 : tie.Need-extreme-of-requires-4
+extreme-of-requires-4 c κs = search needs
+
+extreme-of-requires-5 : tie.Need-extreme-of-requires-5
+extreme-of-requires-5 c κs = search needs
+
+extreme-of-requires-6 : tie.Need-extreme-of-requires-6
+extreme-of-requires-6 c κs = search needs
 
 no-extreme-requires : tie.Need-no-extreme-requires
 no-extreme-requires c κs = search needs
 
 returns : tie.Need-returns
-returns c =
-    let s = c .before .before in
-    c .no-extreme .ensures ∙ below (s .args .six) _ (lt-yes (param (s .fits .line)) (num (pos 0)) (c .before .if1 .taken))
-
-magnitude-requires : tie.Need-magnitude-requires
-magnitude-requires c κs = search needs
-
-on-line-requires : tie.Need-on-line-requires
-on-line-requires c κs = search needs
+unfolding onLine
+returns c = c .extreme-of .ensures ∙ line (c .before .before) 1 (c .before .match .keys1)
 
 returns-2 : tie.Need-returns-2
-returns-2 c =
-    let s = c .before .before .before in
-    let n = param (s .fits .line) in
-    c .on-line .ensures ∙ ap (onLine (s .args .six)) (c .before .magnitude .ensures ∙ size n)
-    ∙ above (s .args .six) _ (lt-no n (num (pos 0)) (c .before .before .if1 .left))
+unfolding onLine
+returns-2 c = c .extreme-of2 .ensures ∙ line (c .before .before) 2 (c .before .match .keys2)
+
+returns-3 : tie.Need-returns-3
+unfolding onLine
+returns-3 c = c .extreme-of3 .ensures ∙ line (c .before .before) 3 (c .before .match .keys3)
+
+returns-4 : tie.Need-returns-4
+unfolding onLine
+returns-4 c = c .extreme-of4 .ensures ∙ line (c .before .before) 4 (c .before .match .keys4)
+
+returns-5 : tie.Need-returns-5
+unfolding onLine
+returns-5 c = c .extreme-of5 .ensures ∙ line (c .before .before) 5 (c .before .match .keys5)
+
+returns-6 : tie.Need-returns-6
+unfolding onLine
+returns-6 c = c .extreme-of6 .ensures ∙ line (c .before .before) 6 (c .before .match .keys6)
+
+returns-7 : tie.Need-returns-7
+returns-7 c =
+    let a = c .before .before .args in
+    let r = c .before .match .rest in
+    c .no-extreme .ensures ∙ no-line (a .six) (a .line) (r .0 .0 .0 .0 .0 .1) (r .0 .0 .0 .0 .1) (r .0 .0 .0 .1) (r .0 .0 .1) (r .0 .1) (r .1)
 
 pub line-of-spec : {M : Type 1} → statement M
 line-of-spec =
-    tie.close (tie.spec no-extreme-requires returns magnitude-requires on-line-requires returns-2)
+    tie.close
+    (tie.spec
+    extreme-of-requires
+    extreme-of-requires-2
+    extreme-of-requires-3
+    extreme-of-requires-4
+    extreme-of-requires-5
+    extreme-of-requires-6
+    no-extreme-requires
+    returns
+    returns-2
+    returns-3
+    returns-4
+    returns-5
+    returns-6
+    returns-7)
