@@ -1,5 +1,4 @@
 -- The laws, each file by the definitions that it is about.
 pub mod Digits
-pub mod Writing
 pub mod Field
 pub mod Worked

@@ -1,4 +1,3 @@
--- What a number's digits are, what a field says, and what comes of a text that is put into a buffer.
+-- What a number's digits are, and what a field says.
 pub mod Digits
 pub mod Field
-pub mod Writing

@@ -1,4 +1,3 @@
-// Fields of the sheet read, numbers written, and a text put into a lent buffer.
+// Fields of the sheet read, and numbers written.
 pub mod form;
 pub mod numeral;
-pub mod page;

@@ -1,18 +1,18 @@
 // Numbers written in decimal.
-use crate::page::Writing;
+use page::Writing;
 ghost use mathlib.Core.Path.{_≡_};
+ghost use Rattle.page.specs.Writing.{Put, writing, bufferAfter};
 ghost use Rattle.text.specs.Digits.{digits, decimal};
-ghost use Rattle.text.specs.Writing.{Put, writing, bufferAfter};
 
 // The digits of n, most significant first: those of a tenth of it, and then the last.
 fn put_long(buf: &mut [u8], at: usize, n: u64) -> usize
     ensures { λ r. ⌜ Put (now (buf .entry)) at (digits n) (now (buf .exit)) r ⌝ }
 {
     if n < 10 {
-        return crate::page::put_byte(buf, at, 48 + (n as u8));
+        return page::put_byte(buf, at, 48 + (n as u8));
     }
     let end = put_long(buf, at, n / 10);
-    crate::page::put_byte(buf, end, 48 + ((n % 10) as u8))
+    page::put_byte(buf, end, 48 + ((n % 10) as u8))
 }
 
 // The same. One digit is put here, without the recursion, so that a caller takes it inline.
@@ -20,7 +20,7 @@ pub fn put_natural(buf: &mut [u8], at: usize, n: u64) -> usize
     ensures { λ r. ⌜ Put (now (buf .entry)) at (digits n) (now (buf .exit)) r ⌝ }
 {
     if n < 10 {
-        return crate::page::put_byte(buf, at, 48 + (n as u8));
+        return page::put_byte(buf, at, 48 + (n as u8));
     }
     put_long(buf, at, n)
 }
@@ -30,7 +30,7 @@ pub fn put_decimal(buf: &mut [u8], at: usize, z: i64) -> usize
 {
     let m = whole::magnitude(z);
     if z < 0 {
-        let next = crate::page::put_byte(buf, at, 45);
+        let next = page::put_byte(buf, at, 45);
         return put_natural(buf, next, m);
     }
     put_natural(buf, at, m)
@@ -42,5 +42,5 @@ pub fn write_decimal(z: i64, buf: &mut [u8]) -> Writing
 {
     let mut text = [0u8; 20];
     let n = put_decimal(&mut text, 0, z);
-    crate::page::emit(&text, n, buf)
+    page::emit(&text, n, buf)
 }

@@ -4,12 +4,12 @@ use native.Mathlib.Omega.{arith}
 use borrow.Author.Needs.{needs}
 use borrow.Fn.Kinds.{In}
 use borrow.Fn.PlainCycle.{Measures, is, falls, and}
+use Rattle.page.proofs.Put.{then}
+use Rattle.page.proofs.put_byte.Reads as put-byte
 use Rattle.text.proofs.Digits.{digits-small, digits-more}
-use Rattle.text.proofs.Writing.{then}
 use Rattle.text.proofs.numeral.put_long.Reads as f
 use Rattle.text.proofs.numeral.put_long.Kinds as f-kinds
 use Rattle.text.proofs.numeral.+put_long.Lts-put_long as lts
-use Rattle.text.proofs.page.put_byte.Reads as put-byte
 use Rattle.text.proofs.numeral.+put_long.{statement}
 use Rattle.text.proofs.numeral.+put_long.Tie.{close}
 

@@ -5,9 +5,9 @@ use lib.IntN.{ℤ, pos, natAbs}
 use lib.Signed.{ltZ}
 use mir.Syntax.{w64}
 use mir.ValLaws.{toZ-ofZ}
+use Rattle.page.proofs.Put.{then}
 use Rattle.text.specs.Digits.{digits, decimal}
 use Rattle.text.proofs.Digits.{decimal-below, decimal-above}
-use Rattle.text.proofs.Writing.{then}
 use borrow.Author.Needs.{needs}
 use Rattle.text.proofs.numeral.put_decimal.Statement.{statement}
 use Rattle.text.proofs.numeral.put_decimal.Tie as tie

@@ -2,8 +2,8 @@
 use denote.Ref.{now}
 use mir.Syntax.{w64}
 use mir.ValLaws.{toZ-ofZ}
+use Rattle.page.proofs.Put.{emitted}
 use Rattle.text.proofs.Digits.{decimal-length}
-use Rattle.text.proofs.Writing.{emitted}
 use borrow.Author.Needs.{needs}
 use Rattle.text.proofs.numeral.write_decimal.Statement.{statement}
 use Rattle.text.proofs.numeral.write_decimal.Tie as tie

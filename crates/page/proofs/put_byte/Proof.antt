@@ -1,9 +1,9 @@
 -- `put_byte` meets its contract.
 use denote.Ref.{now}
-use Rattle.text.proofs.Writing.{put-past}
+use Rattle.page.proofs.Put.{put-past}
 use borrow.Author.Needs.{needs}
-use Rattle.text.proofs.page.put_byte.Statement.{statement}
-use Rattle.text.proofs.page.put_byte.Tie as tie
+use Rattle.page.proofs.put_byte.Statement.{statement}
+use Rattle.page.proofs.put_byte.Tie as tie
 
 slice-write-buf : tie.Need-slice-write-buf
 slice-write-buf c = search needs

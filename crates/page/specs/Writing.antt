@@ -6,8 +6,8 @@ use mathlib.Core.List.{List, _++_}
 use lib.Dec.{leb}
 use lib.ListN.{length, drop}
 use lib.Seq.{sets}
-use Rattle.text.specs.declared.page.Writing.{Writing}
-use Rattle.text.specs.declared.page.Writing.the-variants.{Length, Refused}
+use Rattle.page.specs.declared.Writing.{Writing}
+use Rattle.page.specs.declared.Writing.the-variants.{Length, Refused}
 
 -- the text's length; 7 with line 0 exactly if the text is longer than the buffer
 abbrev pub writing : List ℕ → List ℕ → Writing

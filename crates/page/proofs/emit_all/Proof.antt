@@ -6,11 +6,11 @@ use denote.Ref.{now}
 use lib.ListN.{take}
 use lib.Seq.{take-all}
 use borrow.Author.Tests.{lt-leb, le-leb}
-use Rattle.text.specs.Writing.{Put}
-use Rattle.text.proofs.Writing.{put-length, put-nothing, put-more, put-start}
+use Rattle.page.specs.Writing.{Put}
+use Rattle.page.proofs.Put.{put-length, put-nothing, put-more, put-start}
 use borrow.Author.Needs.{needs}
-use Rattle.text.proofs.page.emit_all.Statement.{statement}
-use Rattle.text.proofs.page.emit_all.Tie as tie
+use Rattle.page.proofs.emit_all.Statement.{statement}
+use Rattle.page.proofs.emit_all.Tie as tie
 
 abbrev Inv-loop : tie.InvT-loop
 Inv-loop text buf₀ n i₀ buf i = (i ≤ n) × Put buf₀ 0 (take i text) buf i

@@ -4,8 +4,8 @@ use native.Mathlib.Nat.{le-of-lt}
 use denote.Ref.{now}
 use lib.Seq.{take-all, length-take-le}
 use borrow.Author.Needs.{needs}
-use Rattle.text.proofs.page.emit.Statement.{statement}
-use Rattle.text.proofs.page.emit.Tie as tie
+use Rattle.page.proofs.emit.Statement.{statement}
+use Rattle.page.proofs.emit.Tie as tie
 
 emit-all-requires : tie.Need-emit-all-requires
 emit-all-requires c κs = search needs

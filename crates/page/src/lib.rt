@@ -3,7 +3,7 @@
 ghost use mathlib.Core.Path.{_≡_};
 ghost use mathlib.Core.List.{[], _∷_};
 ghost use lib.ListN.{take};
-ghost use Rattle.text.specs.Writing.{Put, writing, bufferAfter};
+ghost use Rattle.page.specs.Writing.{Put, writing, bufferAfter};
 
 // What writing comes to: the text's length, or a refusal's number and line.
 pub enum Writing {

@@ -3,11 +3,11 @@ use Prim.Native.Nat.{_≤_, _-_}
 use denote.Ref.{now}
 use lib.ListN.{length, take}
 use lib.Seq.{take-all}
-use Rattle.text.specs.Writing.{Put}
-use Rattle.text.proofs.Writing.{put-length, put-nothing, put-past, put-more}
+use Rattle.page.specs.Writing.{Put}
+use Rattle.page.proofs.Put.{put-length, put-nothing, put-past, put-more}
 use borrow.Author.Needs.{needs}
-use Rattle.text.proofs.page.put_bytes.Statement.{statement}
-use Rattle.text.proofs.page.put_bytes.Tie as tie
+use Rattle.page.proofs.put_bytes.Statement.{statement}
+use Rattle.page.proofs.put_bytes.Tie as tie
 
 abbrev Inv-loop : tie.InvT-loop
 Inv-loop buf₀ at s next₀ i₀ buf next i = (i ≤ length s) × Put buf₀ at (take i s) buf next

@@ -10,8 +10,8 @@ use lib.ListN.{length, take, drop, set, getD, length-append}
 use lib.Seq.{sets, sets-eq, set-out, take-at, take-suc, length-sets}
 use borrow.Author.Tests.{leb-true, leb-false}
 use Rattle.whole.proofs.Tests.{by-test}
-use Rattle.text.specs.declared.page.Writing.{Writing}
-use Rattle.text.specs.Writing.{Put, writing, bufferAfter}
+use Rattle.page.specs.declared.Writing.{Writing}
+use Rattle.page.specs.Writing.{Put, writing, bufferAfter}
 
 -- ---- runs of stores
 

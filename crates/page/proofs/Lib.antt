@@ -1,0 +1,2 @@
+-- Laws of texts put into a buffer.
+pub mod Put

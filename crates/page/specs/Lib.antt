@@ -1,0 +1,2 @@
+-- What comes of a text that is put into a lent buffer.
+pub mod Writing
