@@ -5,8 +5,8 @@ use mathlib.Core.List.{[], _∷_}
 use lib.Dec.{eqb}
 use lib.IntN.{ℤ, pos, negsuc}
 use lib.ListN.{replicate}
-use Rattle.text.specs.declared.page.Writing.{Writing}
-use Rattle.text.specs.declared.page.Writing.the-variants as written
+use Rattle.page.specs.declared.Writing.{Writing}
+use Rattle.page.specs.declared.Writing.the-variants as written
 use Rattle.book.specs.declared.Answer as book
 use Rattle.book.specs.declared.Answer.the-variants as asked
 use Rattle.panel.specs.declared.Panel.{Panel}

@@ -1,6 +1,6 @@
 // The records that a host program in C gets, as include/aralimogga.h lays them out, and how an answer is turned into one.
+use page::Writing;
 use panel::Panel;
-use text::page::Writing;
 ghost use mathlib.Core.Path.{_≡_};
 ghost use Rattle.answers.specs.Answers as told;
 

@@ -3,7 +3,7 @@ use Prim.Native.Nat.{ℕ}
 use mathlib.Core.Path.{_≡_, refl, sym, ap, _∙_}
 use mathlib.Core.List.{List}
 use lib.IntN.{ℤ}
-use Rattle.text.specs.declared.page.Writing.{Writing}
+use Rattle.page.specs.declared.Writing.{Writing}
 use Rattle.job.specs.Carried.{Carried}
 use Rattle.job.specs.Walk.{Reading, Accepted, Refused, judged}
 use Rattle.sheet.specs.declared.read.Read.{Read}

@@ -7,7 +7,7 @@ use job::Faces;
 use job::Internals;
 use job::Job;
 use job::Winds;
-use text::page::Writing;
+use page::Writing;
 
 fn print(s: &[u8]) {
     io::write_all(libc::STDOUT_FILENO, s);

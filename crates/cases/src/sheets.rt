@@ -1,5 +1,5 @@
 // Sheets from standard input: a title, the text, and `=` before the next title. A sheet holds no `=`.
-use text::page::Writing;
+use page::Writing;
 ghost use Prim.Native.Nat.{_≤_};
 ghost use lib.ListN.{length};
 

@@ -7,10 +7,10 @@ use lib.Dec.{leb}
 use lib.IntN.{ℤ}
 use lib.ListN.{length, take, drop}
 use denote.Ref.{now}
-use Rattle.text.specs.declared.page.Writing.{Writing}
-use Rattle.text.specs.declared.page.Writing.the-variants as written
+use Rattle.page.specs.declared.Writing.{Writing}
+use Rattle.page.specs.declared.Writing.the-variants as written
 use Rattle.text.specs.Digits.{decimal}
-use Rattle.text.specs.Writing.{writing, bufferAfter}
+use Rattle.page.specs.Writing.{writing, bufferAfter}
 use Rattle.lines.specs.Lines.{rows}
 use Rattle.job.specs.declared.Job.{Job}
 use Rattle.job.specs.Carried.{Carried, nothing, carried, recorded}
@@ -24,7 +24,7 @@ use Rattle.worst.specs.Worst.{noSix, reckoned, worstOf}
 use Rattle.report.specs.Report.{reportText, totalsText}
 use Rattle.answers.specs.Answers.{noText, textOf, noExtreme, totalOf}
 use Rattle.claims.specs.Answers.{AsksNothing, RefusedUnchanged, IsRefused}
-use Rattle.text.proofs.page.emit.Reads as emit
+use Rattle.page.proofs.emit.Reads as emit
 use Rattle.text.proofs.numeral.write_decimal.Reads as write-decimal
 use Rattle.building.proofs.building_fault.Reads as building-fault
 use Rattle.book.proofs.outside.Reads as outside

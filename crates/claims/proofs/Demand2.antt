@@ -7,7 +7,7 @@ use lib.IntN.{ℤ, pos, natAbs, _+ℤ_, _*ℤ_}
 use lib.ListN.{length, getD, take}
 use Rattle.whole.specs.Lists.{Every}
 use Rattle.whole.proofs.Lists.{every-by}
-use Rattle.text.specs.Writing.{writing, bufferAfter}
+use Rattle.page.specs.Writing.{writing, bufferAfter}
 use Rattle.lines.specs.Lines.{LinesInForm}
 use Rattle.building.specs.declared.Building.{Building}
 use Rattle.book.specs.declared.Answer.{Answer}

@@ -4,7 +4,7 @@ use mathlib.Core.List.{List}
 use Prim.Native.Nat.{ℕ}
 use denote.Ref.{now}
 use Rattle.claims.specs.Answers.{OneAnswer, OneAnswerAndBuffer}
-use Rattle.text.specs.Writing.{Put}
+use Rattle.page.specs.Writing.{Put}
 use Rattle.whole.proofs.magnitude.Reads as magnitude
 use Rattle.text.proofs.form.field_of.Reads as field-of
 use Rattle.lines.proofs.row.line_at.Reads as line-at
@@ -12,9 +12,9 @@ use Rattle.lines.proofs.row.field_at.Reads as field-at
 use Rattle.lines.proofs.line.held_count.Reads as held-count
 use Rattle.lines.proofs.line.put_field.Reads as put-field
 use Rattle.lines.proofs.line.put_line.Reads as put-line
-use Rattle.text.proofs.page.put_byte.Reads as put-byte
-use Rattle.text.proofs.page.put_bytes.Reads as put-bytes
-use Rattle.text.proofs.page.emit.Reads as emit
+use Rattle.page.proofs.put_byte.Reads as put-byte
+use Rattle.page.proofs.put_bytes.Reads as put-bytes
+use Rattle.page.proofs.emit.Reads as emit
 use Rattle.text.proofs.numeral.put_natural.Reads as put-natural
 use Rattle.text.proofs.numeral.put_decimal.Reads as put-decimal
 use Rattle.text.proofs.numeral.write_decimal.Reads as write-decimal

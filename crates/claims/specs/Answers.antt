@@ -2,8 +2,8 @@
 use mathlib.Core.Path.{_≡_}
 use mathlib.Core.List.{List}
 use Prim.Native.Nat.{ℕ}
-use Rattle.text.specs.declared.page.Writing.{Writing}
-use Rattle.text.specs.declared.page.Writing.the-variants.{Length, Refused}
+use Rattle.page.specs.declared.Writing.{Writing}
+use Rattle.page.specs.declared.Writing.the-variants.{Length, Refused}
 
 -- Asked κ a is what a caller would have to show, as the checker reads it off the source, at the lifetimes κ and the arguments a
 abbrev pub AsksNothing : {L : Type 0} {A : L → Type 0} → ((κ : L) → A κ → Type 0) → Type 0

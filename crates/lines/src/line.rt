@@ -6,7 +6,7 @@ ghost use mathlib.Core.List.{[], _∷_};
 ghost use lib.ListN.{length};
 ghost use Rattle.lines.specs.Lines.{fieldText, lineText, textOf};
 ghost use Rattle.lines.specs.Held.{held};
-ghost use Rattle.text.specs.Writing.{Put};
+ghost use Rattle.page.specs.Writing.{Put};
 
 fn wide(n: u32) -> u64
     ensures { λ r. ⌜ r ≡ n ⌝ }
@@ -19,14 +19,14 @@ pub fn put_field(buf: &mut [u8], at: usize, f: Field) -> usize
     ensures { λ r. ⌜ Put (now (buf .entry)) at (fieldText f) (now (buf .exit)) r ⌝ }
 {
     match f {
-        Field::Bad => text::page::put_bytes(buf, at, b""),
+        Field::Bad => page::put_bytes(buf, at, b""),
         Field::Plus(n) => text::numeral::put_natural(buf, at, wide(n)),
         Field::Minus(n) => {
-            let next = text::page::put_byte(buf, at, 45);
+            let next = page::put_byte(buf, at, 45);
             text::numeral::put_natural(buf, next, wide(n))
         }
-        Field::Letter(b) => text::page::put_byte(buf, at, b),
-        Field::Dash => text::page::put_byte(buf, at, 45),
+        Field::Letter(b) => page::put_byte(buf, at, b),
+        Field::Dash => page::put_byte(buf, at, 45),
     }
 }
 
@@ -46,14 +46,14 @@ fn put_fields(buf: &mut [u8], at: usize, x: Line) -> usize
 {
     let n = held_count(x);
     if n == 0 {
-        return text::page::put_bytes(buf, at, b"");
+        return page::put_bytes(buf, at, b"");
     }
     let f = crate::row::field_at(x, 0);
     let mut next = put_field(buf, at, f);
     let mut i: usize = 1;
     while i < n {
         let g = crate::row::field_at(x, i);
-        next = text::page::put_byte(buf, next, 32);
+        next = page::put_byte(buf, next, 32);
         next = put_field(buf, next, g);
         i += 1;
     }
@@ -65,5 +65,5 @@ pub fn put_line(buf: &mut [u8], at: usize, x: Line) -> usize
     ensures { λ r. ⌜ Put (now (buf .entry)) at (textOf (held x ∷ [])) (now (buf .exit)) r ⌝ }
 {
     let next = put_fields(buf, at, x);
-    text::page::put_byte(buf, next, 10)
+    page::put_byte(buf, next, 10)
 }

@@ -10,9 +10,9 @@ use mir.Syntax.{w8, w32}
 use mir.Val.{Fits}
 use lib.Seq.{take-suc}
 use Rattle.text.specs.Digits.{digits, decimal}
-use Rattle.text.specs.Writing.{Put}
+use Rattle.page.specs.Writing.{Put}
 use Rattle.text.proofs.Digits.{digits-length, decimal-length}
-use Rattle.text.proofs.Writing.{then}
+use Rattle.page.proofs.Put.{then}
 use Rattle.worst.specs.declared.Extreme.{Extreme}
 use Rattle.worst.specs.declared.Extremes.{Extremes}
 use Rattle.worst.specs.declared.Six.{Six}

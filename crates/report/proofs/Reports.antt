@@ -2,8 +2,8 @@
 use Prim.Native.Nat.{ℕ}
 use mathlib.Core.Path.{_≡_, refl, ap, _∙_}
 use mathlib.Core.List.{List, [], _∷_, _++_, append-assoc}
-use Rattle.text.specs.declared.page.Writing.the-variants as written
-use Rattle.text.specs.Writing.{writing, bufferAfter}
+use Rattle.page.specs.declared.Writing.the-variants as written
+use Rattle.page.specs.Writing.{writing, bufferAfter}
 use Rattle.lines.specs.Lines.{rows}
 use Rattle.job.specs.declared.Job.{Job}
 use Rattle.job.specs.declared.Verdict.{Verdict}

@@ -1,8 +1,8 @@
 // The report: six lines, on each axis the greatest and the least total with the first case that reaches it.
 use job::Job;
-use text::page::Writing;
+use page::Writing;
 ghost use mathlib.Core.Path.{_≡_};
-ghost use Rattle.text.specs.Writing.{writing, bufferAfter};
+ghost use Rattle.page.specs.Writing.{writing, bufferAfter};
 ghost use Rattle.job.specs.Walk.{judged};
 ghost use Rattle.sheet.specs.Sheet.{reading, jobWriting, jobBuffer};
 ghost use Rattle.report.specs.Report.{reportText, totalsText};

@@ -1,18 +1,18 @@
 // One line in place of a report: `refused`, number and line with single spaces.
-use text::page::Writing;
+use page::Writing;
 ghost use mathlib.Core.Path.{_≡_};
 ghost use Prim.Native.Nat.{_≤_};
 ghost use lib.ListN.{length};
-ghost use Rattle.text.specs.Writing.{Put, writing, bufferAfter};
+ghost use Rattle.page.specs.Writing.{Put, writing, bufferAfter};
 ghost use Rattle.report.specs.Report.{refusedText};
 
 fn put_refused(buf: &mut [u8], number: u32, line: u32) -> usize
     ensures { λ r. ⌜ Put (now (buf .entry)) 0 (refusedText number line) (now (buf .exit)) r × (length (refusedText number line) ≤ 30) ⌝ }
 {
-    let word = text::page::put_bytes(buf, 0, b"refused");
+    let word = page::put_bytes(buf, 0, b"refused");
     let told = crate::six::put_spaced(buf, word, number);
     let placed = crate::six::put_spaced(buf, told, line);
-    text::page::put_byte(buf, placed, b'\n')
+    page::put_byte(buf, placed, b'\n')
 }
 
 pub(crate) fn write_refused(number: u32, line: u32, buf: &mut [u8]) -> Writing
@@ -20,5 +20,5 @@ pub(crate) fn write_refused(number: u32, line: u32, buf: &mut [u8]) -> Writing
 {
     let mut text = [0u8; 30];
     let n = put_refused(&mut text, number, line);
-    text::page::emit(&text, n, buf)
+    page::emit(&text, n, buf)
 }

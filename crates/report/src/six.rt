@@ -1,5 +1,5 @@
 // The text of the six lines, put after one another. Each writer also says how long its text can be.
-use text::page::Writing;
+use page::Writing;
 use worst::Extreme;
 use worst::Extremes;
 use worst::Six;
@@ -7,7 +7,7 @@ ghost use Prim.Native.Nat.{_*_, _≤_};
 ghost use lib.ListN.{length, take};
 ghost use mathlib.Core.Path.{_≡_};
 ghost use mathlib.Core.List.{[], _∷_};
-ghost use Rattle.text.specs.Writing.{Put, writing, bufferAfter};
+ghost use Rattle.page.specs.Writing.{Put, writing, bufferAfter};
 ghost use Rattle.report.specs.Lines.{spaced, caseNumbers, lineText, axisText, sixText};
 
 fn wide(n: u8) -> u32
@@ -20,7 +20,7 @@ fn wide(n: u8) -> u32
 pub(crate) fn put_spaced(buf: &mut [u8], at: usize, n: u32) -> usize
     ensures { λ r. ⌜ Put (now (buf .entry)) at (spaced (n ∷ [])) (now (buf .exit)) r × (length (spaced (n ∷ [])) ≤ 11) ⌝ }
 {
-    let next = text::page::put_byte(buf, at, b' ');
+    let next = page::put_byte(buf, at, b' ');
     text::numeral::put_natural(buf, next, n as u64)
 }
 
@@ -64,11 +64,11 @@ fn put_case(buf: &mut [u8], at: usize, e: Extreme) -> usize
 fn put_line(buf: &mut [u8], at: usize, axis: u8, word: &[u8; 5], e: Extreme) -> usize
     ensures { λ r. ⌜ Put (now (buf .entry)) at (lineText axis (now (word .entry)) e) (now (buf .exit)) r × (length (lineText axis (now (word .entry)) e) ≤ 145) ⌝ }
 {
-    let named = text::page::put_byte(buf, at, axis);
-    let worded = text::page::put_bytes(buf, named, word);
+    let named = page::put_byte(buf, at, axis);
+    let worded = page::put_bytes(buf, named, word);
     let totalled = text::numeral::put_decimal(buf, worded, e.total);
     let told = put_case(buf, totalled, e);
-    text::page::put_byte(buf, told, b'\n')
+    page::put_byte(buf, told, b'\n')
 }
 
 fn put_axis(buf: &mut [u8], at: usize, axis: u8, e: Extremes) -> usize
@@ -93,5 +93,5 @@ pub(crate) fn write_six(s: Six, buf: &mut [u8]) -> Writing
 {
     let mut text = [0u8; 870];
     let n = put_six(&mut text, 0, s);
-    text::page::emit(&text, n, buf)
+    page::emit(&text, n, buf)
 }

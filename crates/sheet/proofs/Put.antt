@@ -10,10 +10,10 @@ use Rattle.text.specs.declared.form.Field.{Field}
 use Rattle.lines.specs.declared.row.Line.{Line}
 use Rattle.lines.specs.Lines.{textOf}
 use Rattle.lines.specs.Held.{held, lineOf}
-use Rattle.text.specs.Writing.{Put}
+use Rattle.page.specs.Writing.{Put}
 use Rattle.lines.proofs.Held.{held-all}
 use Rattle.lines.proofs.Round.{textOf-append}
-use Rattle.text.proofs.Writing.{then, put-nothing, put-length}
+use Rattle.page.proofs.Put.{then, put-nothing, put-length}
 use Rattle.job.specs.declared.Section.{Section}
 use Rattle.job.specs.declared.Section.the-variants.{B, W, I, F}
 use Rattle.job.specs.declared.Job.{Job}

@@ -6,7 +6,7 @@ use lib.ListN.{length, take, drop}
 use lib.Seq.{take-append-seam}
 use borrow.Author.Tests.{le-leb}
 use Rattle.lines.specs.Lines.{textOf, LinesInForm, rows}
-use Rattle.text.specs.Writing.{writing, bufferAfter}
+use Rattle.page.specs.Writing.{writing, bufferAfter}
 use Rattle.lines.proofs.Round.{text-rows, rows-text}
 use Rattle.job.specs.declared.Job.{Job}
 use Rattle.job.specs.Carried.{Carried, nothing, carried, recorded, SameJob}

@@ -4,10 +4,10 @@ use mathlib.Core.Path.{_≡_, refl}
 use mathlib.Core.List.{List}
 use native.Mathlib.Omega.{arith}
 use lib.ListN.{length, take}
-use Rattle.text.specs.declared.page.Writing.{Writing}
-use Rattle.text.specs.declared.page.Writing.the-variants as written
-use Rattle.text.specs.Writing.{Put, writing, bufferAfter}
-use Rattle.text.proofs.Writing.{emitted}
+use Rattle.page.specs.declared.Writing.{Writing}
+use Rattle.page.specs.declared.Writing.the-variants as written
+use Rattle.page.specs.Writing.{Put, writing, bufferAfter}
+use Rattle.page.proofs.Put.{emitted}
 use Rattle.job.specs.declared.Job.{Job}
 use Rattle.job.specs.declared.Verdict.{Verdict}
 use Rattle.job.specs.Carried.{carried}

@@ -1,10 +1,10 @@
 -- What the text of a sheet says, and the text of a job: from bytes to lines of fields, from there to what the sheet carries, and the same way back.
 use Prim.Native.Nat.{ℕ}
 use mathlib.Core.List.{List}
-use Rattle.text.specs.declared.page.Writing.{Writing}
-use Rattle.text.specs.declared.page.Writing.the-variants as written
+use Rattle.page.specs.declared.Writing.{Writing}
+use Rattle.page.specs.declared.Writing.the-variants as written
 use Rattle.lines.specs.Lines.{rows, textOf}
-use Rattle.text.specs.Writing.{writing, bufferAfter}
+use Rattle.page.specs.Writing.{writing, bufferAfter}
 use Rattle.job.specs.Carried.{Carried, nothing, recorded}
 use Rattle.job.specs.Lines.{linesOf}
 use Rattle.job.specs.Walk.{Reading, Accepted, Refused, readLines}

@@ -8,12 +8,12 @@ use job::Section;
 use job::judge::judge;
 use job::shape::count_line;
 use lines::line::put_line;
-use text::page::Writing;
+use page::Writing;
 ghost use mathlib.Core.Path.{_≡_};
 ghost use Prim.Native.Nat.{_≤_};
 ghost use lib.ListN.{length};
 ghost use Rattle.lines.specs.Lines.{textOf};
-ghost use Rattle.text.specs.Writing.{Put};
+ghost use Rattle.page.specs.Writing.{Put};
 ghost use Rattle.job.specs.Carried.{carried};
 ghost use Rattle.job.specs.Sections.{about};
 ghost use Rattle.job.specs.Lines.{sectionOf, entriesOf};
@@ -75,5 +75,5 @@ pub fn write_sheet(j: Job, buf: &mut [u8]) -> Writing
     }
     let mut page = [0u8; 827];
     let n = put_sheet(&mut page, j);
-    text::page::emit(&page, n, buf)
+    page::emit(&page, n, buf)
 }

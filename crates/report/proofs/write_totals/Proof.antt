@@ -2,7 +2,7 @@
 use mathlib.Core.Path.{_∙_, sym, ap}
 use denote.Ref.{now}
 use borrow.Author.Needs.{needs}
-use Rattle.text.specs.Writing.{writing, bufferAfter}
+use Rattle.page.specs.Writing.{writing, bufferAfter}
 use Rattle.job.specs.Walk.{Reading}
 use Rattle.sheet.specs.Sheet.{jobWriting, jobBuffer}
 use Rattle.report.specs.Report.{reportText, totalsText}

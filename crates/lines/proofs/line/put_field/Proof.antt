@@ -1,5 +1,5 @@
 -- `put_field` meets its contract, case by case.
-use Rattle.text.proofs.Writing.{then}
+use Rattle.page.proofs.Put.{then}
 use borrow.Author.Needs.{needs}
 use Rattle.lines.proofs.line.put_field.Statement.{statement}
 use Rattle.lines.proofs.line.put_field.Tie as tie

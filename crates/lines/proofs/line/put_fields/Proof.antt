@@ -8,9 +8,9 @@ use lib.ListN.{length, take}
 use lib.Seq.{take-all}
 use Rattle.lines.specs.Lines.{lineText}
 use Rattle.lines.specs.Held.{held}
-use Rattle.text.specs.Writing.{Put}
+use Rattle.page.specs.Writing.{Put}
 use Rattle.lines.proofs.Lines.{line-none, line-first, line-next}
-use Rattle.text.proofs.Writing.{then, put-length}
+use Rattle.page.proofs.Put.{then, put-length}
 use borrow.Author.Needs.{needs}
 use Rattle.lines.proofs.line.put_fields.Statement.{statement}
 use Rattle.lines.proofs.line.put_fields.Tie as tie

@@ -1,7 +1,7 @@
 -- `put_line` meets its contract.
 use borrow.Author.Needs.{needs}
 use Rattle.lines.specs.Lines.{textOf}
-use Rattle.text.proofs.Writing.{then}
+use Rattle.page.proofs.Put.{then}
 use Rattle.lines.proofs.line.put_line.Statement.{statement}
 use Rattle.lines.proofs.line.put_line.Tie as tie
 

@@ -1,6 +1,6 @@
 -- `write_refused` meets its contract: 30 bytes hold any two numbers, so `emit` is handed the whole text.
 use denote.Ref.{now}
-use Rattle.text.proofs.Writing.{emitted}
+use Rattle.page.proofs.Put.{emitted}
 use borrow.Author.Needs.{needs}
 use Rattle.report.proofs.refusal.write_refused.Statement.{statement}
 use Rattle.report.proofs.refusal.write_refused.Tie as tie

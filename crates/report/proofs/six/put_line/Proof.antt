@@ -3,7 +3,7 @@ use borrow.Author.Needs.{needs}
 use denote.Ref.{now}
 use mir.Syntax.{w64}
 use mir.ValLaws.{toZ-ofZ}
-use Rattle.text.proofs.Writing.{then}
+use Rattle.page.proofs.Put.{then}
 use Rattle.report.proofs.Lines.{line-parts, line-length}
 use Rattle.report.proofs.six.put_line.Statement.{statement}
 use Rattle.report.proofs.six.put_line.Tie as tie

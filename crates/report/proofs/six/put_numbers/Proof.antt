@@ -4,8 +4,8 @@ use denote.Ref.{now}
 use lib.ListN.{length, take}
 use lib.Seq.{take-all}
 use borrow.Author.Needs.{needs}
-use Rattle.text.specs.Writing.{Put}
-use Rattle.text.proofs.Writing.{put-length, put-nothing, put-past}
+use Rattle.page.specs.Writing.{Put}
+use Rattle.page.proofs.Put.{put-length, put-nothing, put-past}
 use Rattle.report.specs.Lines.{spaced}
 use Rattle.report.proofs.Lines.{spaced-none, spaced-bytes, numbers-more}
 use Rattle.report.proofs.six.put_numbers.Statement.{statement}

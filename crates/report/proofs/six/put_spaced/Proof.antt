@@ -1,6 +1,6 @@
 -- `put_spaced` meets its contract: a space, and then the number.
 use borrow.Author.Needs.{needs}
-use Rattle.text.proofs.Writing.{then}
+use Rattle.page.proofs.Put.{then}
 use Rattle.report.proofs.Lines.{spaced-one, spaced-u32}
 use Rattle.report.proofs.six.put_spaced.Statement.{statement}
 use Rattle.report.proofs.six.put_spaced.Tie as tie

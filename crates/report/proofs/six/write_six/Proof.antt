@@ -1,6 +1,6 @@
 -- `write_six` meets its contract: 870 bytes hold any six lines, so `emit` is handed the whole text.
 use denote.Ref.{now}
-use Rattle.text.proofs.Writing.{emitted}
+use Rattle.page.proofs.Put.{emitted}
 use borrow.Author.Needs.{needs}
 use Rattle.report.proofs.six.write_six.Statement.{statement}
 use Rattle.report.proofs.six.write_six.Tie as tie

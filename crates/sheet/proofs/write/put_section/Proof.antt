@@ -8,8 +8,8 @@ use lib.ListN.{length, take}
 use mir.Facts.{toZ-ofZ}
 use Rattle.lines.specs.Lines.{textOf}
 use Rattle.lines.specs.Held.{lineOf}
-use Rattle.text.specs.Writing.{Put}
-use Rattle.text.proofs.Writing.{put-length}
+use Rattle.page.specs.Writing.{Put}
+use Rattle.page.proofs.Put.{put-length}
 use Rattle.job.specs.declared.Section.{Section}
 use Rattle.job.specs.declared.Section.the-variants.{W, I, F}
 use Rattle.job.specs.declared.Job.{Job}
