@@ -6,15 +6,15 @@ use denote.Ref.{now}
 use Rattle.claims.specs.Answers.{OneAnswer, OneAnswerAndBuffer}
 use Rattle.page.specs.Writing.{Put}
 use Rattle.whole.proofs.magnitude.Reads as magnitude
+use Rattle.page.proofs.put_byte.Reads as put-byte
+use Rattle.page.proofs.put_bytes.Reads as put-bytes
+use Rattle.page.proofs.emit.Reads as emit
 use Rattle.text.proofs.form.field_of.Reads as field-of
 use Rattle.lines.proofs.row.line_at.Reads as line-at
 use Rattle.lines.proofs.row.field_at.Reads as field-at
 use Rattle.lines.proofs.line.held_count.Reads as held-count
 use Rattle.lines.proofs.line.put_field.Reads as put-field
 use Rattle.lines.proofs.line.put_line.Reads as put-line
-use Rattle.page.proofs.put_byte.Reads as put-byte
-use Rattle.page.proofs.put_bytes.Reads as put-bytes
-use Rattle.page.proofs.emit.Reads as emit
 use Rattle.text.proofs.numeral.put_natural.Reads as put-natural
 use Rattle.text.proofs.numeral.put_decimal.Reads as put-decimal
 use Rattle.text.proofs.numeral.write_decimal.Reads as write-decimal
@@ -73,10 +73,7 @@ same-put p q = (same (p .end) (q .end), same (p .bytes) (q .bytes))
 magnitude-determined : OneAnswer magnitude.Post
 magnitude-determined κ a r r′ s s′ p q = same p q
 
--- ---- text
-
-field-of-determined : OneAnswer field-of.Post
-field-of-determined κ a r r′ s s′ p q = same p q
+-- ---- page
 
 put-byte-determined : OneAnswerAndBuffer put-byte.Post (λ κ s. now (s .0))
 put-byte-determined κ a r r′ s s′ p q = same-put p q
@@ -86,6 +83,11 @@ put-bytes-determined κ a r r′ s s′ p q = same-put p q
 
 emit-determined : OneAnswerAndBuffer emit.Post (λ κ s. now (s .1 .1 .0))
 emit-determined κ a r r′ s s′ p q = same-both p q
+
+-- ---- text
+
+field-of-determined : OneAnswer field-of.Post
+field-of-determined κ a r r′ s s′ p q = same p q
 
 put-natural-determined : OneAnswerAndBuffer put-natural.Post (λ κ s. now (s .0))
 put-natural-determined κ a r r′ s s′ p q = same-put p q
