@@ -185,15 +185,11 @@ rows-some s at h = go (drop at s) (rw length-drop (omega arith))
 
 -- ---- the text of a line, field by field
 
-pub line-none : (fs : List Field) → length fs ≡ 0 → lineText fs ≡ []
+-- where there is no first field, Bad has no text either
+pub line-first : (fs : List Field) → lineText (take 1 fs) ≡ fieldText (getD fs 0 Bad)
 unfolding lineText
-line-none [] h = refl
-line-none (f ∷ fs) h = absurd (omega arith)
-
-pub line-first : (fs : List Field) → 0 < length fs → lineText (take 1 fs) ≡ fieldText (getD fs 0 Bad)
-unfolding lineText
-line-first [] h = absurd (omega arith)
-line-first (f ∷ fs) h = refl
+line-first [] = refl
+line-first (f ∷ fs) = refl
 
 line-later : (fs : List Field) (i : ℕ) → suc i < length fs → lineText (take (suc (suc i)) fs) ≡ lineText (take (suc i) fs) ++ (32 ∷ fieldText (getD fs (suc i) Bad))
 unfolding lineText

@@ -8,22 +8,16 @@ ghost use Rattle.lines.specs.Lines.{fieldText, lineText, textOf};
 ghost use Rattle.lines.specs.Held.{held};
 ghost use Rattle.page.specs.Writing.{Put};
 
-fn wide(n: u32) -> u64
-    ensures { λ r. ⌜ r ≡ n ⌝ }
-{
-    n as u64
-}
-
 // A field as a line has it; nothing for Bad.
 pub fn put_field(buf: &mut [u8], at: usize, f: Field) -> usize
     ensures { λ r. ⌜ Put (now (buf .entry)) at (fieldText f) (now (buf .exit)) r ⌝ }
 {
     match f {
         Field::Bad => page::put_bytes(buf, at, b""),
-        Field::Plus(n) => text::numeral::put_natural(buf, at, wide(n)),
+        Field::Plus(n) => text::numeral::put_natural(buf, at, n as u64),
         Field::Minus(n) => {
             let next = page::put_byte(buf, at, 45);
-            text::numeral::put_natural(buf, next, wide(n))
+            text::numeral::put_natural(buf, next, n as u64)
         }
         Field::Letter(b) => page::put_byte(buf, at, b),
         Field::Dash => page::put_byte(buf, at, 45),
@@ -45,9 +39,6 @@ fn put_fields(buf: &mut [u8], at: usize, x: Line) -> usize
     ensures { λ r. ⌜ Put (now (buf .entry)) at (lineText (held x)) (now (buf .exit)) r ⌝ }
 {
     let n = held_count(x);
-    if n == 0 {
-        return page::put_bytes(buf, at, b"");
-    }
     let f = crate::row::field_at(x, 0);
     let mut next = put_field(buf, at, f);
     let mut i: usize = 1;

@@ -16,8 +16,8 @@ put-bytes-requires c κs = search needs
 enum-known-f : tie.Need-enum-known-f
 enum-known-f c = search needs
 
-wide-requires : tie.Need-wide-requires
-wide-requires c κs = search needs
+cast-put-natural : tie.Need-cast-put-natural
+cast-put-natural c = search needs
 
 put-natural-requires : tie.Need-put-natural-requires
 put-natural-requires c κs = search needs
@@ -28,8 +28,8 @@ enum-known-f-2 c = search needs
 put-byte-requires : tie.Need-put-byte-requires
 put-byte-requires c κs = search needs
 
-wide-requires-2 : tie.Need-wide-requires-2
-wide-requires-2 c κs = search needs
+cast-put-natural-2 : tie.Need-cast-put-natural-2
+cast-put-natural-2 c = search needs
 
 put-natural-requires-2 : tie.Need-put-natural-requires-2
 put-natural-requires-2 c κs = search needs
@@ -56,9 +56,7 @@ same-length-2 : tie.Need-same-length-2
 same-length-2 c = search needs
 
 returns-2 : tie.Need-returns-2
-returns-2 c =
-    let p = c .before .before in
-    rw (p .before .before .before .before .f .given .1) (rw (p .before .wide .ensures) at (p .put-natural .ensures))
+returns-2 c = let p = c .before .before in rw (p .before .before .before .f .given .1) (p .put-natural .ensures)
 
 same-length-3 : tie.Need-same-length-3
 same-length-3 c = search needs
@@ -66,8 +64,8 @@ same-length-3 c = search needs
 returns-3 : tie.Need-returns-3
 returns-3 c =
     let p = c .before .before in
-    let b = p .before .before .before .before .before in
-    rw (b .before .before .before .f2 .given .1) (then (b .put-byte .ensures) (rw (p .before .wide2 .ensures) at (p .put-natural2 .ensures)))
+    let b = p .before .before .before .before in
+    rw (b .before .before .before .f2 .given .1) (then (b .put-byte .ensures) (p .put-natural2 .ensures))
 
 same-length-4 : tie.Need-same-length-4
 same-length-4 c = search needs
@@ -89,11 +87,11 @@ put-field-spec =
     slice-aggregate-put-bytes
     put-bytes-requires
     enum-known-f
-    wide-requires
+    cast-put-natural
     put-natural-requires
     enum-known-f-2
     put-byte-requires
-    wide-requires-2
+    cast-put-natural-2
     put-natural-requires-2
     enum-known-f-3
     put-byte-requires-2

@@ -1,6 +1,6 @@
 -- `put_fields` meets its contract: after i fields their text is put, with a space before each but the first.
 use Prim.Native.Nat.{ℕ, _≤_, _<_, _-_}
-use mathlib.Core.Path.{_≡_, sym, _∙_}
+use mathlib.Core.Path.{_≡_}
 use mathlib.Core.List.{List}
 use native.Mathlib.Omega.{arith}
 use denote.Ref.{now}
@@ -9,7 +9,7 @@ use lib.Seq.{take-all}
 use Rattle.lines.specs.Lines.{lineText}
 use Rattle.lines.specs.Held.{held}
 use Rattle.page.specs.Writing.{Put}
-use Rattle.lines.proofs.Lines.{line-none, line-first, line-next}
+use Rattle.lines.proofs.Lines.{line-first, line-next}
 use Rattle.page.proofs.Put.{then, put-length}
 use borrow.Author.Needs.{needs}
 use Rattle.lines.proofs.line.put_fields.Statement.{statement}
@@ -18,7 +18,7 @@ use Rattle.lines.proofs.line.put_fields.Tie as tie
 -- the loop starts behind the first field, so it says of what stood there before it what stands there now
 abbrev Inv-loop : tie.InvT-loop
 Inv-loop buf₀ at x n next₀ i₀ buf next i =
-    (n ≡ length (held x)) × (1 ≤ i) × (i ≤ n)
+    (n ≡ length (held x)) × (1 ≤ i)
     × ((l : List ℕ) (a : ℕ) → Put l a (lineText (take 1 (held x))) buf₀ next₀ → Put l a (lineText (take i (held x))) buf next)
 
 abbrev μ-loop : tie.MeasureT-loop
@@ -26,26 +26,10 @@ abbrev μ-loop : tie.MeasureT-loop
 
 -- the function's entry, from the loop's head
 abbrev start : tie.At-loop Inv-loop μ-loop → tie.Start Inv-loop μ-loop
-start l = l .before .before .before .before .before .before .before .before .before
+start l = l .before .before .before .before .before .before .before .before
 
 held-count-requires : tie.Need-held-count-requires Inv-loop μ-loop
 held-count-requires c κs = search needs
-
-slice-aggregate-put-bytes : tie.Need-slice-aggregate-put-bytes Inv-loop μ-loop
-slice-aggregate-put-bytes c = search needs
-
-put-bytes-requires : tie.Need-put-bytes-requires Inv-loop μ-loop
-put-bytes-requires c κs = search needs
-
-same-length : tie.Need-same-length Inv-loop μ-loop
-same-length c = search needs
-
-returns : tie.Need-returns Inv-loop μ-loop
-returns c =
-    let p = c .before .before in
-    let t = p .before .before .before in
-    let x = t .before .before .before .args .x in
-    rw (line-none (held x) (sym (t .before .held-count .ensures) ∙ t .if1 .taken)) (p .put-bytes .ensures)
 
 field-at-requires : tie.Need-field-at-requires Inv-loop μ-loop
 field-at-requires c κs = search needs
@@ -54,8 +38,7 @@ put-field-requires : tie.Need-put-field-requires Inv-loop μ-loop
 put-field-requires c κs = search needs
 
 loop-holds : tie.Need-loop-holds Inv-loop μ-loop
-loop-holds c = let n = c .before .before .before .before .before .before in
-    (n .held-count .ensures, omega arith, omega (arith, c .before .before .before .before .before .if1 .left), λ l a p. p)
+loop-holds c = (c .before .before .before .before .before .held-count .ensures, search needs, λ l a p. p)
 
 field-at-requires-2 : tie.Need-field-at-requires-2 Inv-loop μ-loop
 field-at-requires-2 c κs = search needs
@@ -82,9 +65,8 @@ loop-again c =
     let few : l .loop .i < length (held x) = omega (arith, l .loop .inv .0, g .before .loop-test .taken) in (
       l .loop .inv .0,
       omega arith,
-      omega (arith, g .before .loop-test .taken),
       λ m a p. rw (line-next (held x) (l .loop .i) (l .loop .inv .1) few)
-          (then (l .loop .inv .3 m a p) (then (b .put-byte .ensures) (rw (g .field-at2 .ensures) at (q .put-field2 .ensures)))),
+          (then (l .loop .inv .2 m a p) (then (b .put-byte .ensures) (rw (g .field-at2 .ensures) at (q .put-field2 .ensures)))),
     )
 
 -- the first field, and with it all of them
@@ -92,23 +74,20 @@ one : (l : tie.At-loop Inv-loop μ-loop)
     → Put (now (start l .args .buf)) (start l .args .at) (lineText (take 1 (held (start l .args .x)))) (l .before .before .before .put-field .last .0) (l .before .before .before .put-field .result)
 one l =
     let p = l .before .before .before in
-    let g = p .before .before in
-    let x = start l .args .x in
-    let some : 0 < length (held x) = omega (arith, g .before .before .held-count .ensures, g .before .if1 .left) in
-    rw (line-first (held x) some) (rw (g .field-at .ensures) at (p .put-field .ensures))
+    rw (line-first (held (start l .args .x))) (rw (p .before .before .field-at .ensures) at (p .put-field .ensures))
 
 all : (c : tie.After-loop Inv-loop μ-loop)
     → (let l = c .before in Put (now (start l .args .buf)) (start l .args .at) (lineText (held (start l .args .x))) (l .loop .buf) (l .loop .next))
 all c =
     let l = c .before in
     rw (take-all (l .loop .i) (held (start l .args .x)) (omega (arith, l .loop .inv .0, c .loop-test .left)))
-    at (l .loop .inv .3 (now (start l .args .buf)) (start l .args .at) (one l))
+    at (l .loop .inv .2 (now (start l .args .buf)) (start l .args .at) (one l))
 
-same-length-2 : tie.Need-same-length-2 Inv-loop μ-loop
-same-length-2 c = put-length (all c)
+same-length : tie.Need-same-length Inv-loop μ-loop
+same-length c = put-length (all c)
 
-returns-2 : tie.Need-returns-2 Inv-loop μ-loop
-returns-2 c = all c
+returns : tie.Need-returns Inv-loop μ-loop
+returns c = all c
 
 pub put-fields-spec : {M : Type 1} → statement M
 put-fields-spec =
@@ -117,10 +96,6 @@ put-fields-spec =
     Inv-loop
     μ-loop
     held-count-requires
-    slice-aggregate-put-bytes
-    put-bytes-requires
-    same-length
-    returns
     field-at-requires
     put-field-requires
     loop-holds
@@ -130,5 +105,5 @@ put-fields-spec =
     add-i
     loop-less
     loop-again
-    same-length-2
-    returns-2)
+    same-length
+    returns)
