@@ -2,6 +2,7 @@
 // place after it, so that one follows another; `emit` puts a whole text at the buffer's start, or refuses.
 ghost use mathlib.Core.Path.{_≡_};
 ghost use mathlib.Core.List.{[], _∷_};
+ghost use Prim.Native.Nat.{min};
 ghost use lib.ListN.{take};
 ghost use Rattle.page.specs.Writing.{Put, writing, bufferAfter};
 
@@ -9,6 +10,15 @@ ghost use Rattle.page.specs.Writing.{Put, writing, bufferAfter};
 pub enum Writing {
     Length(usize),
     Refused(u32, u32),
+}
+
+fn lesser(a: usize, b: usize) -> usize
+    ensures { λ r. ⌜ r ≡ min a b ⌝ }
+{
+    if a < b {
+        return a;
+    }
+    b
 }
 
 pub fn put_byte(buf: &mut [u8], at: usize, b: u8) -> usize
@@ -24,10 +34,7 @@ pub fn put_byte(buf: &mut [u8], at: usize, b: u8) -> usize
 pub fn put_bytes(buf: &mut [u8], at: usize, s: &[u8]) -> usize
     ensures { λ r. ⌜ Put (now (buf .entry)) at (now (s .entry)) (now (buf .exit)) r ⌝ }
 {
-    if buf.len() < at {
-        return buf.len();
-    }
-    let mut next = at;
+    let mut next = lesser(at, buf.len());
     let mut i = 0;
     while i < s.len() {
         next = put_byte(buf, next, s[i]);
@@ -40,23 +47,14 @@ pub fn put_bytes(buf: &mut [u8], at: usize, s: &[u8]) -> usize
 pub fn emit(text: &[u8], n: usize, buf: &mut [u8]) -> Writing
     ensures { λ r. ⌜ (r ≡ writing (take n (now (text .entry))) (now (buf .entry))) × (now (buf .exit) ≡ bufferAfter (take n (now (text .entry))) (now (buf .entry))) ⌝ }
 {
-    if text.len() < n {
-        return emit_all(text, buf);
-    }
-    emit_all(&text[..n], buf)
-}
-
-fn emit_all(text: &[u8], buf: &mut [u8]) -> Writing
-    ensures { λ r. ⌜ (r ≡ writing (now (text .entry)) (now (buf .entry))) × (now (buf .exit) ≡ bufferAfter (now (text .entry)) (now (buf .entry))) ⌝ }
-{
-    if buf.len() < text.len() {
+    let size = lesser(n, text.len());
+    if buf.len() < size {
         return Writing::Refused(7, 0);
     }
-    let n = text.len();
     let mut i = 0;
-    while i < n {
+    while i < size {
         buf[i] = text[i];
         i += 1;
     }
-    Writing::Length(n)
+    Writing::Length(size)
 }

@@ -1,10 +1,12 @@
 -- `put_bytes` meets its contract: after i turns the first i bytes are put.
 use Prim.Native.Nat.{_≤_, _-_}
+use mathlib.Core.Path.{refl}
+use native.Mathlib.Omega.{arith}
 use denote.Ref.{now}
 use lib.ListN.{length, take}
 use lib.Seq.{take-all}
 use Rattle.page.specs.Writing.{Put}
-use Rattle.page.proofs.Put.{put-length, put-nothing, put-past, put-more}
+use Rattle.page.proofs.Put.{put-length, put-more}
 use borrow.Author.Needs.{needs}
 use Rattle.page.proofs.put_bytes.Statement.{statement}
 use Rattle.page.proofs.put_bytes.Tie as tie
@@ -15,15 +17,11 @@ Inv-loop buf₀ at s next₀ i₀ buf next i = (i ≤ length s) × Put buf₀ at
 abbrev μ-loop : tie.MeasureT-loop
 μ-loop buf₀ at s next₀ i₀ buf next i = length s - i
 
-returns : tie.Need-returns Inv-loop μ-loop
-returns c =
-    let a = c .before .before .before .args in
-    put-past (now (a .buf)) (a .at) (now (a .s)) (search needs)
+lesser-requires : tie.Need-lesser-requires Inv-loop μ-loop
+lesser-requires c κs = search needs
 
 loop-holds : tie.Need-loop-holds Inv-loop μ-loop
-loop-holds c =
-    let a = c .before .before .before .args in
-    (search needs, put-nothing (now (a .buf)) (a .at) (c .if1 .left))
+loop-holds c = (search needs, record { end = omega (arith, c .lesser .ensures); bytes = refl })
 
 shared-slice-read-put-byte : tie.Need-shared-slice-read-put-byte Inv-loop μ-loop
 shared-slice-read-put-byte c = search needs
@@ -46,8 +44,8 @@ loop-again c =
 same-length : tie.Need-same-length Inv-loop μ-loop
 same-length c = put-length (c .before .loop .inv .1)
 
-returns-2 : tie.Need-returns-2 Inv-loop μ-loop
-returns-2 c =
+returns : tie.Need-returns Inv-loop μ-loop
+returns c =
     let l = c .before in
     rw (take-all (l .loop .i) (now (l .before .before .before .before .args .s)) (c .loop-test .left)) at (l .loop .inv .1)
 
@@ -57,7 +55,7 @@ put-bytes-spec =
     (tie.spec
     Inv-loop
     μ-loop
-    returns
+    lesser-requires
     loop-holds
     shared-slice-read-put-byte
     put-byte-requires
@@ -65,4 +63,4 @@ put-bytes-spec =
     loop-less
     loop-again
     same-length
-    returns-2)
+    returns)
