@@ -15,12 +15,6 @@ pub enum Field {
     Dash,
 }
 
-fn wide(x: u8) -> u32
-    ensures { λ r. ⌜ r ≡ x ⌝ }
-{
-    x as u32
-}
-
 // The number that at most seven digits stand for, or Bad where a byte is no digit.
 fn digits_of(s: &[u8]) -> Field
     requires { ⌜ length (now s) ≤ 7 ⌝ }
@@ -36,7 +30,7 @@ fn digits_of(s: &[u8]) -> Field
         if 57 < d {
             return Field::Bad;
         }
-        v = v * 10 + wide(d - 48);
+        v = v * 10 + ((d - 48) as u32);
         i += 1;
     }
     Field::Plus(v)

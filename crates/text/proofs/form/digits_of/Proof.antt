@@ -1,8 +1,8 @@
 -- `digits_of` meets its contract: after i digits the number is below 10 ^ i, and what the rest say after it is what all say.
-use Prim.Native.Nat.{ℕ, _≤_, _<_, _+_, _*_, _-_, _^_}
-use mathlib.Core.Path.{_≡_, refl, sym, ap, _∙_}
+use Prim.Native.Nat.{_≤_, _<_, _-_, _^_}
+use mathlib.Core.Path.{_≡_, refl, sym, _∙_}
 use native.Mathlib.Omega.{arith}
-use lib.ListN.{length, drop}
+use lib.ListN.{length, getD, drop}
 use Rattle.text.specs.Digits.{value}
 use Rattle.text.proofs.Field.{readAfter, read-low, read-high, read-next, read-end, value-grows, value-room}
 use borrow.Author.Needs.{needs}
@@ -16,7 +16,7 @@ abbrev μ-loop : tie.MeasureT-loop
 μ-loop s v₀ i₀ v i = length s - i
 
 loop-holds : tie.Need-loop-holds Inv-loop μ-loop
-loop-holds c = (search needs, c .before .pre, search needs, refl)
+loop-holds c = (search needs, c .pre, search needs, refl)
 
 shared-slice-read-d : tie.Need-shared-slice-read-d Inv-loop μ-loop
 shared-slice-read-d c = search needs
@@ -25,22 +25,22 @@ returns : tie.Need-returns Inv-loop μ-loop
 unfolding value
 returns c =
     let l = c .before .before .before in
-    sym (l .loop .inv .3 ∙ read-low (l .before .before .args .s .now) (l .loop .i) (l .loop .v) (search needs) (c .if1 .taken))
+    sym (l .loop .inv .3 ∙ read-low (l .before .args .s .now) (l .loop .i) (l .loop .v) (search needs) (c .if1 .taken))
 
 returns-2 : tie.Need-returns-2 Inv-loop μ-loop
 unfolding value
 returns-2 c =
     let l = c .before .before .before .before in
-    sym (l .loop .inv .3 ∙ read-high (l .before .before .args .s .now) (l .loop .i) (l .loop .v) (search needs) (c .before .if1 .left) (c .if2 .taken))
+    sym (l .loop .inv .3 ∙ read-high (l .before .args .s .now) (l .loop .i) (l .loop .v) (search needs) (c .before .if1 .left) (c .if2 .taken))
 
 mul-v : tie.Need-mul-v Inv-loop μ-loop
 mul-v c = let l = c .before .before .before .before .loop in omega (arith, value-room (l .v) (l .i) (l .inv .2) (omega arith))
 
-wide-requires : tie.Need-wide-requires Inv-loop μ-loop
-wide-requires c κs = search needs
+cast-v : tie.Need-cast-v Inv-loop μ-loop
+cast-v c = search needs
 
 add-v : tie.Need-add-v Inv-loop μ-loop
-add-v c = let l = c .before .before .before .before .before .loop in omega (arith, value-room (l .v) (l .i) (l .inv .2) (omega arith))
+add-v c = let l = c .before .before .before .before .loop in omega (arith, value-room (l .v) (l .i) (l .inv .2) (omega arith))
 
 add-i : tie.Need-add-i Inv-loop μ-loop
 add-i c = search needs
@@ -50,20 +50,19 @@ loop-less c = search needs
 
 loop-again : tie.Need-loop-again Inv-loop μ-loop
 loop-again c =
-    let l = c .before .before .before .before .before in
-    let s = l .before .before .args .s .now in (
-      omega arith,
+    let l = c .before .before .before .before in
+    let s = l .before .args .s .now in (
+      search needs,
       l .loop .inv .1,
-      value-grows (l .loop .v) (l .loop .i) (c .wide .result) (l .loop .inv .2) (omega arith),
-      l .loop .inv .3 ∙ read-next s (l .loop .i) (l .loop .v) (omega arith) (c .before .before .if1 .left) (c .before .if2 .left)
-          ∙ ap (λ (d : ℕ). readAfter (l .loop .v * 10 + d) (drop (l .loop .i + 1) s)) (sym (c .wide .ensures)),
+      value-grows (l .loop .v) (l .loop .i) (getD s (l .loop .i) 0 - 48) (l .loop .inv .2) (omega arith),
+      l .loop .inv .3 ∙ read-next s (l .loop .i) (l .loop .v) (search needs) (c .before .if1 .left) (c .if2 .left),
     )
 
 returns-3 : tie.Need-returns-3 Inv-loop μ-loop
 unfolding value
 returns-3 c =
     let l = c .before in
-    sym (l .loop .inv .3 ∙ read-end (l .before .before .args .s .now) (l .loop .i) (l .loop .v) (c .loop-test .left))
+    sym (l .loop .inv .3 ∙ read-end (l .before .args .s .now) (l .loop .i) (l .loop .v) (c .loop-test .left))
 
 pub digits-of-spec : {M : Type 1} → statement M
 digits-of-spec =
@@ -76,7 +75,7 @@ digits-of-spec =
     returns
     returns-2
     mul-v
-    wide-requires
+    cast-v
     add-v
     add-i
     loop-less
