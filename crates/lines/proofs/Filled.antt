@@ -77,7 +77,7 @@ module _ (s : List ℕ) (at e : ℕ) (he : e ≡ at + fieldLength (drop at s)) (
   part = take (e - at) (drop at s)
 
   -- no LF is left
-  pub on-open : e ≡ length s → lineOn k v at (split 10 (drop at s)) ≡ noLine
+  pub on-open : length s ≤ e → lineOn k v at (split 10 (drop at s)) ≡ noLine
   unfolding lineOn
   on-open h = rw (split-last 10 (drop at s) (rw length-drop (omega arith)))
 

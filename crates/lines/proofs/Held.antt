@@ -19,7 +19,7 @@ use Rattle.lines.proofs.Lines.{Free, until-le, split-until, split-more,
 -- ---- a line by where its LF stands
 
 module _ (s : List ℕ) (at : ℕ) where
-  pub line-out : length s ≤ at + until 10 (drop at s) → lineAt s at ≡ noLine
+  line-out : length s ≤ at + until 10 (drop at s) → lineAt s at ≡ noLine
   unfolding lineAt firstLine
   line-out h = rw (split-last 10 (drop at s) (rw length-drop (omega arith)))
 

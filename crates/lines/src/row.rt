@@ -44,10 +44,9 @@ fn ends(b: u8) -> bool
     b == 10
 }
 
-// The place of the first space or LF from `at` on, or the length.
+// The place of the first space or LF from `at` on; where there is none, one past the last byte, or `at`.
 fn end_of(s: &[u8], at: usize) -> usize
-    requires { ⌜ at ≤ length (now s) ⌝ }
-    ensures { λ r. ⌜ (r ≡ at + fieldLength (drop at (now (s .entry)))) × (at ≤ r) × (r ≤ length (now (s .entry))) ⌝ }
+    ensures { λ r. ⌜ (r ≡ at + fieldLength (drop at (now (s .entry)))) × (at ≤ r) ⌝ }
 {
     let mut i = at;
     while i < s.len() {
@@ -71,21 +70,18 @@ fn slot_of(l: &[u8], at: usize, e: usize) -> Slot
 pub fn line_at(s: &[u8], at: usize) -> Line
     ensures { λ r. ⌜ r ≡ lineAt (now (s .entry)) at ⌝ }
 {
-    if s.len() < at {
-        return no_line();
-    }
     let bad = Slot { field: Field::Bad };
     let mut fields = [bad; 6];
     let mut k: usize = 0;
     let mut next = at;
     while k < 6 {
         let e = end_of(s, next);
+        if s.len() <= e {
+            return no_line();
+        }
         let f = slot_of(s, next, e);
         fields[k] = f;
         k += 1;
-        if e == s.len() {
-            return no_line();
-        }
         next = e + 1;
         if s[e] == 10 {
             return Line {

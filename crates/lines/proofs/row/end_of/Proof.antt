@@ -10,13 +10,13 @@ use Rattle.lines.proofs.row.end_of.Statement.{statement}
 use Rattle.lines.proofs.row.end_of.Tie as tie
 
 abbrev Inv-loop : tie.InvT-loop
-Inv-loop s at i₀ i = (at ≤ i) × (i ≤ length s) × (at + fieldLength (drop at s) ≡ i + fieldLength (drop i s))
+Inv-loop s at i₀ i = (at ≤ i) × (at + fieldLength (drop at s) ≡ i + fieldLength (drop i s))
 
 abbrev μ-loop : tie.MeasureT-loop
 μ-loop s at i₀ i = length s - i
 
 loop-holds : tie.Need-loop-holds Inv-loop μ-loop
-loop-holds c = (search needs, search needs, refl)
+loop-holds c = (search needs, refl)
 
 shared-slice-read-ends : tie.Need-shared-slice-read-ends Inv-loop μ-loop
 shared-slice-read-ends c = search needs
@@ -28,7 +28,7 @@ returns : tie.Need-returns Inv-loop μ-loop
 returns c =
     let l = c .before .before .before .before in
     let s = l .before .before .args .s .now in
-    (omega (arith, end-here s (l .loop .i) (omega arith) (sym (c .before .ends .ensures) ∙ c .if1 .taken)), search needs, search needs)
+    (omega (arith, end-here s (l .loop .i) (omega arith) (sym (c .before .ends .ensures) ∙ c .if1 .taken)), search needs)
 
 add-i : tie.Need-add-i Inv-loop μ-loop
 add-i c = search needs
@@ -45,7 +45,7 @@ loop-again c =
 returns-2 : tie.Need-returns-2 Inv-loop μ-loop
 returns-2 c =
     let l = c .before in
-    (omega (arith, until-end 32 (l .before .before .args .s .now) (l .loop .i) (omega arith)), search needs, search needs)
+    (omega (arith, until-end 32 (l .before .before .args .s .now) (l .loop .i) (omega arith)), search needs)
 
 pub end-of-spec : {M : Type 1} → statement M
 end-of-spec =

@@ -1,36 +1,35 @@
 -- `line_at` meets its contract: the line that comes of the fields passed and those from `next` on is the whole line.
-use Prim.Native.Nat.{_≤_, _-_}
+use Prim.Native.Nat.{_-_}
 use mathlib.Core.Path.{_≡_, sym, _∙_}
-use native.Mathlib.Omega.{arith}
-use lib.ListN.{length, drop}
+use lib.ListN.{drop}
 use Rattle.lines.specs.Lines.{split}
 use Rattle.lines.specs.Held.{lineAt}
-use Rattle.lines.proofs.Held.{line-out}
 use Rattle.lines.proofs.Filled.{lineOn, on-start, on-open, on-ended, on-more, on-full}
 use borrow.Author.Needs.{needs}
 use Rattle.lines.proofs.row.line_at.Statement.{statement}
 use Rattle.lines.proofs.row.line_at.Tie as tie
 
 abbrev Inv-loop : tie.InvT-loop
-Inv-loop s at fields₀ k₀ next₀ fields k next =
-    (next ≤ length s) × (lineAt s at ≡ lineOn k fields next (split 10 (drop next s)))
+Inv-loop s at fields₀ k₀ next₀ fields k next = lineAt s at ≡ lineOn k fields next (split 10 (drop next s))
 
 abbrev μ-loop : tie.MeasureT-loop
 μ-loop s at fields₀ k₀ next₀ fields k next = 6 - k
+
+loop-holds : tie.Need-loop-holds Inv-loop μ-loop
+loop-holds c = let a = c .before .args in on-start (a .s .now) (a .at)
+
+end-of-requires : tie.Need-end-of-requires Inv-loop μ-loop
+end-of-requires c κs = search needs
 
 no-line-requires : tie.Need-no-line-requires Inv-loop μ-loop
 no-line-requires c κs = search needs
 
 returns : tie.Need-returns Inv-loop μ-loop
 returns c =
-    let a = c .before .before .before .args in
-    c .no-line .ensures ∙ sym (line-out (a .s .now) (a .at) (omega arith))
-
-loop-holds : tie.Need-loop-holds Inv-loop μ-loop
-loop-holds c = let a = c .before .before .args in (search needs, on-start (a .s .now) (a .at))
-
-end-of-requires : tie.Need-end-of-requires Inv-loop μ-loop
-end-of-requires c κs = search needs
+    let f = c .before .before in
+    let l = f .before .before in
+    let s = l .before .before .args .s .now in
+    c .no-line .ensures ∙ sym (l .loop .inv ∙ on-open s (l .loop .next) (f .end-of .result) (f .end-of .ensures .0) (l .loop .k) (l .loop .fields) (c .before .if1 .taken))
 
 slot-of-requires : tie.Need-slot-of-requires Inv-loop μ-loop
 slot-of-requires c κs = search needs
@@ -44,48 +43,38 @@ array-set-from-fields c = search needs
 add-k : tie.Need-add-k Inv-loop μ-loop
 add-k c = search needs
 
-no-line-requires-2 : tie.Need-no-line-requires-2 Inv-loop μ-loop
-no-line-requires-2 c κs = search needs
-
-returns-2 : tie.Need-returns-2 Inv-loop μ-loop
-returns-2 c =
-    let f = c .before .before .before in
-    let l = f .before .before in
-    let s = l .before .before .before .args .s .now in
-    c .no-line2 .ensures ∙ sym (l .loop .inv .1 ∙ on-open s (l .loop .next) (f .end-of .result) (f .end-of .ensures .0) (l .loop .k) (l .loop .fields) (c .before .if2 .taken))
-
 add-next : tie.Need-add-next Inv-loop μ-loop
 add-next c = search needs
 
-shared-slice-read-if3 : tie.Need-shared-slice-read-if3 Inv-loop μ-loop
-shared-slice-read-if3 c = search needs
+shared-slice-read-if2 : tie.Need-shared-slice-read-if2 Inv-loop μ-loop
+shared-slice-read-if2 c = search needs
 
-returns-3 : tie.Need-returns-3 Inv-loop μ-loop
-returns-3 c =
-    let p = c .before .before .before in
-    let f = p .before in
+returns-2 : tie.Need-returns-2 Inv-loop μ-loop
+returns-2 c =
+    let p = c .before .before in
+    let f = p .before .before in
     let l = f .before .before in
-    let s = l .before .before .before .args .s .now in
-    sym (l .loop .inv .1 ∙ on-ended s (l .loop .next) (f .end-of .result) (f .end-of .ensures .0) (l .loop .k) (l .loop .fields) (search needs) (p .slot-of .result) (p .slot-of .ensures) (search needs) (c .if3 .taken))
+    let s = l .before .before .args .s .now in
+    sym (l .loop .inv ∙ on-ended s (l .loop .next) (f .end-of .result) (f .end-of .ensures .0) (l .loop .k) (l .loop .fields) (p .before .if1 .left) (p .slot-of .result) (p .slot-of .ensures) (search needs) (c .if2 .taken))
 
 loop-less : tie.Need-loop-less Inv-loop μ-loop
 loop-less c = search needs
 
 loop-again : tie.Need-loop-again Inv-loop μ-loop
 loop-again c =
-    let p = c .before .before .before in
-    let f = p .before in
+    let p = c .before .before in
+    let f = p .before .before in
     let l = f .before .before in
-    let s = l .before .before .before .args .s .now in
-    (search needs, l .loop .inv .1 ∙ on-more s (l .loop .next) (f .end-of .result) (f .end-of .ensures .0) (l .loop .k) (l .loop .fields) (search needs) (p .slot-of .result) (p .slot-of .ensures) (c .if3 .left))
+    let s = l .before .before .args .s .now in
+    l .loop .inv ∙ on-more s (l .loop .next) (f .end-of .result) (f .end-of .ensures .0) (l .loop .k) (l .loop .fields) (p .before .if1 .left) (p .slot-of .result) (p .slot-of .ensures) (c .if2 .left)
 
-no-line-requires-3 : tie.Need-no-line-requires-3 Inv-loop μ-loop
-no-line-requires-3 c κs = search needs
+no-line-requires-2 : tie.Need-no-line-requires-2 Inv-loop μ-loop
+no-line-requires-2 c κs = search needs
 
-returns-4 : tie.Need-returns-4 Inv-loop μ-loop
-returns-4 c =
+returns-3 : tie.Need-returns-3 Inv-loop μ-loop
+returns-3 c =
     let l = c .before .before in
-    c .no-line3 .ensures ∙ sym (l .loop .inv .1 ∙ on-full (l .loop .k) (l .loop .fields) (l .loop .next) _ (c .before .loop-test .left))
+    c .no-line2 .ensures ∙ sym (l .loop .inv ∙ on-full (l .loop .k) (l .loop .fields) (l .loop .next) _ (c .before .loop-test .left))
 
 pub line-at-spec : {M : Type 1} → statement M
 line-at-spec =
@@ -93,20 +82,18 @@ line-at-spec =
     (tie.spec
     Inv-loop
     μ-loop
-    no-line-requires
-    returns
     loop-holds
     end-of-requires
+    no-line-requires
+    returns
     slot-of-requires
     mul-fields
     array-set-from-fields
     add-k
-    no-line-requires-2
-    returns-2
     add-next
-    shared-slice-read-if3
-    returns-3
+    shared-slice-read-if2
+    returns-2
     loop-less
     loop-again
-    no-line-requires-3
-    returns-4)
+    no-line-requires-2
+    returns-3)
