@@ -34,7 +34,7 @@ pub extern "C" fn aral_rewrite(sheet: &[u8], out: &mut [u8]) -> answers::Text
     if read.number != 0 {
         return answers::no_text(read.number, read.line);
     }
-    answers::text_of(sheet::write::write_sheet(read.job, out))
+    answers::text_of(written::write_sheet(read.job, out))
 }
 
 // Its report.

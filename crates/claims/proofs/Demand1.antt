@@ -31,7 +31,7 @@ use Rattle.book.proofs.outside.Reads as outside
 use Rattle.book.proofs.net.Reads as net
 use Rattle.job.proofs.judge.judge.Reads as judge
 use Rattle.sheet.proofs.read.read_sheet.Reads as read-sheet
-use Rattle.sheet.proofs.write.write_sheet.Reads as write-sheet
+use Rattle.written.proofs.write_sheet.Reads as write-sheet
 use Rattle.worst.proofs.worst_cases.Reads as worst-cases
 use Rattle.report.proofs.write_report.Reads as write-report
 use Rattle.report.proofs.write_totals.Reads as write-totals

@@ -36,7 +36,7 @@ use Rattle.entry.proofs.says.wind_of.Reads as wind-of
 use Rattle.entry.proofs.says.internal_of.Reads as internal-of
 use Rattle.entry.proofs.says.face_of.Reads as face-of
 use Rattle.sheet.proofs.read.read_sheet.Reads as read-sheet
-use Rattle.sheet.proofs.write.write_sheet.Reads as write-sheet
+use Rattle.written.proofs.write_sheet.Reads as write-sheet
 use Rattle.worst.proofs.worst_cases.Reads as worst-cases
 use Rattle.report.proofs.write_report.Reads as write-report
 use Rattle.report.proofs.write_totals.Reads as write-totals
@@ -174,6 +174,8 @@ face-of-determined κ a r r′ s s′ p q = same p q
 
 read-sheet-determined : OneAnswer read-sheet.Post
 read-sheet-determined κ a r r′ s s′ p q = same p q
+
+-- ---- written
 
 write-sheet-determined : OneAnswerAndBuffer write-sheet.Post (λ κ s. now (s .1 .0))
 write-sheet-determined κ a r r′ s s′ p q = same-both p q

@@ -9,6 +9,4 @@ pub mod RoundTrip
 pub mod Steps
 pub mod Holds
 pub mod Within
-pub mod Put
-pub mod Written
 pub mod Worked

@@ -22,12 +22,6 @@ use Rattle.sheet.specs.declared.sections.Place.{Place}
 
 -- ---- entries and their room
 
--- what a record has room for
-pub record Roomed (c : Carried) : Type 0 where
-  pub winds : length (c .winds) ≤ about W .most
-  pub internals : length (c .internals) ≤ about I .most
-  pub faces : length (c .faces) ≤ about F .most
-
 -- a count and its entries hold a list, with d in the rest of the room
 pub record Holds {A : Type 0} (d : A) (room count : ℕ) (entry list : List A) : Type 0 where
   pub counts : count ≡ length list

@@ -1,5 +1,4 @@
-// The sheet of a job: its text read and written.
+// The sheet of a job: its text read.
 mod empty;
 pub mod read;
 mod sections;
-pub mod write;

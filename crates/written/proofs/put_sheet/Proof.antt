@@ -8,11 +8,11 @@ use Rattle.job.specs.Carried.{carried}
 use Rattle.entry.specs.Fields.{windFields, internalFields, faceFields}
 use Rattle.job.specs.Lines.{entriesOf, sectionOf, linesOf}
 use Rattle.job.proofs.Alone.{winds-counted, internals-counted, faces-counted}
 use Rattle.sheet.specs.Sheet.{sheetText}
-use Rattle.sheet.proofs.Put.{then-lines}
+use Rattle.written.proofs.Puts.{then-lines}
 use borrow.Author.Needs.{needs}
-use Rattle.sheet.proofs.write.put_sheet.Statement.{statement}
-use Rattle.sheet.proofs.write.put_sheet.Tie as tie
+use Rattle.written.proofs.put_sheet.Statement.{statement}
+use Rattle.written.proofs.put_sheet.Tie as tie
 
 put-section-requires : tie.Need-put-section-requires
 put-section-requires c κs = search needs

@@ -15,10 +15,10 @@ use Rattle.job.specs.Lines.{linesOf}
 use Rattle.job.specs.Walk.{Accepted, verdict, judged}
 use Rattle.job.proofs.InOrder.{accepted-in-order}
 use Rattle.job.proofs.Verdicts.{judged-refused, judged-accepted}
 use Rattle.sheet.specs.Sheet.{sheetText, jobWriting, jobBuffer}
-use Rattle.sheet.specs.Steps.{Roomed}
+use Rattle.written.specs.Roomed.{Roomed}
 use Rattle.sheet.proofs.Part.{longest-sheet}
 use Rattle.sheet.proofs.RoundTrip.{written-read}
 
 module _ (j : Job) (v : Verdict) (e : v ≡ verdict (judged j)) where
   pub job-refused : (v .number ≡ 0 → ⊥) → (buf : List ℕ)

@@ -1,9 +1,9 @@
 -- `write_sheet` meets its contract.
 use mathlib.Core.Path.{refl}
-use Rattle.sheet.proofs.Written.{job-refused, job-roomed, job-written}
+use Rattle.written.proofs.Judged.{job-refused, job-roomed, job-written}
 use borrow.Author.Needs.{needs}
-use Rattle.sheet.proofs.write.write_sheet.Statement.{statement}
-use Rattle.sheet.proofs.write.write_sheet.Tie as tie
+use Rattle.written.proofs.write_sheet.Statement.{statement}
+use Rattle.written.proofs.write_sheet.Tie as tie
 
 judge-requires : tie.Need-judge-requires
 judge-requires c κs = search needs

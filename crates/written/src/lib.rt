@@ -18,8 +18,8 @@ ghost use Rattle.job.specs.Carried.{carried};
 ghost use Rattle.job.specs.Sections.{about};
 ghost use Rattle.job.specs.Lines.{sectionOf, entriesOf};
 ghost use Rattle.job.specs.Walk.{judged};
 ghost use Rattle.sheet.specs.Sheet.{sheetText, jobWriting, jobBuffer};
-ghost use Rattle.sheet.specs.Steps.{Roomed};
+ghost use Rattle.written.specs.Roomed.{Roomed};
 
 // A section of n entries: its count, and the entries.
 fn put_section(buf: &mut [u8], at: usize, j: Job, sec: Section, n: u32) -> usize

@@ -19,10 +19,10 @@ use Rattle.entry.specs.Fields.{internalFields}
 use Rattle.job.specs.Lines.{entriesOf}
 use Rattle.job.proofs.Sections.{countLine}
 use Rattle.job.proofs.Alone.{entryOf, most-24}
-use Rattle.sheet.proofs.Put.{entry-held, put-none, put-entry, put-all}
+use Rattle.written.proofs.Puts.{entry-held, put-none, put-entry, put-all}
 use borrow.Author.Needs.{needs, sfits-of}
-use Rattle.sheet.proofs.write.put_section.Statement.{statement}
-use Rattle.sheet.proofs.write.put_section.Tie as tie
+use Rattle.written.proofs.put_section.Statement.{statement}
+use Rattle.written.proofs.put_section.Tie as tie
 
 abbrev Inv-loop : tie.InvT-loop
 Inv-loop buf₀ at sec n g winds internals faces next₀ i₀ buf next i =
