@@ -1,4 +1,3 @@
--- The laws, each file by the definitions that it is about.
+-- The laws of digits, and numbers worked out.
 pub mod Digits
-pub mod Field
 pub mod Worked

@@ -1,3 +1,2 @@
--- What a number's digits are, and what a field says.
+-- What a number's digits are, and what digits stand for.
 pub mod Digits
-pub mod Field

@@ -1,3 +1,46 @@
-// Fields of the sheet read, and numbers written.
-pub mod form;
-pub mod numeral;
+// Numbers written in decimal.
+use page::Writing;
+ghost use mathlib.Core.Path.{_≡_};
+ghost use Rattle.page.specs.Writing.{Put, writing, bufferAfter};
+ghost use Rattle.text.specs.Digits.{digits, decimal};
+
+// The digits of n, most significant first: those of a tenth of it, and then the last.
+fn put_long(buf: &mut [u8], at: usize, n: u64) -> usize
+    ensures { λ r. ⌜ Put (now (buf .entry)) at (digits n) (now (buf .exit)) r ⌝ }
+{
+    if n < 10 {
+        return page::put_byte(buf, at, 48 + (n as u8));
+    }
+    let end = put_long(buf, at, n / 10);
+    page::put_byte(buf, end, 48 + ((n % 10) as u8))
+}
+
+// The same. One digit is put here, without the recursion, so that a caller takes it inline.
+pub fn put_natural(buf: &mut [u8], at: usize, n: u64) -> usize
+    ensures { λ r. ⌜ Put (now (buf .entry)) at (digits n) (now (buf .exit)) r ⌝ }
+{
+    if n < 10 {
+        return page::put_byte(buf, at, 48 + (n as u8));
+    }
+    put_long(buf, at, n)
+}
+
+pub fn put_decimal(buf: &mut [u8], at: usize, z: i64) -> usize
+    ensures { λ r. ⌜ Put (now (buf .entry)) at (decimal z) (now (buf .exit)) r ⌝ }
+{
+    let m = whole::magnitude(z);
+    if z < 0 {
+        let next = page::put_byte(buf, at, 45);
+        return put_natural(buf, next, m);
+    }
+    put_natural(buf, at, m)
+}
+
+// z in decimal at the start of `buf`.
+pub fn write_decimal(z: i64, buf: &mut [u8]) -> Writing
+    ensures { λ r. ⌜ (r ≡ writing (decimal z) (now (buf .entry))) × (now (buf .exit) ≡ bufferAfter (decimal z) (now (buf .entry))) ⌝ }
+{
+    let mut text = [0u8; 20];
+    let n = put_decimal(&mut text, 0, z);
+    page::emit(&text, n, buf)
+}

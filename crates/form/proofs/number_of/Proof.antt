@@ -3,11 +3,11 @@ use mathlib.Core.Path.{ap, _∙_}
 use native.Mathlib.Nat.{le-of-eq}
 use lib.ListN.{length-drop}
 use lib.Seq.{take-all}
-use Rattle.text.specs.Field.{negative}
-use Rattle.text.proofs.Field.{number-none, number-minus, number-plus}
+use Rattle.form.specs.Field.{negative}
+use Rattle.form.proofs.Fields.{number-none, number-minus, number-plus}
 use borrow.Author.Needs.{needs}
-use Rattle.text.proofs.form.number_of.Statement.{statement}
-use Rattle.text.proofs.form.number_of.Tie as tie
+use Rattle.form.proofs.number_of.Statement.{statement}
+use Rattle.form.proofs.number_of.Tie as tie
 
 returns : tie.Need-returns
 returns c = number-none _ (c .if1 .taken)

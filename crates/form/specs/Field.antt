@@ -4,9 +4,9 @@ use mathlib.Core.Bool.{Bool, cond, not, _&&_}
 use mathlib.Core.List.{List}
 use lib.Dec.{ltb, leb, eqb}
 use lib.ListN.{length, getD, drop}
-use Rattle.text.specs.declared.form.Field.{Field}
-use Rattle.text.specs.declared.form.Field.the-variants.{Bad, Plus, Minus, Letter, Dash}
+use Rattle.form.specs.declared.Field.{Field}
+use Rattle.form.specs.declared.Field.the-variants.{Bad, Plus, Minus, Letter, Dash}
 use Rattle.text.specs.Digits.{allDigits, value}
 
 abbrev pub first : List ℕ → ℕ
 first f = getD f 0 0

@@ -1,9 +1,9 @@
 -- `field_of` meets its contract: each way through the tests is one of the definition's cases.
 use mathlib.Core.Path.{_∙_}
-use Rattle.text.proofs.Field.{field-many, field-dash, field-low, field-high, field-letter}
+use Rattle.form.proofs.Fields.{field-many, field-dash, field-low, field-high, field-letter}
 use borrow.Author.Needs.{needs}
-use Rattle.text.proofs.form.field_of.Statement.{statement}
-use Rattle.text.proofs.form.field_of.Tie as tie
+use Rattle.form.proofs.field_of.Statement.{statement}
+use Rattle.form.proofs.field_of.Tie as tie
 
 number-of-requires : tie.Need-number-of-requires
 number-of-requires c κs = search needs

@@ -1,9 +1,9 @@
 -- `unsigned_of` meets its contract: each test is one of the definition's.
 use mathlib.Core.Path.{_∙_}
-use Rattle.text.proofs.Field.{form-none, form-long, form-led, unsigned-no, unsigned-zero, unsigned-plain}
+use Rattle.form.proofs.Fields.{form-none, form-long, form-led, unsigned-no, unsigned-zero, unsigned-plain}
 use borrow.Author.Needs.{needs}
-use Rattle.text.proofs.form.unsigned_of.Statement.{statement}
-use Rattle.text.proofs.form.unsigned_of.Tie as tie
+use Rattle.form.proofs.unsigned_of.Statement.{statement}
+use Rattle.form.proofs.unsigned_of.Tie as tie
 
 returns : tie.Need-returns
 returns c = unsigned-no _ (form-none _ (c .if1 .taken))

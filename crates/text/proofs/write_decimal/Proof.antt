@@ -5,8 +5,8 @@ use mir.ValLaws.{toZ-ofZ}
 use Rattle.page.proofs.Put.{emitted}
 use Rattle.text.proofs.Digits.{decimal-length}
 use borrow.Author.Needs.{needs}
-use Rattle.text.proofs.numeral.write_decimal.Statement.{statement}
-use Rattle.text.proofs.numeral.write_decimal.Tie as tie
+use Rattle.text.proofs.write_decimal.Statement.{statement}
+use Rattle.text.proofs.write_decimal.Tie as tie
 
 slice-aggregate-put-decimal : tie.Need-slice-aggregate-put-decimal
 slice-aggregate-put-decimal c = search needs

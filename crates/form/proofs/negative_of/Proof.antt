@@ -4,12 +4,12 @@ use mathlib.Core.Path.{_≡_, refl, sym, ap, _∙_}
 use mathlib.Core.Logic.{_⊎_, inl, inr}
 use native.Mathlib.Omega.{arith}
 use Rattle.whole.proofs.Tests.{by-test}
-use Rattle.text.specs.declared.form.Field.the-variants.{Minus}
-use Rattle.text.specs.Field.{digitsInForm}
-use Rattle.text.proofs.Field.{unsigned-yes, unsigned-form, negative-yes, negative-zero, negative-no}
+use Rattle.form.specs.declared.Field.the-variants.{Minus}
+use Rattle.form.specs.Field.{digitsInForm}
+use Rattle.form.proofs.Fields.{unsigned-yes, unsigned-form, negative-yes, negative-zero, negative-no}
 use borrow.Author.Needs.{needs}
-use Rattle.text.proofs.form.negative_of.Statement.{statement}
-use Rattle.text.proofs.form.negative_of.Tie as tie
+use Rattle.form.proofs.negative_of.Statement.{statement}
+use Rattle.form.proofs.negative_of.Tie as tie
 
 -- the other arm's tags are not that of `Plus`
 other : (t : ℕ) → (t ≡ 0) ⊎ ((t ≡ 2) ⊎ ((t ≡ 3) ⊎ (t ≡ 4))) → t ≡ 1 → ⊥

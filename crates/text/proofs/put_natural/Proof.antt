@@ -1,8 +1,8 @@
 -- `put_natural` meets its contract.
 use Rattle.text.proofs.Digits.{digits-small}
 use borrow.Author.Needs.{needs}
-use Rattle.text.proofs.numeral.put_natural.Statement.{statement}
-use Rattle.text.proofs.numeral.put_natural.Tie as tie
+use Rattle.text.proofs.put_natural.Statement.{statement}
+use Rattle.text.proofs.put_natural.Tie as tie
 
 cast-put-byte : tie.Need-cast-put-byte
 cast-put-byte c = search needs

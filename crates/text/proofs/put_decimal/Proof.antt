@@ -9,8 +9,8 @@ use Rattle.page.proofs.Put.{then}
 use Rattle.text.specs.Digits.{digits, decimal}
 use Rattle.text.proofs.Digits.{decimal-below, decimal-above}
 use borrow.Author.Needs.{needs}
-use Rattle.text.proofs.numeral.put_decimal.Statement.{statement}
-use Rattle.text.proofs.numeral.put_decimal.Tie as tie
+use Rattle.text.proofs.put_decimal.Statement.{statement}
+use Rattle.text.proofs.put_decimal.Tie as tie
 
 -- the text, in either arm
 below : (c : tie.Then1) → decimal (c .before .before .before .args .z) ≡ 45 ∷ digits (c .before .magnitude .result)

@@ -3,11 +3,11 @@ use Prim.Native.Nat.{_≤_, _<_, _-_, _^_}
 use mathlib.Core.Path.{_≡_, refl, sym, _∙_}
 use native.Mathlib.Omega.{arith}
 use lib.ListN.{length, getD, drop}
 use Rattle.text.specs.Digits.{value}
-use Rattle.text.proofs.Field.{readAfter, read-low, read-high, read-next, read-end, value-grows, value-room}
+use Rattle.form.proofs.Fields.{readAfter, read-low, read-high, read-next, read-end, value-grows, value-room}
 use borrow.Author.Needs.{needs}
-use Rattle.text.proofs.form.digits_of.Statement.{statement}
-use Rattle.text.proofs.form.digits_of.Tie as tie
+use Rattle.form.proofs.digits_of.Statement.{statement}
+use Rattle.form.proofs.digits_of.Tie as tie
 
 abbrev Inv-loop : tie.InvT-loop
 Inv-loop s v₀ i₀ v i = (i ≤ length s) × (length s ≤ 7) × (v < 10 ^ i) × (readAfter 0 s ≡ readAfter v (drop i s))

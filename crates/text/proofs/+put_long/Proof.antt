@@ -7,11 +7,11 @@ use borrow.Fn.PlainCycle.{Measures, is, falls, and}
 use Rattle.page.proofs.Put.{then}
 use Rattle.page.proofs.put_byte.Reads as put-byte
 use Rattle.text.proofs.Digits.{digits-small, digits-more}
-use Rattle.text.proofs.numeral.put_long.Reads as f
-use Rattle.text.proofs.numeral.put_long.Kinds as f-kinds
-use Rattle.text.proofs.numeral.+put_long.Lts-put_long as lts
-use Rattle.text.proofs.numeral.+put_long.{statement}
-use Rattle.text.proofs.numeral.+put_long.Tie.{close}
+use Rattle.text.proofs.put_long.Reads as f
+use Rattle.text.proofs.put_long.Kinds as f-kinds
+use Rattle.text.proofs.+put_long.Lts-put_long as lts
+use Rattle.text.proofs.+put_long.{statement}
+use Rattle.text.proofs.+put_long.Tie.{close}
 
 abbrev μ : Measures 1 f-kinds.ps ℕ
 μ κs a = a .1 .1 .0

@@ -1,0 +1,3 @@
+-- The laws of a field, and fields worked out.
+pub mod Fields
+pub mod Worked

@@ -1,0 +1,2 @@
+-- What a field says.
+pub mod Field
