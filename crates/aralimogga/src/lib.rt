@@ -120,7 +120,7 @@ pub extern "C" fn aral_net(
 pub extern "C" fn aral_digits(number: i64, out: &mut [u8]) -> answers::Text
     ensures { λ r. ⌜ (r ≡ textOf (writing (decimal number) (now (out .entry)))) × (now (out .exit) ≡ bufferAfter (decimal number) (now (out .entry))) ⌝ }
 {
-    answers::text_of(text::numeral::write_decimal(number, out))
+    answers::text_of(text::write_decimal(number, out))
 }
 
 // The doubles of a total.

@@ -25,7 +25,7 @@ use Rattle.report.specs.Report.{reportText, totalsText}
 use Rattle.answers.specs.Answers.{noText, textOf, noExtreme, totalOf}
 use Rattle.claims.specs.Answers.{AsksNothing, RefusedUnchanged, IsRefused}
 use Rattle.page.proofs.emit.Reads as emit
-use Rattle.text.proofs.numeral.write_decimal.Reads as write-decimal
+use Rattle.text.proofs.write_decimal.Reads as write-decimal
 use Rattle.building.proofs.building_fault.Reads as building-fault
 use Rattle.book.proofs.outside.Reads as outside
 use Rattle.book.proofs.net.Reads as net

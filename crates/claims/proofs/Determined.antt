@@ -9,15 +9,15 @@ use Rattle.whole.proofs.magnitude.Reads as magnitude
 use Rattle.page.proofs.put_byte.Reads as put-byte
 use Rattle.page.proofs.put_bytes.Reads as put-bytes
 use Rattle.page.proofs.emit.Reads as emit
-use Rattle.text.proofs.form.field_of.Reads as field-of
+use Rattle.text.proofs.put_natural.Reads as put-natural
+use Rattle.text.proofs.put_decimal.Reads as put-decimal
+use Rattle.text.proofs.write_decimal.Reads as write-decimal
+use Rattle.form.proofs.field_of.Reads as field-of
 use Rattle.lines.proofs.row.line_at.Reads as line-at
 use Rattle.lines.proofs.row.field_at.Reads as field-at
 use Rattle.lines.proofs.line.held_count.Reads as held-count
 use Rattle.lines.proofs.line.put_field.Reads as put-field
 use Rattle.lines.proofs.line.put_line.Reads as put-line
-use Rattle.text.proofs.numeral.put_natural.Reads as put-natural
-use Rattle.text.proofs.numeral.put_decimal.Reads as put-decimal
-use Rattle.text.proofs.numeral.write_decimal.Reads as write-decimal
 use Rattle.building.proofs.building_fault.Reads as building-fault
 use Rattle.building.proofs.zone_on.Reads as zone-on
 use Rattle.building.proofs.asked.Reads as asked
@@ -86,9 +86,6 @@ emit-determined κ a r r′ s s′ p q = same-both p q
 
 -- ---- text
 
-field-of-determined : OneAnswer field-of.Post
-field-of-determined κ a r r′ s s′ p q = same p q
-
 put-natural-determined : OneAnswerAndBuffer put-natural.Post (λ κ s. now (s .0))
 put-natural-determined κ a r r′ s s′ p q = same-put p q
 
@@ -97,6 +94,13 @@ put-decimal-determined κ a r r′ s s′ p q = same-put p q
 
 write-decimal-determined : OneAnswerAndBuffer write-decimal.Post (λ κ s. now (s .1 .0))
 write-decimal-determined κ a r r′ s s′ p q = same-both p q
+
+-- ---- form
+
+field-of-determined : OneAnswer field-of.Post
+field-of-determined κ a r r′ s s′ p q = same p q
+
+-- ---- lines
 
 line-at-determined : OneAnswer line-at.Post
 line-at-determined κ a r r′ s s′ p q = same p q

@@ -8,7 +8,7 @@ use lib.ListN.{length, getD, take, length-map}
 use lib.Seq.{take-all}
 use Rattle.whole.specs.Lists.{firstOf}
 use Rattle.whole.proofs.Lists.{every-take, getD-map, firstOf-length, firstOf-getD}
-use Rattle.text.specs.declared.form.Field.{Field}
+use Rattle.form.specs.declared.Field.{Field}
 use Rattle.job.specs.declared.Section.{Section}
 use Rattle.job.specs.declared.Section.the-variants.{B, W, I, F}
 use Rattle.job.specs.declared.Kind.the-variants.{Count, Entry}

@@ -10,8 +10,8 @@ use lib.Dec.{T, leb, leb→le}
 use Rattle.whole.specs.Lists.{Every}
 use Rattle.whole.proofs.Lists.{every-by}
 use Rattle.whole.proofs.Table.{both, both-left, both-right, all}
-use Rattle.text.specs.declared.form.Field.{Field}
-use Rattle.text.specs.declared.form.Field.the-variants.{Bad, Plus, Minus, Letter, Dash}
+use Rattle.form.specs.declared.Field.{Field}
+use Rattle.form.specs.declared.Field.the-variants.{Bad, Plus, Minus, Letter, Dash}
 use Rattle.lines.specs.Lines.{NotBad, InForm, LinesInForm}
 use Rattle.job.specs.declared.Rule.{Rule}
 use Rattle.job.specs.declared.Rule.the-variants.{LetterFrom, NumberFrom, SizeTo, Direction, Mark}

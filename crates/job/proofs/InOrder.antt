@@ -10,7 +10,7 @@ use lib.IntN.{ℤ, pos, negsuc, natAbs}
 use Rattle.whole.specs.Lists.{Every}
 use Rattle.whole.proofs.Lists.{every-by, map-every, every-at}
 use Rattle.whole.proofs.Size.{natAbs-neg}
-use Rattle.text.specs.declared.form.Field.{Field}
+use Rattle.form.specs.declared.Field.{Field}
 use Rattle.building.specs.declared.Building.{Building}
 use Rattle.building.specs.Places.{zoneOn}
 use Rattle.job.specs.declared.Rule.the-variants.{NumberFrom, SizeTo, Direction, Mark}

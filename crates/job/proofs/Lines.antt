@@ -8,8 +8,8 @@ use lib.Dec.{leb, eqb}
 use lib.IntN.{ℤ, pos, negsuc, negℤ}
 use borrow.Author.Tests.{le-leb, ne-eqb, eqb-true}
 use Rattle.whole.proofs.Tests.{by-test}
-use Rattle.text.specs.declared.form.Field.{Field}
-use Rattle.text.specs.declared.form.Field.the-variants.{Plus, Minus}
+use Rattle.form.specs.declared.Field.{Field}
+use Rattle.form.specs.declared.Field.the-variants.{Plus, Minus}
 use Rattle.lines.specs.Lines.{NotBad}
 use Rattle.building.specs.declared.Building.{Building}
 use Rattle.job.specs.declared.Rule.{Rule}

@@ -9,8 +9,8 @@ use lib.Seq.{drop-cons}
 use lib.Dec.{eqb, ltb}
 use borrow.Author.Tests.{ne-eqb, ltb-true, ltb-false}
 use Rattle.whole.proofs.Tests.{by-test}
-use Rattle.text.specs.declared.form.Field.{Field}
-use Rattle.text.specs.declared.form.Field.the-variants.{Bad}
+use Rattle.form.specs.declared.Field.{Field}
+use Rattle.form.specs.declared.Field.the-variants.{Bad}
 use Rattle.job.specs.declared.Rule.{Rule}
 use Rattle.job.specs.Rules.{fieldFault, lower, lowest, fieldsFault}
 use Rattle.entry.specs.Says.{at}

@@ -10,8 +10,8 @@ use lib.Dec.{eqb, leb, T, leb→le}
 use borrow.Author.Tests.{eq-eqb, ne-eqb, eqb-true, eqb-false, leb-true, leb-false}
 use Rattle.whole.proofs.Tests.{by-test}
 use Rattle.whole.proofs.Table.{both-left, both-right, all}
-use Rattle.text.specs.declared.form.Field.{Field}
-use Rattle.text.specs.declared.form.Field.the-variants.{Bad, Plus, Minus, Letter, Dash}
+use Rattle.form.specs.declared.Field.{Field}
+use Rattle.form.specs.declared.Field.the-variants.{Bad, Plus, Minus, Letter, Dash}
 use Rattle.building.specs.declared.Building.{Building}
 use Rattle.building.specs.Building.{buildingFault}
 use Rattle.building.specs.Places.{zoneOn}

@@ -7,7 +7,7 @@ use lib.IntN.{ℤ, pos, negsuc, natAbs}
 use lib.Dec.{leb, ltb}
 use borrow.Author.Tests.{le-leb, ne-eqb, ltb-true, ltb-false}
 use Rattle.whole.proofs.Tests.{by-test}
-use Rattle.text.specs.declared.form.Field.the-variants.{Bad, Plus}
+use Rattle.form.specs.declared.Field.the-variants.{Bad, Plus}
 use Rattle.building.specs.declared.Building.{Building}
 use Rattle.building.specs.Building.{tooLong, outOfForm, buildingFault}
 use Rattle.job.specs.declared.Rule.{Rule}

@@ -1,8 +1,8 @@
 -- The lines of fields of what a sheet carries: sections B, W, I, F in that order, each after its count.
 use mathlib.Core.List.{List, [], _∷_, _++_, map}
 use lib.ListN.{length}
-use Rattle.text.specs.declared.form.Field.{Field}
-use Rattle.text.specs.declared.form.Field.the-variants.{Plus, Letter}
+use Rattle.form.specs.declared.Field.{Field}
+use Rattle.form.specs.declared.Field.the-variants.{Plus, Letter}
 use Rattle.job.specs.declared.Section.{Section}
 use Rattle.job.specs.declared.Section.the-variants.{B, W, I, F}
 use Rattle.job.specs.Carried.{Carried}

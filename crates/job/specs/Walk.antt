@@ -3,7 +3,7 @@ use Prim.Native.Nat.{ℕ, _+_}
 use mathlib.Core.List.{List, [], _∷_, _++_}
 use mathlib.Core.Bool.{cond}
 use lib.Dec.{eqb}
-use Rattle.text.specs.declared.form.Field.{Field}
+use Rattle.form.specs.declared.Field.{Field}
 use Rattle.job.specs.declared.Section.the-variants.{B, W, I, F}
 use Rattle.job.specs.declared.Kind.{Kind}
 use Rattle.job.specs.declared.Kind.the-variants.{Count}

@@ -1,7 +1,7 @@
 // The fault of one field under its rule.
 use crate::Rule;
 use entry::says::size_of;
-use text::form::Field;
+use form::Field;
 ghost use mathlib.Core.Path.{_≡_};
 ghost use mathlib.Core.Bool.{_&&_, _||_};
 ghost use lib.Dec.{leb, eqb};

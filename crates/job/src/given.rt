@@ -8,7 +8,7 @@ use crate::values;
 use building::Building;
 use entry::Face;
 use entry::Wind;
-use text::form::Field;
+use form::Field;
 ghost use mathlib.Core.Path.{_≡_};
 ghost use mathlib.Core.List.{[], _∷_};
 ghost use Rattle.job.specs.Rules.{fieldsFault};

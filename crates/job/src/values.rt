@@ -2,7 +2,7 @@
 use crate::Rule;
 use crate::fields;
 use entry::BOTH;
-use text::form::Field;
+use form::Field;
 ghost use mathlib.Core.Path.{_≡_};
 ghost use Rattle.job.specs.Rules.{fieldFault};
 ghost use Rattle.entry.specs.Fields.{naturalField, numberField, markField};

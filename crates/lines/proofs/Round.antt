@@ -9,14 +9,14 @@ use lib.Dec.{ltb, leb, eqb, lit<}
 use lib.ListN.{length, drop, length-append}
 use borrow.Author.Tests.{eqb-true, leb-true, ltb-true}
 use Rattle.whole.proofs.Tests.{by-test, and-true}
-use Rattle.text.specs.declared.form.Field.{Field}
-use Rattle.text.specs.declared.form.Field.the-variants.{Bad, Plus, Minus, Letter, Dash}
+use Rattle.form.specs.declared.Field.{Field}
+use Rattle.form.specs.declared.Field.the-variants.{Bad, Plus, Minus, Letter, Dash}
 use Rattle.text.specs.Digits.{digits, isDigit, allDigits, valueAfter, value}
-use Rattle.text.specs.Field.{first, digitsInForm, unsigned, negative, number, field, isDash, isCapital}
+use Rattle.form.specs.Field.{first, digitsInForm, unsigned, negative, number, field, isDash, isCapital}
 use Rattle.whole.specs.Lists.{Every}
 use Rattle.lines.specs.Lines.{split, fieldsOf, rowsOf, rows, fieldText, lineText, textOf, InForm, LinesInForm, NotBad}
-use Rattle.text.proofs.Digits.{by-tens, digits-small, digits-more, digits-back, digits-length}
-use Rattle.text.proofs.Field.{form-parts, field-digits, field-minus, field-dash, field-letter, value-grows}
+use Rattle.text.proofs.Digits.{by-tens, digits-small, digits-more, digits-length}
+use Rattle.form.proofs.Fields.{form-parts, field-digits, field-minus, field-dash, field-letter, value-grows, digits-back}
 use Rattle.lines.specs.Held.{until}
 use Rattle.lines.proofs.Lines.{Free, free-append, free-one, split-until, split-seam, split-one, joined, split-joined, rows-none, rows-seam}
 

@@ -1,9 +1,9 @@
 -- Lines of the paper's kind, worked out by the definitions.
 use mathlib.Core.Path.{_≡_, refl}
 use mathlib.Core.List.{[], _∷_}
-use Rattle.text.specs.declared.form.Field.the-variants.{Bad, Plus, Minus, Letter, Dash}
+use Rattle.form.specs.declared.Field.the-variants.{Bad, Plus, Minus, Letter, Dash}
 use Rattle.text.specs.Digits.{allDigits, valueAfter, value, digits}
-use Rattle.text.specs.Field.{digitsInForm, unsigned, number, field}
+use Rattle.form.specs.Field.{digitsInForm, unsigned, number, field}
 use Rattle.lines.specs.Lines.{split, fieldsOf, rowsOf, rows, lineText, textOf}
 
 -- `B 1` with its LF, then `-` with none

@@ -1,6 +1,6 @@
 // Fields and lines of fields written.
 use crate::row::Line;
-use text::form::Field;
+use form::Field;
 ghost use mathlib.Core.Path.{_≡_};
 ghost use mathlib.Core.List.{[], _∷_};
 ghost use lib.ListN.{length};
@@ -14,10 +14,10 @@ pub fn put_field(buf: &mut [u8], at: usize, f: Field) -> usize
 {
     match f {
         Field::Bad => page::put_bytes(buf, at, b""),
-        Field::Plus(n) => text::numeral::put_natural(buf, at, n as u64),
+        Field::Plus(n) => text::put_natural(buf, at, n as u64),
         Field::Minus(n) => {
             let next = page::put_byte(buf, at, 45);
-            text::numeral::put_natural(buf, next, n as u64)
+            text::put_natural(buf, next, n as u64)
         }
         Field::Letter(b) => page::put_byte(buf, at, b),
         Field::Dash => page::put_byte(buf, at, 45),

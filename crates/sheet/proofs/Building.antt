@@ -10,8 +10,8 @@ use lib.Dec.{leb, leb→le}
 use lib.ListN.{length}
 use Rattle.whole.proofs.Tests.{by-test}
 use Rattle.whole.proofs.Table.{all-at}
-use Rattle.text.specs.declared.form.Field.{Field}
-use Rattle.text.specs.declared.form.Field.the-variants.{Plus}
+use Rattle.form.specs.declared.Field.{Field}
+use Rattle.form.specs.declared.Field.the-variants.{Plus}
 use Rattle.lines.specs.Lines.{fieldText}
 use Rattle.text.proofs.Digits.{digits-length}
 use Rattle.building.specs.declared.Building.{Building}

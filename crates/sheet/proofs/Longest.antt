@@ -9,7 +9,7 @@ use lib.Dec.{ltb}
 use lib.ListN.{length}
 use borrow.Author.Tests.{ltb-true, ltb-false}
 use Rattle.whole.proofs.Tests.{by-test}
-use Rattle.text.specs.declared.form.Field.{Field}
+use Rattle.form.specs.declared.Field.{Field}
 use Rattle.text.specs.Digits.{digitsWithin, digits}
 use Rattle.whole.specs.Lists.{Every}
 use Rattle.lines.specs.Lines.{fieldsOf, fieldText, NotBad}

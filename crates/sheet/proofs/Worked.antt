@@ -6,7 +6,7 @@ use mathlib.Core.Path.{_≡_, refl}
 use mathlib.Core.List.{List, [], _∷_, map}
 use lib.ListN.{length}
 use Rattle.text.specs.Digits.{allDigits, valueAfter, value}
-use Rattle.text.specs.Field.{digitsInForm, unsigned, negative, number, field}
+use Rattle.form.specs.Field.{digitsInForm, unsigned, negative, number, field}
 use Rattle.lines.specs.Lines.{split, fieldsOf, rowsOf, rows}
 use Rattle.building.specs.Building.{buildingFault, outOfForm, outOfRange, outOfWalls, outOfRoof, tooLong}
 use Rattle.building.specs.Roof.{roofOf}

@@ -6,7 +6,7 @@ use native.Mathlib.Numerals.{add-one}
 use native.Mathlib.Omega.{arith}
 use lib.ListN.{length, getD, take}
 use lib.Seq.{take-suc, take-all}
-use Rattle.text.specs.declared.form.Field.{Field}
+use Rattle.form.specs.declared.Field.{Field}
 use Rattle.lines.specs.declared.row.Line.{Line}
 use Rattle.lines.specs.Lines.{textOf}
 use Rattle.lines.specs.Held.{held, lineOf}

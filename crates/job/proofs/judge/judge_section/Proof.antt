@@ -7,7 +7,7 @@ use native.Mathlib.Omega.{arith}
 use lib.IntN.{ℤ}
 use lib.ListN.{length, getD, take}
 use mir.Facts.{toZ-ofZ}
-use Rattle.text.specs.declared.form.Field.{Field}
+use Rattle.form.specs.declared.Field.{Field}
 use Rattle.building.specs.declared.Building.{Building}
 use Rattle.job.specs.declared.Section.{Section}
 use Rattle.job.specs.declared.Section.the-variants.{B, W, I, F}
