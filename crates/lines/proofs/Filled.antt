@@ -12,8 +12,8 @@ use lib.Seq.{sets, drop-cons, drop-drop, length-take-le, getD-drop}
 use borrow.Author.Tests.{le-leb, lt-leb, ltb-true, ltb-false}
 use Rattle.whole.proofs.Tests.{by-test}
 use Rattle.form.specs.declared.Field.{Field}
-use Rattle.lines.specs.declared.row.Slot.{Slot}
-use Rattle.lines.specs.declared.row.Line.{Line}
+use Rattle.lines.specs.declared.Slot.{Slot}
+use Rattle.lines.specs.declared.Line.{Line}
 use Rattle.form.specs.Field.{field}
 use Rattle.lines.specs.Lines.{split, fieldsOf}
 use Rattle.lines.specs.Held.{slot, blank, noLine, lineOf, firstLine, lineAt, until, fieldLength}

@@ -10,8 +10,8 @@ use borrow.Author.Tests.{le-leb, lt-leb, ltb-true, ltb-false, leb-true, leb-fals
 use Rattle.whole.proofs.Tests.{by-test}
 use Rattle.form.specs.declared.Field.{Field}
 use Rattle.form.specs.declared.Field.the-variants.{Bad}
-use Rattle.lines.specs.declared.row.Slot.{Slot}
-use Rattle.lines.specs.declared.row.Line.{Line}
+use Rattle.lines.specs.declared.Slot.{Slot}
+use Rattle.lines.specs.declared.Line.{Line}
 use Rattle.lines.specs.Lines.{fieldsOf, rows}
 use Rattle.lines.specs.Held.{slot, blank, noLine, lineOf, firstLine, lineAt, held, until}
 use Rattle.lines.proofs.Lines.{Free, until-le, split-until, split-more, split-last, rows-more, rows-none, rows-open}

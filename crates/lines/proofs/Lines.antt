@@ -3,7 +3,7 @@ use Prim.Native.Nat.{ℕ, zero, suc, _+_, _≤_, _<_}
 use mathlib.Core.Path.{_≡_, refl, ap, _∙_, sym}
 use mathlib.Core.Logic.{⊎-elim}
 use mathlib.Core.Bool.{true, false, cond, _||_}
-use mathlib.Core.List.{List, [], _∷_, _++_, append-assoc}
+use mathlib.Core.List.{List, [], _∷_, _++_}
 use native.Mathlib.Numerals.{add-one}
 use native.Mathlib.Omega.{arith}
 use lib.Dec.{ltb, eqb, leb·suc-suc}
@@ -13,7 +13,7 @@ use borrow.Author.Tests.{lt-ltb, le-ltb, eq-eqb, ne-eqb, eqb-true, eqb-false, lt
 use Rattle.whole.proofs.Tests.{by-test, or-true, or-false}
 use Rattle.form.specs.declared.Field.{Field}
 use Rattle.form.specs.declared.Field.the-variants.{Bad}
-use Rattle.lines.specs.Lines.{onto, split, fieldsOf, rowsOf, rows, fieldText, lineText}
+use Rattle.lines.specs.Lines.{onto, split, fieldsOf, rowsOf, rows}
 use Rattle.lines.specs.Held.{until, fieldLength}
 
 -- ---- the first b
@@ -182,23 +182,3 @@ rows-some s at h = go (drop at s) (rw length-drop (omega arith))
         by-test (ltb (until 10 (y ∷ t)) (length (y ∷ t)))
         (λ e. (fieldsOf (take (until 10 (y ∷ t)) (y ∷ t)), rows (drop (suc (until 10 (y ∷ t))) (y ∷ t)), rows-more (y ∷ t) (ltb-true _ _ e)))
         (λ e. (Bad ∷ [], [], rows-open y t (omega (arith, until-le 10 (y ∷ t), ltb-false (until 10 (y ∷ t)) (length (y ∷ t)) e))))
-
--- ---- the text of a line, field by field
-
--- where there is no first field, Bad has no text either
-pub line-first : (fs : List Field) → lineText (take 1 fs) ≡ fieldText (getD fs 0 Bad)
-unfolding lineText
-line-first [] = refl
-line-first (f ∷ fs) = refl
-
-line-later : (fs : List Field) (i : ℕ) → suc i < length fs → lineText (take (suc (suc i)) fs) ≡ lineText (take (suc i) fs) ++ (32 ∷ fieldText (getD fs (suc i) Bad))
-unfolding lineText
-line-later [] i h = absurd (omega arith)
-line-later (f ∷ []) i h = absurd (omega arith)
-line-later (f ∷ g ∷ fs) zero h = refl
-line-later (f ∷ g ∷ fs) (suc i) h =
-    ap (λ (t : List ℕ). fieldText f ++ (32 ∷ t)) (line-later (g ∷ fs) i (omega arith)) ∙ rw append-assoc
-
-pub line-next : (fs : List Field) (i : ℕ) → 0 < i → i < length fs → lineText (take (i + 1) fs) ≡ lineText (take i fs) ++ (32 ∷ fieldText (getD fs i Bad))
-line-next fs zero h k = absurd (omega arith)
-line-next fs (suc i) h k = rw add-one (line-later fs i k)

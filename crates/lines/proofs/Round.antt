@@ -2,7 +2,7 @@
 use Prim.Native.Nat.{ℕ, suc, _+_, _-_, _*_, _/_, _%_, _^_, _≤_, _<_}
 use mathlib.Core.Path.{_≡_, refl, ap, _∙_, sym}
 use mathlib.Core.Bool.{true, _&&_}
-use mathlib.Core.List.{List, [], _∷_, _++_, append-assoc, map}
+use mathlib.Core.List.{List, [], _∷_, _++_, map}
 use native.Mathlib.Nat.{add-zero, lt-of-lt-of-le, pow-le-pow-right}
 use native.Mathlib.Omega.{arith}
 use lib.Dec.{ltb, leb, eqb, lit<}
@@ -199,10 +199,3 @@ line-length [] h a = absurd (omega arith)
 line-length (f ∷ []) h a = omega (arith, field-length f (a .0))
 line-length (f ∷ g ∷ fs) h a =
     rw length-append (omega (arith, field-length f (a .0), line-length (g ∷ fs) (omega arith) (a .1)))
-
--- ---- the text of more lines
-
-pub textOf-append : (xs ys : List (List Field)) → textOf (xs ++ ys) ≡ textOf xs ++ textOf ys
-unfolding textOf
-textOf-append [] ys = refl
-textOf-append (x ∷ xs) ys = ap (λ (t : List ℕ). lineText x ++ (10 ∷ t)) (textOf-append xs ys) ∙ sym (append-assoc (lineText x) (10 ∷ textOf xs) (textOf ys))

@@ -7,8 +7,8 @@ use lib.ListN.{length, take, drop, replicate}
 use lib.Seq.{sets}
 use Rattle.form.specs.declared.Field.{Field}
 use Rattle.form.specs.declared.Field.the-variants.{Bad}
-use Rattle.lines.specs.declared.row.Slot.{Slot}
-use Rattle.lines.specs.declared.row.Line.{Line}
+use Rattle.lines.specs.declared.Slot.{Slot}
+use Rattle.lines.specs.declared.Line.{Line}
 use Rattle.lines.specs.Lines.{split, fieldsOf}
 
 abbrev pub slot : Field → Slot

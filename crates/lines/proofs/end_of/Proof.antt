@@ -6,8 +6,8 @@ use lib.ListN.{length, drop}
 use Rattle.lines.specs.Held.{fieldLength}
 use Rattle.lines.proofs.Lines.{end-here, end-on, until-end}
 use borrow.Author.Needs.{needs}
-use Rattle.lines.proofs.row.end_of.Statement.{statement}
-use Rattle.lines.proofs.row.end_of.Tie as tie
+use Rattle.lines.proofs.end_of.Statement.{statement}
+use Rattle.lines.proofs.end_of.Tie as tie
 
 abbrev Inv-loop : tie.InvT-loop
 Inv-loop s at i₀ i = (at ≤ i) × (at + fieldLength (drop at s) ≡ i + fieldLength (drop i s))

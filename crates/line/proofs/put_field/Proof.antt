@@ -1,8 +1,8 @@
 -- `put_field` meets its contract, case by case.
 use Rattle.page.proofs.Put.{then}
 use borrow.Author.Needs.{needs}
-use Rattle.lines.proofs.line.put_field.Statement.{statement}
-use Rattle.lines.proofs.line.put_field.Tie as tie
+use Rattle.line.proofs.put_field.Statement.{statement}
+use Rattle.line.proofs.put_field.Tie as tie
 
 enum-told : tie.Need-enum-told
 enum-told c = search needs

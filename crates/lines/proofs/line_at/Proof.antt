@@ -6,8 +6,8 @@ use Rattle.lines.specs.Lines.{split}
 use Rattle.lines.specs.Held.{lineAt}
 use Rattle.lines.proofs.Filled.{lineOn, on-start, on-open, on-ended, on-more, on-full}
 use borrow.Author.Needs.{needs}
-use Rattle.lines.proofs.row.line_at.Statement.{statement}
-use Rattle.lines.proofs.row.line_at.Tie as tie
+use Rattle.lines.proofs.line_at.Statement.{statement}
+use Rattle.lines.proofs.line_at.Tie as tie
 
 abbrev Inv-loop : tie.InvT-loop
 Inv-loop s at fields₀ k₀ next₀ fields k next = lineAt s at ≡ lineOn k fields next (split 10 (drop next s))

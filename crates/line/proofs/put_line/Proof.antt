@@ -1,9 +1,9 @@
 -- `put_line` meets its contract.
 use borrow.Author.Needs.{needs}
 use Rattle.lines.specs.Lines.{textOf}
 use Rattle.page.proofs.Put.{then}
-use Rattle.lines.proofs.line.put_line.Statement.{statement}
-use Rattle.lines.proofs.line.put_line.Tie as tie
+use Rattle.line.proofs.put_line.Statement.{statement}
+use Rattle.line.proofs.put_line.Tie as tie
 
 put-fields-requires : tie.Need-put-fields-requires
 put-fields-requires c κs = search needs

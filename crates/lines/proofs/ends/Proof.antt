@@ -1,8 +1,8 @@
 -- `ends` meets its contract.
 use native.Mathlib.Omega.{arith}
 use borrow.Author.Tests.{eq-eqb, ne-eqb}
-use Rattle.lines.proofs.row.ends.Statement.{statement}
-use Rattle.lines.proofs.row.ends.Tie as tie
+use Rattle.lines.proofs.ends.Statement.{statement}
+use Rattle.lines.proofs.ends.Tie as tie
 
 returns : tie.Need-returns
 returns c = let b = c .before .args .b in rw (ne-eqb b 32 (λ e. omega arith), ne-eqb b 10 (λ e. omega arith))

@@ -1,11 +1,9 @@
 // Fields and lines of fields written.
-use crate::row::Line;
 use form::Field;
-ghost use mathlib.Core.Path.{_≡_};
+use lines::Line;
 ghost use mathlib.Core.List.{[], _∷_};
-ghost use lib.ListN.{length};
 ghost use Rattle.lines.specs.Lines.{fieldText, lineText, textOf};
 ghost use Rattle.lines.specs.Held.{held};
 ghost use Rattle.page.specs.Writing.{Put};
 
 // A field as a line has it; nothing for Bad.
@@ -24,26 +22,16 @@ pub fn put_field(buf: &mut [u8], at: usize, f: Field) -> usize
     }
 }
 
-// How many fields a line holds.
-pub fn held_count(x: Line) -> usize
-    ensures { λ r. ⌜ r ≡ length (held x) ⌝ }
-{
-    if x.count < 6 {
-        return x.count;
-    }
-    6
-}
-
 // The fields of a line with single spaces between them.
 fn put_fields(buf: &mut [u8], at: usize, x: Line) -> usize
     ensures { λ r. ⌜ Put (now (buf .entry)) at (lineText (held x)) (now (buf .exit)) r ⌝ }
 {
-    let n = held_count(x);
-    let f = crate::row::field_at(x, 0);
+    let n = lines::held_count(x);
+    let f = lines::field_at(x, 0);
     let mut next = put_field(buf, at, f);
     let mut i: usize = 1;
     while i < n {
-        let g = crate::row::field_at(x, i);
+        let g = lines::field_at(x, i);
         next = page::put_byte(buf, next, 32);
         next = put_field(buf, next, g);
         i += 1;

@@ -4,8 +4,8 @@ use lib.ListN.{length}
 use native.Mathlib.Nat.{le-of-eq}
 use Rattle.lines.proofs.Held.{mapped-length, held-past, held-six, held-at}
 use borrow.Author.Needs.{needs}
-use Rattle.lines.proofs.row.field_at.Statement.{statement}
-use Rattle.lines.proofs.row.field_at.Tie as tie
+use Rattle.lines.proofs.field_at.Statement.{statement}
+use Rattle.lines.proofs.field_at.Tie as tie
 
 returns : tie.Need-returns
 returns c = sym (held-past (c .before .args .t1) (c .before .args .i) (c .if1 .taken))

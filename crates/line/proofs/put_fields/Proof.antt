@@ -6,14 +6,14 @@ use native.Mathlib.Omega.{arith}
 use denote.Ref.{now}
 use lib.ListN.{length, take}
 use lib.Seq.{take-all}
 use Rattle.lines.specs.Lines.{lineText}
 use Rattle.lines.specs.Held.{held}
 use Rattle.page.specs.Writing.{Put}
-use Rattle.lines.proofs.Lines.{line-first, line-next}
+use Rattle.line.proofs.Texts.{line-first, line-next}
 use Rattle.page.proofs.Put.{then, put-length}
 use borrow.Author.Needs.{needs}
-use Rattle.lines.proofs.line.put_fields.Statement.{statement}
-use Rattle.lines.proofs.line.put_fields.Tie as tie
+use Rattle.line.proofs.put_fields.Statement.{statement}
+use Rattle.line.proofs.put_fields.Tie as tie
 
 -- the loop starts behind the first field, so it says of what stood there before it what stands there now
 abbrev Inv-loop : tie.InvT-loop

@@ -4,8 +4,8 @@ use native.Mathlib.Omega.{arith}
 use lib.ListN.{length}
 use Rattle.lines.proofs.Held.{mapped-length, held-count}
 use borrow.Author.Needs.{needs}
-use Rattle.lines.proofs.line.held_count.Statement.{statement}
-use Rattle.lines.proofs.line.held_count.Tie as tie
+use Rattle.lines.proofs.held_count.Statement.{statement}
+use Rattle.lines.proofs.held_count.Tie as tie
 
 six : (c : tie.Start) → length (c .args .x .fields) ≡ 6
 six c = search (needs, mapped-length)

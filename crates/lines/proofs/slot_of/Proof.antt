@@ -2,8 +2,8 @@
 use mathlib.Core.Path.{ap}
 use Rattle.lines.specs.Held.{slot}
 use borrow.Author.Needs.{needs}
-use Rattle.lines.proofs.row.slot_of.Statement.{statement}
-use Rattle.lines.proofs.row.slot_of.Tie as tie
+use Rattle.lines.proofs.slot_of.Statement.{statement}
+use Rattle.lines.proofs.slot_of.Tie as tie
 
 sub-field-of : tie.Need-sub-field-of
 sub-field-of c = search needs

@@ -1,0 +1,2 @@
+-- The laws of the text of lines.
+pub mod Texts
