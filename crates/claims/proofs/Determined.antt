@@ -13,11 +13,11 @@ use Rattle.text.proofs.put_natural.Reads as put-natural
 use Rattle.text.proofs.put_decimal.Reads as put-decimal
 use Rattle.text.proofs.write_decimal.Reads as write-decimal
 use Rattle.form.proofs.field_of.Reads as field-of
-use Rattle.lines.proofs.row.line_at.Reads as line-at
-use Rattle.lines.proofs.row.field_at.Reads as field-at
-use Rattle.lines.proofs.line.held_count.Reads as held-count
-use Rattle.lines.proofs.line.put_field.Reads as put-field
-use Rattle.lines.proofs.line.put_line.Reads as put-line
+use Rattle.lines.proofs.line_at.Reads as line-at
+use Rattle.lines.proofs.field_at.Reads as field-at
+use Rattle.lines.proofs.held_count.Reads as held-count
+use Rattle.line.proofs.put_field.Reads as put-field
+use Rattle.line.proofs.put_line.Reads as put-line
 use Rattle.building.proofs.building_fault.Reads as building-fault
 use Rattle.building.proofs.zone_on.Reads as zone-on
 use Rattle.building.proofs.asked.Reads as asked
@@ -110,6 +110,8 @@ field-at-determined κ a r r′ s s′ p q = same p q
 
 held-count-determined : OneAnswer held-count.Post
 held-count-determined κ a r r′ s s′ p q = same p q
+
+-- ---- line
 
 put-field-determined : OneAnswerAndBuffer put-field.Post (λ κ s. now (s .0))
 put-field-determined κ a r r′ s s′ p q = same-put p q

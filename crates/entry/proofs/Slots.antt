@@ -12,7 +12,7 @@ use borrow.Author.Needs.{sfits-of}
 use borrow.Author.Tests.{le-leb, lt-leb, eq-eqb, ne-eqb, ltb-true}
 use Rattle.form.specs.declared.Field.{Field}
 use Rattle.form.specs.declared.Field.the-variants.{Bad, Plus, Minus, Dash}
-use Rattle.lines.specs.declared.row.Slot.{Slot}
+use Rattle.lines.specs.declared.Slot.{Slot}
 use Rattle.lines.specs.Held.{slot}
 use Rattle.entry.specs.Says.{both}
 use Rattle.entry.specs.Fields.{naturalField, numberField, markField}

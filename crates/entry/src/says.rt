@@ -4,7 +4,7 @@ use crate::Face;
 use crate::Wind;
 use building::Building;
 use form::Field;
-use lines::row::Line;
+use lines::Line;
 ghost use mathlib.Core.Path.{_≡_};
 ghost use Rattle.lines.specs.Held.{held};
 ghost use Rattle.entry.specs.Says.{number, size, letter, mark, at, buildingOf, windOf, internalOf, faceOf};
@@ -62,25 +62,25 @@ pub(crate) fn mark_of(f: Field) -> u32
 fn number_at(x: Line, i: usize) -> i64
     ensures { λ r. ⌜ r ≡ number (at (held x) i) ⌝ }
 {
-    number_of(lines::row::field_at(x, i))
+    number_of(lines::field_at(x, i))
 }
 
 fn size_at(x: Line, i: usize) -> u32
     ensures { λ r. ⌜ r ≡ size (at (held x) i) ⌝ }
 {
-    size_of(lines::row::field_at(x, i))
+    size_of(lines::field_at(x, i))
 }
 
 fn letter_at(x: Line, i: usize) -> u8
     ensures { λ r. ⌜ r ≡ letter (at (held x) i) ⌝ }
 {
-    letter_of(lines::row::field_at(x, i))
+    letter_of(lines::field_at(x, i))
 }
 
 fn mark_at(x: Line, i: usize) -> u32
     ensures { λ r. ⌜ r ≡ mark (at (held x) i) ⌝ }
 {
-    mark_of(lines::row::field_at(x, i))
+    mark_of(lines::field_at(x, i))
 }
 
 pub fn building_of(x: Line) -> Building

@@ -1,8 +1,8 @@
 // The sections of the sheet as data, and the line before the entries of each.
 use crate::Section;
 use form::Field;
-use lines::row::Line;
-use lines::row::Slot;
+use lines::Line;
+use lines::Slot;
 ghost use mathlib.Core.Path.{_≡_};
 ghost use mathlib.Core.List.{[], _∷_};
 ghost use Rattle.lines.specs.Held.{lineOf};

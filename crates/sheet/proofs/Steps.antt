@@ -9,7 +9,7 @@ use borrow.Author.Tests.{eq-eqb, ne-eqb, eqb-true, eqb-false}
 use Rattle.whole.proofs.Tests.{by-test}
 use Rattle.form.specs.declared.Field.{Field}
 use Rattle.form.specs.declared.Field.the-variants.{Bad}
-use Rattle.lines.specs.declared.row.Line.{Line}
+use Rattle.lines.specs.declared.Line.{Line}
 use Rattle.lines.specs.Lines.{rows}
 use Rattle.lines.specs.Held.{held, lineAt}
 use Rattle.lines.proofs.Lines.{rows-some, rows-end}

@@ -5,7 +5,7 @@ use mathlib.Core.List.{List, [], _∷_, _++_}
 use native.Mathlib.Omega.{arith}
 use lib.ListN.{set, replicate}
 use Rattle.form.specs.declared.Field.{Field}
-use Rattle.lines.specs.declared.row.Line.{Line}
+use Rattle.lines.specs.declared.Line.{Line}
 use Rattle.lines.specs.Held.{held, lineAt}
 use Rattle.building.specs.declared.Building.{Building}
 use Rattle.job.specs.declared.Section.{Section}

@@ -7,12 +7,12 @@ use native.Mathlib.Omega.{arith}
 use lib.ListN.{length, getD, take}
 use lib.Seq.{take-suc, take-all}
 use Rattle.form.specs.declared.Field.{Field}
-use Rattle.lines.specs.declared.row.Line.{Line}
+use Rattle.lines.specs.declared.Line.{Line}
 use Rattle.lines.specs.Lines.{textOf}
 use Rattle.lines.specs.Held.{held, lineOf}
 use Rattle.page.specs.Writing.{Put}
 use Rattle.lines.proofs.Held.{held-all}
-use Rattle.lines.proofs.Round.{textOf-append}
+use Rattle.line.proofs.Texts.{textOf-append}
 use Rattle.page.proofs.Put.{then, put-nothing, put-length}
 use Rattle.job.specs.declared.Section.{Section}
 use Rattle.job.specs.declared.Section.the-variants.{B, W, I, F}

@@ -7,7 +7,7 @@ use job::Job;
 use job::Section;
 use job::judge::judge;
 use job::shape::count_line;
-use lines::line::put_line;
+use line::put_line;
 use page::Writing;
 ghost use mathlib.Core.Path.{_≡_};
 ghost use Prim.Native.Nat.{_≤_};
