@@ -1,3 +1,2 @@
--- What the fields of a line say, and the fields of an entry.
+-- What the fields of a line say.
 pub mod Says
-pub mod Fields

@@ -1,5 +1,4 @@
-// The entries of a sheet beside the building: as records, as the fields of their lines, and from these back.
-pub mod fields;
+// The entries of a sheet beside the building, as records; and what the fields of a line say as an entry.
 pub mod says;
 
 // A wind: its direction in degrees and its speed in 0.1 m/s.

@@ -1,14 +1,14 @@
 // An entry as a line of fields.
-use crate::BOTH;
-use crate::Face;
-use crate::Wind;
 use building::Building;
 use form::Field;
 use lines::Line;
 use lines::Slot;
+use entry::BOTH;
+use entry::Face;
+use entry::Wind;
 ghost use mathlib.Core.Path.{_≡_};
 ghost use Rattle.lines.specs.Held.{slot, lineOf};
-ghost use Rattle.entry.specs.Fields.{naturalField, numberField, markField, buildingFields, windFields, internalFields, faceFields};
+ghost use Rattle.fields.specs.Fields.{naturalField, numberField, markField, buildingFields, windFields, internalFields, faceFields};
 
 fn slot(f: Field) -> Slot
     ensures { λ r. ⌜ r ≡ slot f ⌝ }

@@ -14,8 +14,8 @@ use Rattle.form.specs.declared.Field.{Field}
 use Rattle.form.specs.declared.Field.the-variants.{Bad, Plus, Minus, Dash}
 use Rattle.lines.specs.declared.Slot.{Slot}
 use Rattle.lines.specs.Held.{slot}
 use Rattle.entry.specs.Says.{both}
-use Rattle.entry.specs.Fields.{naturalField, numberField, markField}
+use Rattle.fields.specs.Fields.{naturalField, numberField, markField}
 
 module _ (n : ℕ) where
   pub natural-short : n ≤ 9999999 → Plus n ≡ naturalField n

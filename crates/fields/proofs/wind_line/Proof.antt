@@ -1,8 +1,8 @@
 -- `wind_line` meets its contract.
 use Rattle.lines.specs.Held.{lineOf}
 use borrow.Author.Needs.{needs}
-use Rattle.entry.proofs.fields.wind_line.Statement.{statement}
-use Rattle.entry.proofs.fields.wind_line.Tie as tie
+use Rattle.fields.proofs.wind_line.Statement.{statement}
+use Rattle.fields.proofs.wind_line.Tie as tie
 
 returns : tie.Need-returns
 unfolding lineOf

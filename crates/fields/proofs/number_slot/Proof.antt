@@ -7,10 +7,10 @@ use mir.Syntax.{w64}
 use mir.Val.{toZ, ofZ}
 use mir.Facts.{toZ-ofZ}
 use Rattle.lines.specs.Held.{slot}
-use Rattle.entry.proofs.Slots.{number-long, number-below, number-above}
+use Rattle.fields.proofs.Slots.{number-long, number-below, number-above}
 use borrow.Author.Needs.{needs}
-use Rattle.entry.proofs.fields.number_slot.Statement.{statement}
-use Rattle.entry.proofs.fields.number_slot.Tie as tie
+use Rattle.fields.proofs.number_slot.Statement.{statement}
+use Rattle.fields.proofs.number_slot.Tie as tie
 
 -- what the machine has of z is z
 module _ (c : tie.After-magnitude) where

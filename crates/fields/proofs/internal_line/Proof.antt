@@ -1,9 +1,9 @@
 -- `internal_line` meets its contract.
 use Rattle.lines.specs.Held.{lineOf}
-use Rattle.entry.proofs.Slots.{slot-is}
+use Rattle.fields.proofs.Slots.{slot-is}
 use borrow.Author.Needs.{needs}
-use Rattle.entry.proofs.fields.internal_line.Statement.{statement}
-use Rattle.entry.proofs.fields.internal_line.Tie as tie
+use Rattle.fields.proofs.internal_line.Statement.{statement}
+use Rattle.fields.proofs.internal_line.Tie as tie
 
 returns : tie.Need-returns
 unfolding lineOf

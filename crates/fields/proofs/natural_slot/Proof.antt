@@ -1,10 +1,10 @@
 -- `natural_slot` meets its contract.
 use mathlib.Core.Path.{_∙_, ap}
 use Rattle.lines.specs.Held.{slot}
-use Rattle.entry.proofs.Slots.{natural-short, natural-long}
+use Rattle.fields.proofs.Slots.{natural-short, natural-long}
 use borrow.Author.Needs.{needs}
-use Rattle.entry.proofs.fields.natural_slot.Statement.{statement}
-use Rattle.entry.proofs.fields.natural_slot.Tie as tie
+use Rattle.fields.proofs.natural_slot.Statement.{statement}
+use Rattle.fields.proofs.natural_slot.Tie as tie
 
 pub natural-slot-spec : {M : Type 1} → statement M
 natural-slot-spec =

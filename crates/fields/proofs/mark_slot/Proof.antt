@@ -1,10 +1,10 @@
 -- `mark_slot` meets its contract.
 use mathlib.Core.Path.{_∙_, ap}
 use Rattle.lines.specs.Held.{slot}
-use Rattle.entry.proofs.Slots.{mark-both, mark-one}
+use Rattle.fields.proofs.Slots.{mark-both, mark-one}
 use borrow.Author.Needs.{needs}
-use Rattle.entry.proofs.fields.mark_slot.Statement.{statement}
-use Rattle.entry.proofs.fields.mark_slot.Tie as tie
+use Rattle.fields.proofs.mark_slot.Statement.{statement}
+use Rattle.fields.proofs.mark_slot.Tie as tie
 
 pub mark-slot-spec : {M : Type 1} → statement M
 mark-slot-spec =

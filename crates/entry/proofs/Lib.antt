@@ -1,2 +1,0 @@
--- Laws of an entry's fields.
-pub mod Slots

@@ -1,0 +1,2 @@
+-- Laws of a number as a field.
+pub mod Slots

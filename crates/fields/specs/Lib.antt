@@ -1,0 +1,2 @@
+-- The fields of an entry.
+pub mod Fields
