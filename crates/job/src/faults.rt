@@ -2,7 +2,7 @@
 use crate::Kind;
 use crate::Rule;
 use crate::Section;
-use crate::fields;
+use crate::field;
 use crate::shape;
 use building::Building;
 use entry::says::building_of;
@@ -41,8 +41,8 @@ fn count_fields(s: Section, x: Line) -> u32
     }
     let l = shape::limits_of(s);
     lower_of(
-        fields::letter_fault(l.letter, l.letter, field_at(x, 0)),
-        fields::from_fault(2, l.least, l.most, field_at(x, 1)),
+        field::letter_fault(l.letter, l.letter, field_at(x, 0)),
+        field::from_fault(2, l.least, l.most, field_at(x, 1)),
     )
 }
 
@@ -50,7 +50,7 @@ fn count_fields(s: Section, x: Line) -> u32
 fn size_at(x: Line, i: usize, n: u32, most: u32) -> u32
     ensures { λ r. ⌜ r ≡ fieldFault (Rule.SizeTo n most) (at (held x) i) ⌝ }
 {
-    fields::size_fault(n, most, field_at(x, i))
+    field::size_fault(n, most, field_at(x, i))
 }
 
 // A number in form; its range is judged with the building's whole line.
@@ -80,8 +80,8 @@ fn wind_fields(x: Line) -> u32
         return 1;
     }
     lower_of(
-        fields::direction_fault(field_at(x, 0)),
-        fields::from_fault(3, 1, 1000, field_at(x, 1)),
+        field::direction_fault(field_at(x, 0)),
+        field::from_fault(3, 1, 1000, field_at(x, 1)),
     )
 }
 
@@ -105,8 +105,8 @@ fn face_fields(x: Line) -> u32
         lower_of(size_at(x, 3, 3, 100000), size_at(x, 4, 3, 100000)),
     );
     lower_of(
-        fields::letter_fault(b'A', b'H', field_at(x, 0)),
-        lower_of(fields::mark_fault(field_at(x, 1)), areas),
+        field::letter_fault(b'A', b'H', field_at(x, 0)),
+        lower_of(field::mark_fault(field_at(x, 1)), areas),
     )
 }
 
@@ -137,7 +137,7 @@ fn own_fault(k: Kind, g: Building, x: Line) -> u32
             Section::I => 0,
             Section::F => {
                 let f = face_of(x);
-                fields::unless(6, building::zone_on(g.kind, f.zone))
+                field::unless(6, building::zone_on(g.kind, f.zone))
             }
         },
     }

@@ -2,7 +2,7 @@
 use crate::Kind;
 use crate::Section;
 use crate::faults::lower_of;
-use crate::fields;
+use crate::field;
 use crate::shape;
 use crate::values;
 use building::Building;
@@ -19,7 +19,7 @@ pub(crate) fn count_fault(s: Section, n: u32) -> u32
     ensures { λ r. ⌜ r ≡ fieldsFault (rules (Kind.Count s)) (Field.Letter (about s .letter) ∷ Field.Plus n ∷ []) ⌝ }
 {
     let l = shape::limits_of(s);
-    fields::unless(2, fields::within(l.least, l.most, n))
+    field::unless(2, field::within(l.least, l.most, n))
 }
 
 pub(crate) fn wind_fault(w: Wind) -> u32
@@ -49,7 +49,7 @@ fn face_fields(f: Face) -> u32
         ),
     );
     lower_of(
-        fields::letter_fault(b'A', b'H', Field::Letter(f.zone)),
+        field::letter_fault(b'A', b'H', Field::Letter(f.zone)),
         lower_of(values::mark_fault(f.mark), areas),
     )
 }
@@ -61,5 +61,5 @@ pub(crate) fn face_fault(g: Building, f: Face) -> u32
     if n != 0 {
         return n;
     }
-    fields::unless(6, building::zone_on(g.kind, f.zone))
+    field::unless(6, building::zone_on(g.kind, f.zone))
 }

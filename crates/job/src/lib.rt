@@ -4,7 +4,7 @@ use entry::Face;
 use entry::Wind;
 
 pub mod faults;
-mod fields;
+mod field;
 mod given;
 pub mod judge;
 pub mod shape;

@@ -1,6 +1,6 @@
 // The fault of a value of a record: that of the field that it would be written as. More than 7 digits are out of form.
 use crate::Rule;
-use crate::fields;
+use crate::field;
 use entry::BOTH;
 use form::Field;
 ghost use mathlib.Core.Path.{_≡_};
@@ -13,7 +13,7 @@ pub(crate) fn natural_fault(lo: u32, hi: u32, n: u32) -> u32
     if 9999999 < n {
         return 1;
     }
-    fields::from_fault(3, lo, hi, Field::Plus(n))
+    field::from_fault(3, lo, hi, Field::Plus(n))
 }
 
 pub(crate) fn direction_fault(n: u32) -> u32
@@ -22,7 +22,7 @@ pub(crate) fn direction_fault(n: u32) -> u32
     if 9999999 < n {
         return 1;
     }
-    fields::direction_fault(Field::Plus(n))
+    field::direction_fault(Field::Plus(n))
 }
 
 pub(crate) fn mark_fault(m: u32) -> u32
@@ -42,5 +42,5 @@ pub(crate) fn size_fault(most: u32, z: i64) -> u32
     if 9999999 < m {
         return 1;
     }
-    fields::size_fault(3, most, Field::Plus(m as u32))
+    field::size_fault(3, most, Field::Plus(m as u32))
 }

@@ -3,8 +3,8 @@ use mathlib.Core.Path.{_∙_, ap}
 use Rattle.job.specs.Rules.{unless}
 use Rattle.job.proofs.Tested.{letter-rule}
 use borrow.Author.Needs.{needs}
-use Rattle.job.proofs.fields.letter_fault.Statement.{statement}
-use Rattle.job.proofs.fields.letter_fault.Tie as tie
+use Rattle.job.proofs.field.letter_fault.Statement.{statement}
+use Rattle.job.proofs.field.letter_fault.Tie as tie
 
 letter : tie.Need-returns
 letter c =

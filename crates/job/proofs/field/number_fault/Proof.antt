@@ -1,8 +1,8 @@
 -- `number_fault` meets its contract.
 use borrow.Author.Needs.{needs}
 use Rattle.whole.proofs.Tests.{tests}
-use Rattle.job.proofs.fields.number_fault.Statement.{statement}
-use Rattle.job.proofs.fields.number_fault.Tie as tie
+use Rattle.job.proofs.field.number_fault.Statement.{statement}
+use Rattle.job.proofs.field.number_fault.Tie as tie
 
 minus : tie.Need-returns-3
 minus c = rw (c .before .before .f .given .1) (search (needs, tests))

@@ -1,8 +1,8 @@
 -- `mark_fault` meets its contract.
 use borrow.Author.Needs.{needs}
 use Rattle.job.proofs.Tested.{mark-dash, mark-rule}
-use Rattle.job.proofs.fields.mark_fault.Statement.{statement}
-use Rattle.job.proofs.fields.mark_fault.Tie as tie
+use Rattle.job.proofs.field.mark_fault.Statement.{statement}
+use Rattle.job.proofs.field.mark_fault.Tie as tie
 
 pub mark-fault-spec : {M : Type 1} → statement M
 mark-fault-spec =

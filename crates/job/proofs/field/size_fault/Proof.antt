@@ -1,8 +1,8 @@
 -- `size_fault` meets its contract.
 use borrow.Author.Needs.{needs}
 use Rattle.job.proofs.Tested.{by-size}
-use Rattle.job.proofs.fields.size_fault.Statement.{statement}
-use Rattle.job.proofs.fields.size_fault.Tie as tie
+use Rattle.job.proofs.field.size_fault.Statement.{statement}
+use Rattle.job.proofs.field.size_fault.Tie as tie
 
 returns : tie.Need-returns
 returns c =

@@ -1,8 +1,8 @@
 -- `from_fault` meets its contract.
 use borrow.Author.Needs.{needs}
 use Rattle.job.proofs.Tested.{by-range}
-use Rattle.job.proofs.fields.from_fault.Statement.{statement}
-use Rattle.job.proofs.fields.from_fault.Tie as tie
+use Rattle.job.proofs.field.from_fault.Statement.{statement}
+use Rattle.job.proofs.field.from_fault.Tie as tie
 
 returns : tie.Need-returns
 returns c =

@@ -1,8 +1,8 @@
 -- `direction_fault` meets its contract.
 use borrow.Author.Needs.{needs}
 use Rattle.job.proofs.Tested.{by-direction}
-use Rattle.job.proofs.fields.direction_fault.Statement.{statement}
-use Rattle.job.proofs.fields.direction_fault.Tie as tie
+use Rattle.job.proofs.field.direction_fault.Statement.{statement}
+use Rattle.job.proofs.field.direction_fault.Tie as tie
 
 returns : tie.Need-returns
 returns c =
