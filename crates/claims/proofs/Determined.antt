@@ -23,10 +23,10 @@ use Rattle.building.proofs.zone_on.Reads as zone-on
 use Rattle.building.proofs.asked.Reads as asked
 use Rattle.book.proofs.outside.Reads as outside
 use Rattle.book.proofs.net.Reads as net
-use Rattle.entry.proofs.fields.building_line.Reads as building-line
-use Rattle.entry.proofs.fields.wind_line.Reads as wind-line
-use Rattle.entry.proofs.fields.internal_line.Reads as internal-line
-use Rattle.entry.proofs.fields.face_line.Reads as face-line
+use Rattle.fields.proofs.building_line.Reads as building-line
+use Rattle.fields.proofs.wind_line.Reads as wind-line
+use Rattle.fields.proofs.internal_line.Reads as internal-line
+use Rattle.fields.proofs.face_line.Reads as face-line
 use Rattle.job.proofs.shape.count_line.Reads as count-line
 use Rattle.job.proofs.faults.line_fault.Reads as line-fault
 use Rattle.job.proofs.judge.judge.Reads as judge

@@ -16,7 +16,7 @@ use Rattle.job.specs.declared.Job.{Job}
 use Rattle.job.specs.declared.Verdict.{Verdict}
 use Rattle.job.specs.Carried.{Carried, noWind, noFace, carried}
 use Rattle.job.specs.Sections.{about, lineFault}
-use Rattle.entry.specs.Fields.{buildingFields, windFields, internalFields, faceFields}
+use Rattle.fields.specs.Fields.{buildingFields, windFields, internalFields, faceFields}
 use Rattle.job.specs.Lines.{entriesOf, sectionOf}
 use Rattle.job.specs.Walk.{verdict, walk}
 use Rattle.job.proofs.Walk.{EntriesInOrder}

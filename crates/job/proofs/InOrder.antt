@@ -22,7 +22,7 @@ use Rattle.entry.specs.declared.Face.{Face}
 use Rattle.job.specs.Carried.{Carried}
 use Rattle.entry.specs.Says.{number, mark, both, at, letter, buildingOf, windOf, internalOf, faceOf}
 use Rattle.job.specs.Sections.{about, rules, lineFault}
-use Rattle.entry.specs.Fields.{naturalField, numberField, markField, buildingFields, windFields, internalFields, faceFields}
+use Rattle.fields.specs.Fields.{naturalField, numberField, markField, buildingFields, windFields, internalFields, faceFields}
 use Rattle.job.specs.Lines.{entriesOf, linesOf}
 use Rattle.job.specs.Walk.{Accepted, readLines}
 use Rattle.job.specs.InOrder.{Within, WindInOrder, InternalInOrder, FaceInOrder, InOrder}

@@ -20,7 +20,7 @@ use Rattle.entry.specs.declared.Wind.{Wind}
 use Rattle.entry.specs.declared.Face.{Face}
 use Rattle.entry.specs.Says.{number, size, mark, both, buildingOf, windOf, internalOf, faceOf}
 use Rattle.job.specs.Sections.{rules}
-use Rattle.entry.specs.Fields.{naturalField, numberField, markField, buildingFields, windFields, internalFields, faceFields}
+use Rattle.fields.specs.Fields.{naturalField, numberField, markField, buildingFields, windFields, internalFields, faceFields}
 use Rattle.job.proofs.Rules as rule
 use Rattle.job.proofs.Rules.{Says, AllSay, none, more, Angle}
 

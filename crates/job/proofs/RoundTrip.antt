@@ -13,7 +13,7 @@ use Rattle.job.specs.declared.Job.{Job}
 use Rattle.job.specs.Carried.{Carried, carried}
 use Rattle.entry.specs.Says.{windOf, internalOf, faceOf}
 use Rattle.job.specs.Sections.{rules}
-use Rattle.entry.specs.Fields.{windFields, internalFields, faceFields}
+use Rattle.fields.specs.Fields.{windFields, internalFields, faceFields}
 use Rattle.job.specs.Lines.{entriesOf, sheetOf, linesOf}
 use Rattle.job.specs.Walk.{Accepted, readLines, judged}
 use Rattle.job.proofs.Rules.{AllSay}

@@ -18,13 +18,13 @@ use Rattle.job.specs.declared.Kind.the-variants.{Count, Entry}
 use Rattle.job.specs.Rules.{unless, fieldFault, lower, lowest, fieldsFault}
 use Rattle.entry.specs.Says.{both}
 use Rattle.job.specs.Sections.{about, anyNumber, rules, lineFault}
-use Rattle.entry.specs.Fields.{naturalField, numberField, markField, buildingFields}
+use Rattle.fields.specs.Fields.{naturalField, numberField, markField, buildingFields}
 use Rattle.job.proofs.Rules.{rules-name, fields-say}
 use Rattle.job.proofs.Lowest.{fields-even, fault-fields, fault-own}
 use Rattle.job.proofs.Lower.{fields-placed}
 use Rattle.job.proofs.Lines.{building-back}
 use Rattle.job.proofs.Sections.{countLine}
-use Rattle.entry.proofs.Slots.{natural-short, natural-long, mark-both, mark-one, number-long}
+use Rattle.fields.proofs.Slots.{natural-short, natural-long, mark-both, mark-one, number-long}
 
 -- ---- a value
 

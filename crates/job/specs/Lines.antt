@@ -6,7 +6,7 @@ use Rattle.form.specs.declared.Field.the-variants.{Plus, Letter}
 use Rattle.job.specs.declared.Section.{Section}
 use Rattle.job.specs.declared.Section.the-variants.{B, W, I, F}
 use Rattle.job.specs.Carried.{Carried}
-use Rattle.entry.specs.Fields.{buildingFields, windFields, internalFields, faceFields}
+use Rattle.fields.specs.Fields.{buildingFields, windFields, internalFields, faceFields}
 use Rattle.job.specs.Sections.{about}
 
 -- the entries of each section as fields

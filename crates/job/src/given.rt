@@ -13,7 +13,7 @@ ghost use mathlib.Core.Path.{_≡_};
 ghost use mathlib.Core.List.{[], _∷_};
 ghost use Rattle.job.specs.Rules.{fieldsFault};
 ghost use Rattle.job.specs.Sections.{about, rules, lineFault};
-ghost use Rattle.entry.specs.Fields.{windFields, internalFields, faceFields};
+ghost use Rattle.fields.specs.Fields.{windFields, internalFields, faceFields};
 
 pub(crate) fn count_fault(s: Section, n: u32) -> u32
     ensures { λ r. ⌜ r ≡ fieldsFault (rules (Kind.Count s)) (Field.Letter (about s .letter) ∷ Field.Plus n ∷ []) ⌝ }

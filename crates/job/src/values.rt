@@ -5,7 +5,7 @@ use entry::BOTH;
 use form::Field;
 ghost use mathlib.Core.Path.{_≡_};
 ghost use Rattle.job.specs.Rules.{fieldFault};
-ghost use Rattle.entry.specs.Fields.{naturalField, numberField, markField};
+ghost use Rattle.fields.specs.Fields.{naturalField, numberField, markField};
 
 pub(crate) fn natural_fault(lo: u32, hi: u32, n: u32) -> u32
     ensures { λ r. ⌜ r ≡ fieldFault (Rule.NumberFrom 3 lo hi) (naturalField n) ⌝ }

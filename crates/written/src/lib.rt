@@ -1,8 +1,8 @@
 // A job written: its own refusal first, and then its text put into the lent buffer.
-use entry::fields::building_line;
-use entry::fields::face_line;
-use entry::fields::internal_line;
-use entry::fields::wind_line;
+use fields::building_line;
+use fields::face_line;
+use fields::internal_line;
+use fields::wind_line;
 use job::Job;
 use job::Section;
 use job::judge::judge;

@@ -15,7 +15,7 @@ use Rattle.job.specs.declared.Section.the-variants.{W, I, F}
 use Rattle.job.specs.declared.Job.{Job}
 use Rattle.job.specs.Carried.{carried}
 use Rattle.job.specs.Sections.{about}
-use Rattle.entry.specs.Fields.{internalFields}
+use Rattle.fields.specs.Fields.{internalFields}
 use Rattle.job.specs.Lines.{entriesOf}
 use Rattle.job.proofs.Sections.{countLine}
 use Rattle.job.proofs.Alone.{entryOf, most-24}

@@ -5,7 +5,7 @@ use native.Mathlib.Omega.{arith}
 use lib.ListN.{length-map}
 use Rattle.job.specs.declared.Section.the-variants.{B, W, I, F}
 use Rattle.job.specs.Carried.{carried}
-use Rattle.entry.specs.Fields.{windFields, internalFields, faceFields}
+use Rattle.fields.specs.Fields.{windFields, internalFields, faceFields}
 use Rattle.job.specs.Lines.{entriesOf, sectionOf, linesOf}
 use Rattle.job.proofs.Alone.{winds-counted, internals-counted, faces-counted}
 use Rattle.sheet.specs.Sheet.{sheetText}

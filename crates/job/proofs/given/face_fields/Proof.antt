@@ -10,9 +10,9 @@ use Rattle.job.specs.declared.Section.the-variants.{F}
 use Rattle.job.specs.declared.Kind.the-variants.{Entry}
 use Rattle.job.specs.Rules.{fieldFault}
 use Rattle.job.specs.Sections.{rules}
-use Rattle.entry.specs.Fields.{numberField, faceFields}
+use Rattle.fields.specs.Fields.{numberField, faceFields}
 use Rattle.job.proofs.Lower.{lower-by, fields-placed}
-use Rattle.entry.proofs.Slots.{as-written}
+use Rattle.fields.proofs.Slots.{as-written}
 use borrow.Author.Needs.{needs}
 use Rattle.job.proofs.given.face_fields.Statement.{statement}
 use Rattle.job.proofs.given.face_fields.Tie as tie

@@ -5,9 +5,9 @@ use Rattle.job.specs.declared.Section.the-variants.{I}
 use Rattle.job.specs.declared.Kind.the-variants.{Entry}
 use Rattle.job.specs.Rules.{fieldFault}
 use Rattle.job.specs.Sections.{rules}
-use Rattle.entry.specs.Fields.{internalFields}
+use Rattle.fields.specs.Fields.{internalFields}
 use Rattle.job.proofs.Lower.{fields-placed}
-use Rattle.entry.proofs.Slots.{as-written}
+use Rattle.fields.proofs.Slots.{as-written}
 use borrow.Author.Needs.{needs}
 use Rattle.job.proofs.given.internal_fault.Statement.{statement}
 use Rattle.job.proofs.given.internal_fault.Tie as tie
