@@ -23,6 +23,11 @@ use Rattle.building.proofs.zone_on.Reads as zone-on
 use Rattle.building.proofs.asked.Reads as asked
 use Rattle.book.proofs.outside.Reads as outside
 use Rattle.book.proofs.net.Reads as net
+use Rattle.entry.proofs.says.size_of.Reads as size-of
+use Rattle.entry.proofs.says.building_of.Reads as building-of
+use Rattle.entry.proofs.says.wind_of.Reads as wind-of
+use Rattle.entry.proofs.says.internal_of.Reads as internal-of
+use Rattle.entry.proofs.says.face_of.Reads as face-of
 use Rattle.fields.proofs.building_line.Reads as building-line
 use Rattle.fields.proofs.wind_line.Reads as wind-line
 use Rattle.fields.proofs.internal_line.Reads as internal-line
@@ -30,11 +35,6 @@ use Rattle.fields.proofs.face_line.Reads as face-line
 use Rattle.job.proofs.shape.count_line.Reads as count-line
 use Rattle.job.proofs.faults.line_fault.Reads as line-fault
 use Rattle.job.proofs.judge.judge.Reads as judge
-use Rattle.entry.proofs.says.size_of.Reads as size-of
-use Rattle.entry.proofs.says.building_of.Reads as building-of
-use Rattle.entry.proofs.says.wind_of.Reads as wind-of
-use Rattle.entry.proofs.says.internal_of.Reads as internal-of
-use Rattle.entry.proofs.says.face_of.Reads as face-of
 use Rattle.sheet.proofs.read.read_sheet.Reads as read-sheet
 use Rattle.written.proofs.write_sheet.Reads as write-sheet
 use Rattle.worst.proofs.worst_cases.Reads as worst-cases
@@ -138,28 +138,7 @@ outside-determined κ a r r′ s s′ p q = same p q
 net-determined : OneAnswer net.Post
 net-determined κ a r r′ s s′ p q = same p q
 
--- ---- job
-
-building-line-determined : OneAnswer building-line.Post
-building-line-determined κ a r r′ s s′ p q = same p q
-
-wind-line-determined : OneAnswer wind-line.Post
-wind-line-determined κ a r r′ s s′ p q = same p q
-
-internal-line-determined : OneAnswer internal-line.Post
-internal-line-determined κ a r r′ s s′ p q = same p q
-
-face-line-determined : OneAnswer face-line.Post
-face-line-determined κ a r r′ s s′ p q = same p q
-
-count-line-determined : OneAnswer count-line.Post
-count-line-determined κ a r r′ s s′ p q = same p q
-
-line-fault-determined : OneAnswer line-fault.Post
-line-fault-determined κ a r r′ s s′ p q = same p q
-
-judge-determined : OneAnswer judge.Post
-judge-determined κ a r r′ s s′ p q = same p q
+-- ---- entry
 
 size-of-determined : OneAnswer size-of.Post
 size-of-determined κ a r r′ s s′ p q = same p q
@@ -175,6 +154,31 @@ internal-of-determined κ a r r′ s s′ p q = same p q
 
 face-of-determined : OneAnswer face-of.Post
 face-of-determined κ a r r′ s s′ p q = same p q
+
+-- ---- fields
+
+building-line-determined : OneAnswer building-line.Post
+building-line-determined κ a r r′ s s′ p q = same p q
+
+wind-line-determined : OneAnswer wind-line.Post
+wind-line-determined κ a r r′ s s′ p q = same p q
+
+internal-line-determined : OneAnswer internal-line.Post
+internal-line-determined κ a r r′ s s′ p q = same p q
+
+face-line-determined : OneAnswer face-line.Post
+face-line-determined κ a r r′ s s′ p q = same p q
+
+-- ---- job
+
+count-line-determined : OneAnswer count-line.Post
+count-line-determined κ a r r′ s s′ p q = same p q
+
+line-fault-determined : OneAnswer line-fault.Post
+line-fault-determined κ a r r′ s s′ p q = same p q
+
+judge-determined : OneAnswer judge.Post
+judge-determined κ a r r′ s s′ p q = same p q
 
 -- ---- sheet
 
