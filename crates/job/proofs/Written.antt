@@ -4,10 +4,11 @@ use mathlib.Core.Path.{_≡_, refl, sym, ap, _∙_}
 use mathlib.Core.Bool.{Bool, true, false, cond, _&&_, _||_}
 use native.Mathlib.Omega.{arith}
 use lib.IntN.{ℤ, pos, negsuc, natAbs}
-use lib.Dec.{leb, ltb}
-use borrow.Author.Tests.{le-leb, ne-eqb, ltb-true, ltb-false}
+use lib.Dec.{leb, ltb, eqb}
+use borrow.Author.Tests.{le-leb, lt-leb, ne-eqb, ltb-true, ltb-false}
 use Rattle.whole.proofs.Tests.{by-test}
 use Rattle.form.specs.declared.Field.the-variants.{Bad, Plus}
+use Rattle.form.specs.declared.Field.the-variants.{Bad, Plus, Letter}
 use Rattle.building.specs.declared.Building.{Building}
 use Rattle.building.specs.Building.{tooLong, outOfForm, buildingFault}
 use Rattle.job.specs.declared.Rule.{Rule}
@@ -41,7 +42,7 @@ module _ (n : ℕ) where
   pub natural-too-long : (r : Rule) → 9999999 < n → 1 ≡ fieldFault r (naturalField n)
   natural-too-long r h = bad-fault r ∙ ap (fieldFault r) (natural-long n h)
 
-  pub natural-in-form : (r : Rule) {v : ℕ} → n ≤ 9999999 → v ≡ fieldFault r (Plus n) → v ≡ fieldFault r (naturalField n)
+  natural-in-form : (r : Rule) {v : ℕ} → n ≤ 9999999 → v ≡ fieldFault r (Plus n) → v ≡ fieldFault r (naturalField n)
   natural-in-form r h e = e ∙ ap (fieldFault r) (natural-short n h)
 
   pub mark-both-fault : n ≡ both → 0 ≡ fieldFault Mark (markField n)
@@ -56,14 +57,41 @@ module _ (n : ℕ) where
   pub mark-one-fault : {v : ℕ} → (n ≡ both → ⊥) → v ≡ fieldFault Direction (naturalField n) → v ≡ fieldFault Mark (markField n)
   mark-one-fault h e = e ∙ direction-mark ∙ ap (fieldFault Mark) (mark-one n h)
 
+-- fault f unless n is from lo to hi, by the tests that the code makes
+module _ (f lo hi n : ℕ) where
+  pub range-below : n < lo → f ≡ unless f (leb lo n && leb n hi)
+  range-below h = rw (lt-leb lo n h)
+
+  pub range-above : lo ≤ n → hi < n → f ≡ unless f (leb lo n && leb n hi)
+  range-above h k = rw (le-leb lo n h, lt-leb n hi k)
+
+  pub range-within : lo ≤ n → n ≤ hi → 0 ≡ unless f (leb lo n && leb n hi)
+  range-within h k = rw (le-leb lo n h, le-leb n hi k)
+
+pub letter-in-range : (lo hi b : ℕ) {v : ℕ} → v ≡ unless 1 (leb lo b && leb b hi) → v ≡ fieldFault (LetterFrom lo hi) (Letter b)
+unfolding fieldFault
+letter-in-range lo hi b e = e
+
+pub natural-in-range : (lo hi n : ℕ) {v : ℕ} → n ≤ 9999999 → v ≡ unless 3 (leb lo n && leb n hi) → v ≡ fieldFault (NumberFrom 3 lo hi) (naturalField n)
+unfolding fieldFault
+natural-in-range lo hi n h e = natural-in-form n (NumberFrom 3 lo hi) h e
+
+pub natural-direction : (n : ℕ) {v : ℕ} → n ≤ 9999999 → v ≡ unless 3 (eqb n 0 || eqb n 90) → v ≡ fieldFault Direction (naturalField n)
+unfolding fieldFault
+natural-direction n h e = natural-in-form n Direction h e
+
 -- z is of the size m
 pub number-too-long : (z : ℤ) (m : ℕ) → m ≡ natAbs z → (r : Rule) → 9999999 < m → 1 ≡ fieldFault r (numberField z)
 number-too-long z m e r h = bad-fault r ∙ ap (fieldFault r) (number-long z m e h)
 
-pub size-in-form : (n most : ℕ) (z : ℤ) (m : ℕ) → m ≡ natAbs z → m ≤ 9999999 → fieldFault (SizeTo n most) (Plus m) ≡ fieldFault (SizeTo n most) (numberField z)
+size-in-form : (n most : ℕ) (z : ℤ) (m : ℕ) → m ≡ natAbs z → m ≤ 9999999 → fieldFault (SizeTo n most) (Plus m) ≡ fieldFault (SizeTo n most) (numberField z)
 unfolding fieldFault numberField
 size-in-form n most (pos k) m e h = rw (e, le-leb k 9999999 (omega arith))
 size-in-form n most (negsuc k) m e h = rw (e, le-leb (suc k) 9999999 (omega arith)) (rw (ne-eqb (suc k) 0 (λ q. omega arith)))
+
+pub number-size : (most : ℕ) (z : ℤ) (m : ℕ) {v : ℕ} → m ≡ natAbs z → m ≤ 9999999 → v ≡ unless 3 (leb m most) → v ≡ fieldFault (SizeTo 3 most) (numberField z)
+unfolding fieldFault
+number-size most z m e h k = k ∙ size-in-form 3 most z m e h
 
 -- ---- a count
 

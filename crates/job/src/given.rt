@@ -2,7 +2,6 @@
 use crate::Kind;
 use crate::Section;
 use crate::faults::lower_of;
-use crate::field;
 use crate::shape;
 use crate::values;
 use building::Building;
@@ -19,7 +18,13 @@ pub(crate) fn count_fault(s: Section, n: u32) -> u32
     ensures { λ r. ⌜ r ≡ fieldsFault (rules (Kind.Count s)) (Field.Letter (about s .letter) ∷ Field.Plus n ∷ []) ⌝ }
 {
     let l = shape::limits_of(s);
-    field::unless(2, field::within(l.least, l.most, n))
+    if n < l.least {
+        return 2;
+    }
+    if l.most < n {
+        return 2;
+    }
+    0
 }
 
 pub(crate) fn wind_fault(w: Wind) -> u32
@@ -49,7 +54,7 @@ fn face_fields(f: Face) -> u32
         ),
     );
     lower_of(
-        field::letter_fault(b'A', b'H', Field::Letter(f.zone)),
+        values::zone_fault(f.zone),
         lower_of(values::mark_fault(f.mark), areas),
     )
 }
@@ -61,5 +66,8 @@ pub(crate) fn face_fault(g: Building, f: Face) -> u32
     if n != 0 {
         return n;
     }
-    field::unless(6, building::zone_on(g.kind, f.zone))
+    if building::zone_on(g.kind, f.zone) {
+        return 0;
+    }
+    6
 }

@@ -1,11 +1,22 @@
 // The fault of a value of a record: that of the field that it would be written as. More than 7 digits are out of form.
 use crate::Rule;
-use crate::field;
 use entry::BOTH;
 use form::Field;
 ghost use mathlib.Core.Path.{_≡_};
 ghost use Rattle.job.specs.Rules.{fieldFault};
 ghost use Rattle.fields.specs.Fields.{naturalField, numberField, markField};
+
+pub(crate) fn zone_fault(b: u8) -> u32
+    ensures { λ r. ⌜ r ≡ fieldFault (Rule.LetterFrom 65 72) (Field.Letter b) ⌝ }
+{
+    if b < b'A' {
+        return 1;
+    }
+    if b'H' < b {
+        return 1;
+    }
+    0
+}
 
 pub(crate) fn natural_fault(lo: u32, hi: u32, n: u32) -> u32
     ensures { λ r. ⌜ r ≡ fieldFault (Rule.NumberFrom 3 lo hi) (naturalField n) ⌝ }
@@ -13,7 +24,13 @@ pub(crate) fn natural_fault(lo: u32, hi: u32, n: u32) -> u32
     if 9999999 < n {
         return 1;
     }
-    field::from_fault(3, lo, hi, Field::Plus(n))
+    if n < lo {
+        return 3;
+    }
+    if hi < n {
+        return 3;
+    }
+    0
 }
 
 pub(crate) fn direction_fault(n: u32) -> u32
@@ -22,7 +39,13 @@ pub(crate) fn direction_fault(n: u32) -> u32
     if 9999999 < n {
         return 1;
     }
-    field::direction_fault(Field::Plus(n))
+    if n == 0 {
+        return 0;
+    }
+    if n == 90 {
+        return 0;
+    }
+    3
 }
 
 pub(crate) fn mark_fault(m: u32) -> u32
@@ -35,12 +58,15 @@ pub(crate) fn mark_fault(m: u32) -> u32
 }
 
 // A number has the fault of its size, on either side of zero.
-pub(crate) fn size_fault(most: u32, z: i64) -> u32
+pub(crate) fn size_fault(most: u64, z: i64) -> u32
     ensures { λ r. ⌜ r ≡ fieldFault (Rule.SizeTo 3 most) (numberField z) ⌝ }
 {
     let m = whole::magnitude(z);
     if 9999999 < m {
         return 1;
     }
-    field::size_fault(3, most, Field::Plus(m as u32))
+    if most < m {
+        return 3;
+    }
+    0
 }

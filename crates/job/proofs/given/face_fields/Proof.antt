@@ -30,7 +30,7 @@ returns c =
     let x = y .before .before in
     let q = x .before .struct-told .given in
     let f = x .before .before .args .f in
-    lower-by (c .lower-of4 .ensures) (zone .letter-fault .ensures)
+    lower-by (c .lower-of4 .ensures) (zone .zone-fault .ensures)
     (lower-by (c .before .lower-of3 .ensures) (m .mark-fault .ensures)
     (lower-by (areas .lower-of2 .ensures) (area (f .x) (q .1 .1 .0 .1) (x .size-fault .ensures))
     (lower-by (areas .before .lower-of .ensures) (area (f .y) (q .1 .1 .1 .0 .1) (y .size-fault2 .ensures)) (area (f .z) (q .1 .1 .1 .1 .0 .1) (z .size-fault3 .ensures)))))

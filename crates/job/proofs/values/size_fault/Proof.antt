@@ -2,8 +2,9 @@
 use mathlib.Core.Path.{_≡_, _∙_, ap}
 use lib.IntN.{natAbs}
 use mir.Facts.{toZ-ofZ}
-use Rattle.job.proofs.Written.{number-too-long, size-in-form}
+use Rattle.job.proofs.Written.{number-too-long, number-size}
 use borrow.Author.Needs.{needs}
+use borrow.Author.Tests.{le-leb, lt-leb}
 use Rattle.job.proofs.values.size_fault.Statement.{statement}
 use Rattle.job.proofs.values.size_fault.Tie as tie
 
@@ -17,7 +18,12 @@ returns c = number-too-long _ _ (size (c .before)) _ (c .if1 .taken)
 returns-2 : tie.Need-returns-2
 returns-2 c =
     let e = c .before in
-    c .size-fault .ensures ∙ size-in-form _ _ _ _ (size (e .before)) (e .if1 .left)
+    number-size _ _ _ (size (e .before)) (e .if1 .left) (rw (lt-leb _ _ (c .if2 .taken)))
+
+returns-3 : tie.Need-returns-3
+returns-3 c =
+    let e = c .before in
+    number-size _ _ _ (size (e .before)) (e .if1 .left) (rw (le-leb _ _ (c .if2 .left)))
 
 pub size-fault-spec : {M : Type 1} → statement M
 size-fault-spec =
@@ -25,6 +31,5 @@ size-fault-spec =
     (tie.spec
     (λ c κs. search needs)
     returns
-    (λ c. search needs)
-    (λ c κs. search needs)
-    returns-2)
+    returns-2
+    returns-3)
