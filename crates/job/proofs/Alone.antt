@@ -12,10 +12,13 @@ use Rattle.form.specs.declared.Field.{Field}
 use Rattle.job.specs.declared.Section.{Section}
 use Rattle.job.specs.declared.Section.the-variants.{B, W, I, F}
 use Rattle.job.specs.declared.Kind.the-variants.{Count, Entry}
+use Rattle.rules.specs.declared.Section.{Section}
+use Rattle.rules.specs.declared.Section.the-variants.{B, W, I, F}
+use Rattle.rules.specs.declared.Kind.the-variants.{Count, Entry}
 use Rattle.job.specs.declared.Job.{Job}
 use Rattle.job.specs.declared.Verdict.{Verdict}
 use Rattle.job.specs.Carried.{Carried, noWind, noFace, carried}
-use Rattle.job.specs.Sections.{about, lineFault}
+use Rattle.rules.specs.Sections.{about, lineFault}
 use Rattle.fields.specs.Fields.{buildingFields, windFields, internalFields, faceFields}
 use Rattle.job.specs.Lines.{entriesOf, sectionOf}
 use Rattle.job.specs.Walk.{verdict, walk}

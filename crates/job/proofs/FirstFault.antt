@@ -8,11 +8,12 @@ use borrow.Author.Tests.{eqb-true, eqb-false, leb-true, leb-false}
 use Rattle.whole.proofs.Tests.{by-test}
 use Rattle.form.specs.declared.Field.{Field}
 use Rattle.job.specs.declared.Kind.{Kind}
+use Rattle.rules.specs.declared.Kind.{Kind}
 use Rattle.job.specs.declared.Job.{Job}
 use Rattle.job.specs.Carried.{Carried, nothing, carried}
 use Rattle.job.specs.Lines.{linesOf}
-use Rattle.job.specs.Sections.{lineFault, calls, learn}
-use Rattle.job.specs.Walk.{Reading, Refused, verdict, walk, sheet, readLines, judged}
+use Rattle.rules.specs.Sections.{lineFault}
+use Rattle.job.specs.Walk.{calls, learn, Reading, Refused, verdict, walk, sheet, readLines, judged}
 use Rattle.job.specs.FirstFault.{HasFault, FaultAt, FirstFault, NoFault, Answers, in-order, faulty}
 use Rattle.job.proofs.Lowest.{fault-lowest, fault-has}
 

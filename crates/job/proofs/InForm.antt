@@ -13,16 +13,16 @@ use Rattle.whole.proofs.Table.{both, both-left, both-right, all}
 use Rattle.form.specs.declared.Field.{Field}
 use Rattle.form.specs.declared.Field.the-variants.{Bad, Plus, Minus, Letter, Dash}
 use Rattle.lines.specs.Lines.{NotBad, InForm, LinesInForm}
-use Rattle.job.specs.declared.Rule.{Rule}
-use Rattle.job.specs.declared.Rule.the-variants.{LetterFrom, NumberFrom, SizeTo, Direction, Mark}
-use Rattle.job.specs.declared.Section.the-variants.{B, W, I, F}
-use Rattle.job.specs.declared.Kind.{Kind}
-use Rattle.job.specs.declared.Kind.the-variants.{Count, Entry}
+use Rattle.rules.specs.declared.Rule.{Rule}
+use Rattle.rules.specs.declared.Rule.the-variants.{LetterFrom, NumberFrom, SizeTo, Direction, Mark}
+use Rattle.rules.specs.declared.Section.the-variants.{B, W, I, F}
+use Rattle.rules.specs.declared.Kind.{Kind}
+use Rattle.rules.specs.declared.Kind.the-variants.{Count, Entry}
 use Rattle.job.specs.Carried.{Carried, nothing}
-use Rattle.job.specs.Sections.{rules, calls, learn}
-use Rattle.job.specs.Walk.{Accepted, walk, sheet, readLines}
-use Rattle.job.proofs.Rules as rule
-use Rattle.job.proofs.Rules.{Says, AllSay, none, more, Angle}
+use Rattle.rules.specs.Sections.{rules}
+use Rattle.job.specs.Walk.{calls, learn, Accepted, walk, sheet, readLines}
+use Rattle.rules.proofs.Rules as rule
+use Rattle.rules.proofs.Rules.{Says, AllSay, none, more, Angle}
 use Rattle.job.proofs.Walk.{accepted-line, accepted-next, accepted-no-more, line-says}
 
 -- a rule that lets only capital letters and numbers of at most 7 digits pass

@@ -13,21 +13,21 @@ use Rattle.whole.proofs.Size.{natAbs-neg}
 use Rattle.form.specs.declared.Field.{Field}
 use Rattle.building.specs.declared.Building.{Building}
 use Rattle.building.specs.Places.{zoneOn}
-use Rattle.job.specs.declared.Rule.the-variants.{NumberFrom, SizeTo, Direction, Mark}
-use Rattle.job.specs.declared.Section.{Section}
-use Rattle.job.specs.declared.Section.the-variants.{B, W, I, F}
-use Rattle.job.specs.declared.Kind.the-variants.{Entry}
+use Rattle.rules.specs.declared.Rule.the-variants.{NumberFrom, SizeTo, Direction, Mark}
+use Rattle.rules.specs.declared.Section.{Section}
+use Rattle.rules.specs.declared.Section.the-variants.{B, W, I, F}
+use Rattle.rules.specs.declared.Kind.the-variants.{Entry}
 use Rattle.entry.specs.declared.Wind.{Wind}
 use Rattle.entry.specs.declared.Face.{Face}
 use Rattle.job.specs.Carried.{Carried}
 use Rattle.entry.specs.Says.{number, mark, both, at, letter, buildingOf, windOf, internalOf, faceOf}
-use Rattle.job.specs.Sections.{about, rules, lineFault}
+use Rattle.rules.specs.Sections.{about, rules, lineFault}
 use Rattle.fields.specs.Fields.{naturalField, numberField, markField, buildingFields, windFields, internalFields, faceFields}
 use Rattle.job.specs.Lines.{entriesOf, linesOf}
 use Rattle.job.specs.Walk.{Accepted, readLines}
 use Rattle.job.specs.InOrder.{Within, WindInOrder, InternalInOrder, FaceInOrder, InOrder}
-use Rattle.job.proofs.Rules as rule
-use Rattle.job.proofs.Rules.{Says, AllSay, none, more, Angle, unless-none}
+use Rattle.rules.proofs.Rules as rule
+use Rattle.rules.proofs.Rules.{Says, AllSay, none, more, Angle, unless-none}
 use Rattle.job.proofs.Walk.{line-in-order, line-says, line-own, EntriesInOrder}
 use Rattle.job.proofs.Sheet.{saidBy, SheetInOrder, sheet-accepted, accepted-sheet}
 use Rattle.job.proofs.Lines.{natural-small, plus-small, minus-small, angle-small, building-back}

@@ -8,16 +8,16 @@ use borrow.Author.Tests.{eqb-true, eqb-false}
 use Rattle.whole.proofs.Tests.{by-test}
 use Rattle.form.specs.declared.Field.{Field}
 use Rattle.building.specs.declared.Building.{Building}
-use Rattle.job.specs.declared.Section.{Section}
-use Rattle.job.specs.declared.Section.the-variants.{B, F}
-use Rattle.job.specs.declared.Kind.{Kind}
-use Rattle.job.specs.declared.Kind.the-variants.{Count, Entry}
+use Rattle.rules.specs.declared.Section.{Section}
+use Rattle.rules.specs.declared.Section.the-variants.{B, F}
+use Rattle.rules.specs.declared.Kind.{Kind}
+use Rattle.rules.specs.declared.Kind.the-variants.{Count, Entry}
 use Rattle.job.specs.declared.Job.{Job}
 use Rattle.job.specs.declared.Verdict.{Verdict}
 use Rattle.job.specs.Carried.{Carried, carried}
-use Rattle.job.specs.Sections.{lineFault, entries, calls, learn}
+use Rattle.rules.specs.Sections.{lineFault}
 use Rattle.job.specs.Lines.{entriesOf, sectionOf, linesOf}
-use Rattle.job.specs.Walk.{Reading, Accepted, Refused, verdict, walk, judged}
+use Rattle.job.specs.Walk.{entries, calls, learn, Reading, Accepted, Refused, verdict, walk, judged}
 use Rattle.job.proofs.FirstFault.{walk-answers}
 use Rattle.job.proofs.Walk.{walk-on, walk-refused, line-says, EntriesInOrder, JudgesAs, entry-judges}
 use Rattle.job.proofs.Sections.{Counted, countLine, section-in-order}

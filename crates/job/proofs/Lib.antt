@@ -1,5 +1,4 @@
--- The laws: of the rules and of the walk; that the answer is the first fault; what is accepted, written and read again; and of records.
-pub mod Rules
+-- The laws: of the walk; that the answer is the first fault; what is accepted, written and read again; and of records.
 pub mod Building
 pub mod Lowest
 pub mod FirstFault
@@ -12,8 +11,6 @@ pub mod InForm
 pub mod InOrder
 pub mod Records
 pub mod Worked
-pub mod Tested
-pub mod Lower
 pub mod Written
 pub mod Alone
 pub mod Judged

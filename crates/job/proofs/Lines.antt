@@ -12,17 +12,17 @@ use Rattle.form.specs.declared.Field.{Field}
 use Rattle.form.specs.declared.Field.the-variants.{Plus, Minus}
 use Rattle.lines.specs.Lines.{NotBad}
 use Rattle.building.specs.declared.Building.{Building}
-use Rattle.job.specs.declared.Rule.{Rule}
-use Rattle.job.specs.declared.Rule.the-variants.{NumberFrom, SizeTo, Direction, Mark}
-use Rattle.job.specs.declared.Section.the-variants.{B, W, I, F}
-use Rattle.job.specs.declared.Kind.the-variants.{Entry}
+use Rattle.rules.specs.declared.Rule.{Rule}
+use Rattle.rules.specs.declared.Rule.the-variants.{NumberFrom, SizeTo, Direction, Mark}
+use Rattle.rules.specs.declared.Section.the-variants.{B, W, I, F}
+use Rattle.rules.specs.declared.Kind.the-variants.{Entry}
 use Rattle.entry.specs.declared.Wind.{Wind}
 use Rattle.entry.specs.declared.Face.{Face}
 use Rattle.entry.specs.Says.{number, size, mark, both, buildingOf, windOf, internalOf, faceOf}
-use Rattle.job.specs.Sections.{rules}
+use Rattle.rules.specs.Sections.{rules}
 use Rattle.fields.specs.Fields.{naturalField, numberField, markField, buildingFields, windFields, internalFields, faceFields}
-use Rattle.job.proofs.Rules as rule
-use Rattle.job.proofs.Rules.{Says, AllSay, none, more, Angle}
+use Rattle.rules.proofs.Rules as rule
+use Rattle.rules.proofs.Rules.{Says, AllSay, none, more, Angle}
 
 -- ---- a field in order, written again
 

@@ -7,7 +7,7 @@ use mathlib.Core.Bool.{Bool, true, false, _&&_, _||_}
 use native.Mathlib.Omega.{arith}
 use lib.ListN.{length, getD}
 use lib.Dec.{eqb, leb, T, leb→le}
-use borrow.Author.Tests.{eq-eqb, ne-eqb, eqb-true, eqb-false, leb-true, leb-false}
+use borrow.Author.Tests.{eqb-true, eqb-false, leb-true, leb-false}
 use Rattle.whole.proofs.Tests.{by-test}
 use Rattle.whole.proofs.Table.{both-left, both-right, all}
 use Rattle.form.specs.declared.Field.{Field}
@@ -15,17 +15,18 @@ use Rattle.form.specs.declared.Field.the-variants.{Bad, Plus, Minus, Letter, Da
 use Rattle.building.specs.declared.Building.{Building}
 use Rattle.building.specs.Building.{buildingFault}
 use Rattle.building.specs.Places.{zoneOn}
-use Rattle.job.specs.declared.Rule.{Rule}
-use Rattle.job.specs.declared.Rule.the-variants.{LetterFrom, NumberFrom, SizeTo, Direction, Mark}
-use Rattle.job.specs.declared.Section.the-variants.{B, W, I, F}
-use Rattle.job.specs.declared.Kind.{Kind}
-use Rattle.job.specs.declared.Kind.the-variants.{Count, Entry}
-use Rattle.job.specs.Rules.{unless, ofNumber, isLetter, isDash, directionFault, fieldFault, lower, lowest, fieldsFault}
+use Rattle.rules.specs.declared.Rule.{Rule}
+use Rattle.rules.specs.declared.Rule.the-variants.{LetterFrom, NumberFrom, SizeTo, Direction, Mark}
+use Rattle.rules.specs.declared.Section.the-variants.{B, W, I, F}
+use Rattle.rules.specs.declared.Kind.{Kind}
+use Rattle.rules.specs.declared.Kind.the-variants.{Count, Entry}
+use Rattle.rules.specs.Rules.{unless, ofNumber, isLetter, isDash, directionFault, fieldFault, lower, lowest, fieldsFault}
 use Rattle.entry.specs.Says.{buildingOf, letter, at}
-use Rattle.job.specs.Sections.{rules, ownFault, lineFault}
+use Rattle.rules.specs.Sections.{rules, ownFault, lineFault}
 use Rattle.job.proofs.Building.{building-least, building-found}
 use Rattle.job.specs.FirstFault.{HasFault, few-or-many, of-field, of-building, of-zone}
-use Rattle.job.proofs.Rules.{highest}
+use Rattle.rules.proofs.Rules.{highest}
+use Rattle.rules.proofs.Parts.{fields-even, fields-uneven, fault-fields, fault-own}
 
 -- ---- the lower of two faults
 
@@ -127,33 +128,11 @@ lowest-top (Entry W) fs = (omega arith, lowest-most 3 (omega arith) (rules (Entr
 lowest-top (Entry I) fs = (omega arith, lowest-most 3 (omega arith) (rules (Entry I)) fs tt)
 lowest-top (Entry F) fs = (omega arith, lowest-most 3 (omega arith) (rules (Entry F)) fs tt)
 
--- ---- the fault of a line by its parts
-
-module _ (rs : List Rule) (fs : List Field) where
-  pub fields-even : length fs ≡ length rs → fieldsFault rs fs ≡ lowest rs fs
-  unfolding fieldsFault
-  fields-even h = rw (eq-eqb _ _ h)
-
-  pub fields-uneven : (length fs ≡ length rs → ⊥) → fieldsFault rs fs ≡ 1
-  unfolding fieldsFault
-  fields-uneven h = rw (ne-eqb _ _ h)
+-- ---- the fault of a line
 
 module _ (k : Kind) (g : Building) (fs : List Field) where
-  pub fault-fields : (fieldsFault (rules k) fs ≡ 0 → ⊥) → lineFault k g fs ≡ fieldsFault (rules k) fs
-  unfolding lineFault
-  fault-fields h = rw (ne-eqb _ _ h)
-
-  pub fault-own : fieldsFault (rules k) fs ≡ 0 → lineFault k g fs ≡ ownFault k g fs
-  unfolding lineFault
-  fault-own h = rw (eq-eqb _ _ h)
-
-  -- where the line has no fault of its own
-  pub fault-plain : ownFault k g fs ≡ 0 → lineFault k g fs ≡ fieldsFault (rules k) fs
-  fault-plain h =
-      by-test (eqb (fieldsFault (rules k) fs) 0) (λ q. let z = eqb-true _ _ q in fault-own z ∙ h ∙ sym z) (λ q. fault-fields (eqb-false _ _ q))
-
   fault-uneven : (length fs ≡ length (rules k) → ⊥) → lineFault k g fs ≡ 1
-  fault-uneven h = let q = fields-uneven (rules k) fs h in fault-fields (λ e. omega arith) ∙ q
+  fault-uneven h = let q = fields-uneven (rules k) fs h in fault-fields k g fs (λ e. omega arith) ∙ q
 
   fields-top : fieldsFault (rules k) fs ≤ top k
   fields-top =
@@ -165,10 +144,10 @@ module _ (k : Kind) (g : Building) (fs : List Field) where
   own-under : (n : ℕ) → 0 < n → ownFault k g fs ≡ n → top k ≤ n → (0 < lineFault k g fs) × (lineFault k g fs ≤ n)
   own-under n z e h =
       by-test (eqb (fieldsFault (rules k) fs) 0)
-      (λ q. let f = fault-own (eqb-true _ _ q) in (omega arith, omega arith))
+      (λ q. let f = fault-own k g fs (eqb-true _ _ q) in (omega arith, omega arith))
       (λ q.
       let y = eqb-false _ _ q in
-      let f = fault-fields y in
+      let f = fault-fields k g fs y in
       (omega (arith, y), omega (arith, fields-top)))
 
   fields-under : (i : ℕ) → i < length (rules k) → 0 < fieldFault (getD (rules k) i Mark) (at fs i)
@@ -179,7 +158,7 @@ module _ (k : Kind) (g : Building) (fs : List Field) where
       let v = eqb-true _ _ q in
       let t = lowest-under (rules k) fs i v h z in
       let y = fields-even (rules k) fs v in
-      let f = fault-fields (λ w. omega (arith, t .0)) in
+      let f = fault-fields k g fs (λ w. omega (arith, t .0)) in
       (omega (arith, t .0), omega (arith, t .1)))
       (λ q. let f = fault-uneven (eqb-false _ _ q) in (omega arith, omega arith))
 

@@ -9,14 +9,17 @@ use Rattle.form.specs.declared.Field.{Field}
 use Rattle.job.specs.declared.Section.{Section}
 use Rattle.job.specs.declared.Section.the-variants.{B, W, I, F}
 use Rattle.job.specs.declared.Kind.the-variants.{Entry}
+use Rattle.rules.specs.declared.Section.{Section}
+use Rattle.rules.specs.declared.Section.the-variants.{B, W, I, F}
+use Rattle.rules.specs.declared.Kind.the-variants.{Entry}
 use Rattle.job.specs.declared.Job.{Job}
 use Rattle.job.specs.Carried.{Carried, carried}
 use Rattle.entry.specs.Says.{windOf, internalOf, faceOf}
-use Rattle.job.specs.Sections.{rules}
+use Rattle.rules.specs.Sections.{rules}
 use Rattle.fields.specs.Fields.{windFields, internalFields, faceFields}
 use Rattle.job.specs.Lines.{entriesOf, sheetOf, linesOf}
 use Rattle.job.specs.Walk.{Accepted, readLines, judged}
-use Rattle.job.proofs.Rules.{AllSay}
+use Rattle.rules.proofs.Rules.{AllSay}
 use Rattle.job.proofs.Walk.{line-says}
 use Rattle.job.proofs.Sheet.{saidBy, SheetInOrder, sheet-in-order, sheet-said, accepted-sheet}
 use Rattle.job.proofs.Lines.{building-again, wind-again, internal-again, face-again, building-back, wind-back, internal-back, face-back}

@@ -7,15 +7,15 @@ use lib.ListN.{length, getD, take}
 use Rattle.form.specs.declared.Field.{Field}
 use Rattle.form.specs.declared.Field.the-variants.{Plus, Letter}
 use Rattle.building.specs.declared.Building.{Building}
-use Rattle.job.specs.declared.Section.{Section}
-use Rattle.job.specs.declared.Kind.{Kind}
-use Rattle.job.specs.declared.Kind.the-variants.{Count, Entry}
+use Rattle.rules.specs.declared.Section.{Section}
+use Rattle.rules.specs.declared.Kind.{Kind}
+use Rattle.rules.specs.declared.Kind.the-variants.{Count, Entry}
 use Rattle.job.specs.Carried.{Carried}
-use Rattle.job.specs.Sections.{about, rules, lineFault, entries}
+use Rattle.rules.specs.Sections.{about, rules, lineFault}
 use Rattle.job.specs.Lines.{sectionOf}
-use Rattle.job.specs.Walk.{Accepted, Refused, walk}
+use Rattle.job.specs.Walk.{entries, Accepted, Refused, walk}
 use Rattle.job.specs.InOrder.{Within}
-use Rattle.job.proofs.Rules.{AllSay, none, more, number, letter}
+use Rattle.rules.proofs.Rules.{AllSay, none, more, number, letter}
 use Rattle.job.proofs.Walk.{walk-on, walk-refused, entries-refused, accepted-line, accepted-next, accepted-some, accepted-end, line-in-order, line-says, learnAll, EntriesInOrder, entries-walk, entries-in-order, entries-there}
 
 -- ---- the count of a section

@@ -10,11 +10,15 @@ use Rattle.job.specs.declared.Section.{Section}
 use Rattle.job.specs.declared.Section.the-variants.{B, W, I, F}
 use Rattle.job.specs.declared.Kind.{Kind}
 use Rattle.job.specs.declared.Kind.the-variants.{Count, Entry}
+use Rattle.rules.specs.declared.Section.{Section}
+use Rattle.rules.specs.declared.Section.the-variants.{B, W, I, F}
+use Rattle.rules.specs.declared.Kind.{Kind}
+use Rattle.rules.specs.declared.Kind.the-variants.{Count, Entry}
 use Rattle.job.specs.Carried.{Carried, nothing}
 use Rattle.entry.specs.Says.{buildingOf, windOf, internalOf, faceOf}
-use Rattle.job.specs.Sections.{lineFault, entries, learn}
+use Rattle.rules.specs.Sections.{lineFault}
 use Rattle.job.specs.Lines.{sectionOf, sheetOf}
-use Rattle.job.specs.Walk.{Accepted, Refused, walk, readLines}
+use Rattle.job.specs.Walk.{entries, learn, Accepted, Refused, walk, readLines}
 use Rattle.job.proofs.Sections.{Counted, section-refused, section-walk, section-in-order, section-begun, section-last, joined}
 use Rattle.job.proofs.Walk.{learnAll, EntriesInOrder}
 

@@ -11,15 +11,15 @@ use Rattle.whole.specs.Lists.{Every}
 use Rattle.whole.proofs.Tests.{by-test}
 use Rattle.form.specs.declared.Field.{Field}
 use Rattle.building.specs.declared.Building.{Building}
-use Rattle.job.specs.declared.Section.{Section}
-use Rattle.job.specs.declared.Section.the-variants.{B, W, I, F}
-use Rattle.job.specs.declared.Kind.{Kind}
-use Rattle.job.specs.declared.Kind.the-variants.{Entry}
+use Rattle.rules.specs.declared.Section.{Section}
+use Rattle.rules.specs.declared.Section.the-variants.{B, W, I, F}
+use Rattle.rules.specs.declared.Kind.{Kind}
+use Rattle.rules.specs.declared.Kind.the-variants.{Entry}
 use Rattle.job.specs.Carried.{Carried}
-use Rattle.job.specs.Rules.{fieldsFault}
-use Rattle.job.specs.Sections.{rules, ownFault, lineFault, entries, calls, learn}
-use Rattle.job.specs.Walk.{Accepted, Refused, walk}
-use Rattle.job.proofs.Rules.{AllSay, rules-name, fields-say, say-fields}
+use Rattle.rules.specs.Rules.{fieldsFault}
+use Rattle.rules.specs.Sections.{rules, ownFault, lineFault}
+use Rattle.job.specs.Walk.{entries, calls, learn, Accepted, Refused, walk}
+use Rattle.rules.proofs.Rules.{AllSay, rules-name, fields-say, say-fields}
 
 -- ---- one line
 

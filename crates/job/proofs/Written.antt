@@ -11,18 +11,18 @@ use Rattle.form.specs.declared.Field.the-variants.{Bad, Plus}
 use Rattle.form.specs.declared.Field.the-variants.{Bad, Plus, Letter}
 use Rattle.building.specs.declared.Building.{Building}
 use Rattle.building.specs.Building.{tooLong, outOfForm, buildingFault}
-use Rattle.job.specs.declared.Rule.{Rule}
-use Rattle.job.specs.declared.Rule.the-variants.{LetterFrom, NumberFrom, SizeTo, Direction, Mark}
-use Rattle.job.specs.declared.Section.{Section}
-use Rattle.job.specs.declared.Section.the-variants.{B}
-use Rattle.job.specs.declared.Kind.the-variants.{Count, Entry}
-use Rattle.job.specs.Rules.{unless, fieldFault, lower, lowest, fieldsFault}
+use Rattle.rules.specs.declared.Rule.{Rule}
+use Rattle.rules.specs.declared.Rule.the-variants.{LetterFrom, NumberFrom, SizeTo, Direction, Mark}
+use Rattle.rules.specs.declared.Section.{Section}
+use Rattle.rules.specs.declared.Section.the-variants.{B}
+use Rattle.rules.specs.declared.Kind.the-variants.{Count, Entry}
+use Rattle.rules.specs.Rules.{unless, fieldFault, lower, lowest, fieldsFault}
 use Rattle.entry.specs.Says.{both}
-use Rattle.job.specs.Sections.{about, anyNumber, rules, lineFault}
+use Rattle.rules.specs.Sections.{about, anyNumber, rules, lineFault}
 use Rattle.fields.specs.Fields.{naturalField, numberField, markField, buildingFields}
-use Rattle.job.proofs.Rules.{rules-name, fields-say}
-use Rattle.job.proofs.Lowest.{fields-even, fault-fields, fault-own}
-use Rattle.job.proofs.Lower.{fields-placed}
+use Rattle.rules.proofs.Rules.{rules-name, fields-say}
+use Rattle.rules.proofs.Parts.{fields-even, fault-fields, fault-own}
+use Rattle.rules.proofs.Lower.{fields-placed}
 use Rattle.job.proofs.Lines.{building-back}
 use Rattle.job.proofs.Sections.{countLine}
 use Rattle.fields.proofs.Slots.{natural-short, natural-long, mark-both, mark-one, number-long}

@@ -8,15 +8,15 @@ use Rattle.form.specs.declared.Field.{Field}
 use Rattle.building.specs.declared.Building.{Building}
 use Rattle.building.specs.Building.{Fault, faults}
 use Rattle.building.specs.Places.{zoneOn}
-use Rattle.job.specs.declared.Rule.the-variants.{Mark}
-use Rattle.job.specs.declared.Section.the-variants.{B, F}
-use Rattle.job.specs.declared.Kind.{Kind}
-use Rattle.job.specs.declared.Kind.the-variants.{Entry}
+use Rattle.rules.specs.declared.Rule.the-variants.{Mark}
+use Rattle.rules.specs.declared.Section.the-variants.{B, F}
+use Rattle.rules.specs.declared.Kind.{Kind}
+use Rattle.rules.specs.declared.Kind.the-variants.{Entry}
 use Rattle.job.specs.Carried.{Carried}
-use Rattle.job.specs.Rules.{fieldFault}
+use Rattle.rules.specs.Rules.{fieldFault}
 use Rattle.entry.specs.Says.{buildingOf, letter, at}
-use Rattle.job.specs.Sections.{rules, calls, learn}
-use Rattle.job.specs.Walk.{Reading, Accepted, Refused}
+use Rattle.rules.specs.Sections.{rules}
+use Rattle.job.specs.Walk.{calls, learn, Reading, Accepted, Refused}
 
 -- a line has fault n: it has too few or too many fields, or one of its fields has it, or a test of the building it describes finds it, or its zone is not on the building
 pub data HasFault (n : ℕ) (g : Building) (fs : List Field) : Kind → Type 0 where

@@ -5,9 +5,11 @@ use Rattle.form.specs.declared.Field.{Field}
 use Rattle.form.specs.declared.Field.the-variants.{Plus, Letter}
 use Rattle.job.specs.declared.Section.{Section}
 use Rattle.job.specs.declared.Section.the-variants.{B, W, I, F}
+use Rattle.rules.specs.declared.Section.{Section}
+use Rattle.rules.specs.declared.Section.the-variants.{B, W, I, F}
 use Rattle.job.specs.Carried.{Carried}
 use Rattle.fields.specs.Fields.{buildingFields, windFields, internalFields, faceFields}
-use Rattle.job.specs.Sections.{about}
+use Rattle.rules.specs.Sections.{about}
 
 -- the entries of each section as fields
 abbrev pub entriesOf : Carried → Section → List (List Field)

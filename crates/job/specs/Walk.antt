@@ -1,5 +1,5 @@
 -- Reading lines of fields: each against the line that is called for, one by one.
-use Prim.Native.Nat.{ℕ, _+_}
+use Prim.Native.Nat.{ℕ, zero, suc, _+_}
 use mathlib.Core.List.{List, [], _∷_, _++_}
 use mathlib.Core.Bool.{cond}
 use lib.Dec.{eqb}
@@ -7,11 +7,33 @@ use Rattle.form.specs.declared.Field.{Field}
 use Rattle.job.specs.declared.Section.the-variants.{B, W, I, F}
 use Rattle.job.specs.declared.Kind.{Kind}
 use Rattle.job.specs.declared.Kind.the-variants.{Count}
+use Rattle.rules.specs.declared.Section.{Section}
+use Rattle.rules.specs.declared.Section.the-variants.{B, W, I, F}
+use Rattle.rules.specs.declared.Kind.{Kind}
+use Rattle.rules.specs.declared.Kind.the-variants.{Count, Entry}
+use Rattle.entry.specs.Says.{size, at, buildingOf, windOf, internalOf, faceOf}
 use Rattle.job.specs.declared.Job.{Job}
 use Rattle.job.specs.declared.Verdict.{Verdict}
 use Rattle.job.specs.Carried.{Carried, nothing, carried}
-use Rattle.job.specs.Sections.{lineFault, calls, learn}
+use Rattle.rules.specs.Sections.{lineFault}
 use Rattle.job.specs.Lines.{linesOf}
+
+-- the lines that a line in order calls for: a count calls for as many entries
+abbrev pub entries : Section → ℕ → List Kind
+entries s zero = []
+entries s (suc n) = Entry s ∷ entries s n
+
+abbrev pub calls : Kind → List Field → List Kind
+calls (Count s) fs = entries s (size (at fs 1))
+calls (Entry s) fs = []
+
+-- what is carried with this line added
+abbrev pub learn : Kind → List Field → Carried → Carried
+learn (Count s) fs c = c
+learn (Entry B) fs c = record { building = buildingOf fs; winds = c .winds; internals = c .internals; faces = c .faces }
+learn (Entry W) fs c = record { building = c .building; winds = c .winds ++ (windOf fs ∷ []); internals = c .internals; faces = c .faces }
+learn (Entry I) fs c = record { building = c .building; winds = c .winds; internals = c .internals ++ (internalOf fs ∷ []); faces = c .faces }
+learn (Entry F) fs c = record { building = c .building; winds = c .winds; internals = c .internals; faces = c .faces ++ (faceOf fs ∷ []) }
 
 -- accepted with what was read, or refused with a number and a line
 pub data Reading : Type 0 where

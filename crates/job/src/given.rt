@@ -1,17 +1,17 @@
 // The fault of a count or an entry of a job given as a record: that of its line, without the line.
-use crate::Kind;
-use crate::Section;
-use crate::faults::lower_of;
-use crate::shape;
 use crate::values;
 use building::Building;
 use entry::Face;
 use entry::Wind;
 use form::Field;
+use rules::Kind;
+use rules::Section;
+use rules::faults::lower_of;
+use rules::shape;
 ghost use mathlib.Core.Path.{_≡_};
 ghost use mathlib.Core.List.{[], _∷_};
-ghost use Rattle.job.specs.Rules.{fieldsFault};
-ghost use Rattle.job.specs.Sections.{about, rules, lineFault};
+ghost use Rattle.rules.specs.Rules.{fieldsFault};
+ghost use Rattle.rules.specs.Sections.{about, rules, lineFault};
 ghost use Rattle.fields.specs.Fields.{windFields, internalFields, faceFields};
 
 pub(crate) fn count_fault(s: Section, n: u32) -> u32

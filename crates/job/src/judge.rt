@@ -1,9 +1,9 @@
 // A job given as a record, judged as its sheet would be: section by section, line by line.
 use crate::Job;
-use crate::Kind;
-use crate::Section;
 use crate::Verdict;
 use crate::given;
+use rules::Kind;
+use rules::Section;
 ghost use mathlib.Core.Path.{_≡_};
 ghost use mathlib.Core.List.{[], _∷_};
 ghost use Prim.Native.Nat.{_≤_};

@@ -1,9 +1,9 @@
 // The fault of a value of a record: that of the field that it would be written as. More than 7 digits are out of form.
-use crate::Rule;
 use entry::BOTH;
 use form::Field;
+use rules::Rule;
 ghost use mathlib.Core.Path.{_≡_};
-ghost use Rattle.job.specs.Rules.{fieldFault};
+ghost use Rattle.rules.specs.Rules.{fieldFault};
 ghost use Rattle.fields.specs.Fields.{naturalField, numberField, markField};
 
 pub(crate) fn zone_fault(b: u8) -> u32

@@ -3,9 +3,9 @@ use Prim.Native.Nat.{ℕ}
 use mathlib.Core.Path.{_≡_, _∙_, sym}
 use mathlib.Core.Bool.{_&&_}
 use lib.Dec.{leb}
-use Rattle.job.specs.declared.Kind.the-variants.{Count}
-use Rattle.job.specs.Rules.{unless, fieldsFault}
-use Rattle.job.specs.Sections.{rules}
+use Rattle.rules.specs.declared.Kind.the-variants.{Count}
+use Rattle.rules.specs.Rules.{unless, fieldsFault}
+use Rattle.rules.specs.Sections.{rules}
 use Rattle.job.proofs.Sections.{countLine}
 use Rattle.job.proofs.Written.{count-placed, range-below, range-above, range-within}
 use borrow.Author.Needs.{needs}

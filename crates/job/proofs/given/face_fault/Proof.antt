@@ -4,13 +4,13 @@ use mathlib.Core.Bool.{Bool, true, false}
 use lib.IntN.{ℤ}
 use mir.Facts.{toZ-ofZ}
 use Rattle.building.specs.Places.{zoneOn}
-use Rattle.job.specs.declared.Section.the-variants.{F}
-use Rattle.job.specs.declared.Kind.the-variants.{Entry}
+use Rattle.rules.specs.declared.Section.the-variants.{F}
+use Rattle.rules.specs.declared.Kind.the-variants.{Entry}
 use Rattle.entry.specs.declared.Face.{Face}
 use Rattle.fields.specs.Fields.{faceFields}
-use Rattle.job.specs.Rules.{unless}
-use Rattle.job.specs.Sections.{lineFault}
-use Rattle.job.proofs.Lowest.{fault-own, fault-fields}
+use Rattle.rules.specs.Rules.{unless}
+use Rattle.rules.specs.Sections.{lineFault}
+use Rattle.rules.proofs.Parts.{fault-own, fault-fields}
 use borrow.Author.Needs.{needs, sfits-of}
 use Rattle.job.proofs.given.face_fault.Statement.{statement}
 use Rattle.job.proofs.given.face_fault.Tie as tie

@@ -5,13 +5,13 @@ use lib.IntN.{ℤ}
 use lib.Signed.{mag}
 use mir.Syntax.{w64}
 use mir.Val.{toZ, ofZ}
-use Rattle.job.specs.declared.Rule.the-variants.{SizeTo}
-use Rattle.job.specs.declared.Section.the-variants.{F}
-use Rattle.job.specs.declared.Kind.the-variants.{Entry}
-use Rattle.job.specs.Rules.{fieldFault}
-use Rattle.job.specs.Sections.{rules}
+use Rattle.rules.specs.declared.Rule.the-variants.{SizeTo}
+use Rattle.rules.specs.declared.Section.the-variants.{F}
+use Rattle.rules.specs.declared.Kind.the-variants.{Entry}
+use Rattle.rules.specs.Rules.{fieldFault}
+use Rattle.rules.specs.Sections.{rules}
 use Rattle.fields.specs.Fields.{numberField, faceFields}
-use Rattle.job.proofs.Lower.{lower-by, fields-placed}
+use Rattle.rules.proofs.Lower.{lower-by, fields-placed}
 use Rattle.fields.proofs.Slots.{as-written}
 use borrow.Author.Needs.{needs}
 use Rattle.job.proofs.given.face_fields.Statement.{statement}

@@ -1,12 +1,12 @@
 -- `internal_fault` meets its contract.
 use mathlib.Core.Path.{refl, sym, _∙_}
-use Rattle.job.specs.declared.Rule.the-variants.{SizeTo}
-use Rattle.job.specs.declared.Section.the-variants.{I}
-use Rattle.job.specs.declared.Kind.the-variants.{Entry}
-use Rattle.job.specs.Rules.{fieldFault}
-use Rattle.job.specs.Sections.{rules}
+use Rattle.rules.specs.declared.Rule.the-variants.{SizeTo}
+use Rattle.rules.specs.declared.Section.the-variants.{I}
+use Rattle.rules.specs.declared.Kind.the-variants.{Entry}
+use Rattle.rules.specs.Rules.{fieldFault}
+use Rattle.rules.specs.Sections.{rules}
 use Rattle.fields.specs.Fields.{internalFields}
-use Rattle.job.proofs.Lower.{fields-placed}
+use Rattle.rules.proofs.Lower.{fields-placed}
 use Rattle.fields.proofs.Slots.{as-written}
 use borrow.Author.Needs.{needs}
 use Rattle.job.proofs.given.internal_fault.Statement.{statement}

@@ -1,10 +1,10 @@
 -- `wind_fault` meets its contract.
 use mathlib.Core.Path.{refl, sym, _∙_}
-use Rattle.job.specs.declared.Section.the-variants.{W}
-use Rattle.job.specs.declared.Kind.the-variants.{Entry}
-use Rattle.job.specs.Sections.{rules}
+use Rattle.rules.specs.declared.Section.the-variants.{W}
+use Rattle.rules.specs.declared.Kind.the-variants.{Entry}
+use Rattle.rules.specs.Sections.{rules}
 use Rattle.fields.specs.Fields.{windFields}
-use Rattle.job.proofs.Lower.{lower-by, fields-placed}
+use Rattle.rules.proofs.Lower.{lower-by, fields-placed}
 use borrow.Author.Needs.{needs}
 use Rattle.job.proofs.given.wind_fault.Statement.{statement}
 use Rattle.job.proofs.given.wind_fault.Tie as tie

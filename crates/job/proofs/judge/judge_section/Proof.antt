@@ -9,18 +9,18 @@ use lib.ListN.{length, getD, take}
 use mir.Facts.{toZ-ofZ}
 use Rattle.form.specs.declared.Field.{Field}
 use Rattle.building.specs.declared.Building.{Building}
-use Rattle.job.specs.declared.Section.{Section}
-use Rattle.job.specs.declared.Section.the-variants.{B, W, I, F}
-use Rattle.job.specs.declared.Kind.the-variants.{Count, Entry}
+use Rattle.rules.specs.declared.Section.{Section}
+use Rattle.rules.specs.declared.Section.the-variants.{B, W, I, F}
+use Rattle.rules.specs.declared.Kind.the-variants.{Count, Entry}
 use Rattle.job.specs.declared.Job.{Job}
 use Rattle.job.specs.Carried.{carried}
-use Rattle.job.specs.Sections.{about, lineFault}
+use Rattle.rules.specs.Sections.{about, lineFault}
 use Rattle.fields.specs.Fields.{internalFields}
 use Rattle.job.specs.Lines.{entriesOf}
 use Rattle.job.proofs.Walk.{EntriesInOrder}
 use Rattle.job.proofs.Sections.{Counted, countLine}
 use Rattle.job.proofs.Alone.{entryOf, entry-is, most-24, alone-count, alone-counted, alone-entry, alone-next, alone-passed}
-use Rattle.job.proofs.Lowest.{fault-plain}
+use Rattle.rules.proofs.Parts.{fault-plain}
 use Rattle.job.proofs.Written.{building-given}
 use borrow.Author.Needs.{needs, sfits-of}
 use Rattle.job.proofs.judge.judge_section.Statement.{statement}

@@ -1,0 +1,12 @@
+-- `count_line` meets its contract.
+use Rattle.lines.specs.Held.{lineOf}
+use borrow.Author.Needs.{needs}
+use Rattle.rules.proofs.shape.count_line.Statement.{statement}
+use Rattle.rules.proofs.shape.count_line.Tie as tie
+
+returns : tie.Need-returns
+unfolding lineOf
+returns c = rw (c .limits-of .ensures .0)
+
+pub count-line-spec : {M : Type 1} → statement M
+count-line-spec = tie.close (tie.spec (λ c κs. search needs) returns)
