@@ -23,9 +23,9 @@ use Rattle.book.specs.Answer.{valuesOf}
 use Rattle.building.specs.Places.{E, L1, zoneOn, localOn}
 use Rattle.building.specs.Question.{askedOf}
 use Rattle.book.specs.Question.{outsideOf, coefficientOf, wallColumn, gableColumn, flatColumn}
-use Rattle.job.specs.Rules.{fieldFault, lower, lowest, fieldsFault}
+use Rattle.rules.specs.Rules.{fieldFault, lower, lowest, fieldsFault}
 use Rattle.entry.specs.Says.{both}
-use Rattle.job.specs.Sections.{lineFault}
+use Rattle.rules.specs.Sections.{lineFault}
 use Rattle.job.specs.Walk.{walk, verdict, readLines}
 use Rattle.sheet.specs.Sheet.{reading}
 use Rattle.worst.specs.declared.Axis.the-variants.{X}

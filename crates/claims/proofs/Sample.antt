@@ -18,8 +18,8 @@ use Rattle.building.specs.Places.{zoneOn, localOn}
 use Rattle.building.specs.Question.{askedOf}
 use Rattle.book.specs.Question.{wallColumn, gableColumn, flatColumn, coefficientOf, outsideOf}
 use Rattle.building.specs.Test.{beyond}
-use Rattle.job.specs.Rules.{fieldFault, lower, lowest, fieldsFault}
-use Rattle.job.specs.Sections.{lineFault}
+use Rattle.rules.specs.Rules.{fieldFault, lower, lowest, fieldsFault}
+use Rattle.rules.specs.Sections.{lineFault}
 use Rattle.job.specs.Walk.{walk, readLines}
 use Rattle.sheet.specs.Sheet.{reading}
 use Rattle.worst.specs.Best.{better, best}

@@ -18,11 +18,11 @@ use Rattle.building.specs.declared.Building.{Building}
 use Rattle.building.specs.Roof.{Roof, roof, roofs, roofOf}
 use Rattle.building.specs.Building.{buildingFault}
 use Rattle.building.proofs.Accepted.{good-fields, in-order}
-use Rattle.job.specs.declared.Section.the-variants.{B}
-use Rattle.job.specs.declared.Kind.the-variants.{Entry}
+use Rattle.rules.specs.declared.Section.the-variants.{B}
+use Rattle.rules.specs.declared.Kind.the-variants.{Entry}
 use Rattle.entry.specs.Says.{number, buildingOf}
-use Rattle.job.specs.Sections.{anyNumber, rules}
-use Rattle.job.proofs.Rules.{Says, plus, minus, AllSay, none, more}
+use Rattle.rules.specs.Sections.{anyNumber, rules}
+use Rattle.rules.proofs.Rules.{Says, plus, minus, AllSay, none, more}
 use Rattle.sheet.proofs.Bytes.{bytes}
 
 -- ---- each number by itself

@@ -15,16 +15,16 @@ use Rattle.whole.specs.Lists.{Every}
 use Rattle.lines.specs.Lines.{fieldsOf, fieldText, NotBad}
 use Rattle.text.proofs.Digits.{by-tens, length-small, length-more, digits-length}
 use Rattle.building.specs.declared.Building.{Building}
-use Rattle.job.specs.declared.Rule.{Rule}
-use Rattle.job.specs.declared.Rule.the-variants.{LetterFrom, NumberFrom, SizeTo, Direction, Mark}
-use Rattle.job.specs.declared.Section.{Section}
-use Rattle.job.specs.declared.Section.the-variants.{B, W, I, F}
-use Rattle.job.specs.declared.Kind.{Kind}
-use Rattle.job.specs.declared.Kind.the-variants.{Count, Entry}
+use Rattle.rules.specs.declared.Rule.{Rule}
+use Rattle.rules.specs.declared.Rule.the-variants.{LetterFrom, NumberFrom, SizeTo, Direction, Mark}
+use Rattle.rules.specs.declared.Section.{Section}
+use Rattle.rules.specs.declared.Section.the-variants.{B, W, I, F}
+use Rattle.rules.specs.declared.Kind.{Kind}
+use Rattle.rules.specs.declared.Kind.the-variants.{Count, Entry}
 use Rattle.entry.specs.Says.{size, at}
-use Rattle.job.specs.Sections.{about, rules, lineFault, entries, calls}
-use Rattle.job.specs.Walk.{sheet}
-use Rattle.job.proofs.Rules.{Angle, Says, letter, number, plus, minus, direction, mark, dash, AllSay, none, more}
+use Rattle.rules.specs.Sections.{about, rules, lineFault}
+use Rattle.job.specs.Walk.{entries, calls, sheet}
+use Rattle.rules.proofs.Rules.{Angle, Says, letter, number, plus, minus, direction, mark, dash, AllSay, none, more}
 use Rattle.job.proofs.Walk.{line-says, line-own}
 use Rattle.job.proofs.Lines.{says-not-bad}
 use Rattle.sheet.proofs.Bytes.{bytes, line-bytes}

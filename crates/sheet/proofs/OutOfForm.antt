@@ -12,13 +12,13 @@ use Rattle.form.specs.declared.Field.{Field}
 use Rattle.form.specs.declared.Field.the-variants.{Bad}
 use Rattle.lines.specs.Lines.{fieldsOf}
 use Rattle.building.specs.declared.Building.{Building}
-use Rattle.job.specs.declared.Rule.{Rule}
-use Rattle.job.specs.declared.Rule.the-variants.{LetterFrom, NumberFrom, SizeTo, Direction, Mark}
-use Rattle.job.specs.declared.Section.the-variants.{B, W, I, F}
-use Rattle.job.specs.declared.Kind.{Kind}
-use Rattle.job.specs.declared.Kind.the-variants.{Count, Entry}
-use Rattle.job.specs.Rules.{fieldFault}
-use Rattle.job.specs.Sections.{rules, lineFault}
+use Rattle.rules.specs.declared.Rule.{Rule}
+use Rattle.rules.specs.declared.Rule.the-variants.{LetterFrom, NumberFrom, SizeTo, Direction, Mark}
+use Rattle.rules.specs.declared.Section.the-variants.{B, W, I, F}
+use Rattle.rules.specs.declared.Kind.{Kind}
+use Rattle.rules.specs.declared.Kind.the-variants.{Count, Entry}
+use Rattle.rules.specs.Rules.{fieldFault}
+use Rattle.rules.specs.Sections.{rules, lineFault}
 use Rattle.job.specs.FirstFault.{HasFault, few-or-many, of-field}
 use Rattle.job.proofs.Lowest.{fault-lowest}
 use Rattle.sheet.proofs.Bytes.{BadAt, line-short}

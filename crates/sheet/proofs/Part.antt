@@ -15,10 +15,10 @@ use Rattle.lines.specs.Lines.{rows, fieldsOf}
 use Rattle.lines.specs.Held.{until}
 use Rattle.lines.proofs.Lines.{Free, rows-open, rows-seam}
 use Rattle.building.specs.declared.Building.{Building}
-use Rattle.job.specs.declared.Kind.{Kind}
+use Rattle.rules.specs.declared.Kind.{Kind}
 use Rattle.job.specs.Carried.{Carried, nothing}
-use Rattle.job.specs.Sections.{lineFault, calls, learn}
-use Rattle.job.specs.Walk.{Accepted, Refused, walk, sheet, readLines}
+use Rattle.rules.specs.Sections.{lineFault}
+use Rattle.job.specs.Walk.{calls, learn, Accepted, Refused, walk, sheet, readLines}
 use Rattle.job.proofs.Walk.{walk-on, walk-refused, accepted-line, accepted-no-more}
 use Rattle.sheet.specs.Sheet.{reading}
 use Rattle.sheet.proofs.OutOfForm.{line-long, bad-first}

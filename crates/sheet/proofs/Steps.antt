@@ -14,10 +14,10 @@ use Rattle.lines.specs.Lines.{rows}
 use Rattle.lines.specs.Held.{held, lineAt}
 use Rattle.lines.proofs.Lines.{rows-some, rows-end}
 use Rattle.lines.proofs.Held.{At, taken, gone, unended, long, at-is}
-use Rattle.job.specs.declared.Kind.{Kind}
+use Rattle.rules.specs.declared.Kind.{Kind}
 use Rattle.job.specs.Carried.{Carried, nothing}
-use Rattle.job.specs.Sections.{lineFault, calls, learn}
-use Rattle.job.specs.Walk.{Accepted, Refused, walk, sheet, readLines}
+use Rattle.rules.specs.Sections.{lineFault}
+use Rattle.job.specs.Walk.{calls, learn, Accepted, Refused, walk, sheet, readLines}
 use Rattle.job.proofs.Walk.{walk-on, walk-refused}
 use Rattle.sheet.specs.declared.sections.Place.{Place}
 use Rattle.sheet.specs.Sheet.{reading}

@@ -8,14 +8,14 @@ use Rattle.form.specs.declared.Field.{Field}
 use Rattle.lines.specs.declared.Line.{Line}
 use Rattle.lines.specs.Held.{held, lineAt}
 use Rattle.building.specs.declared.Building.{Building}
-use Rattle.job.specs.declared.Section.{Section}
-use Rattle.job.specs.declared.Section.the-variants.{B, W, I, F}
-use Rattle.job.specs.declared.Kind.{Kind}
-use Rattle.job.specs.declared.Kind.the-variants.{Count, Entry}
+use Rattle.rules.specs.declared.Section.{Section}
+use Rattle.rules.specs.declared.Section.the-variants.{B, W, I, F}
+use Rattle.rules.specs.declared.Kind.{Kind}
+use Rattle.rules.specs.declared.Kind.the-variants.{Count, Entry}
 use Rattle.job.specs.Carried.{Carried}
 use Rattle.entry.specs.Says.{size, at, windOf, internalOf, faceOf}
-use Rattle.job.specs.Sections.{about, lineFault, entries, calls, learn}
-use Rattle.job.specs.Walk.{Reading}
+use Rattle.rules.specs.Sections.{about, lineFault}
+use Rattle.job.specs.Walk.{entries, calls, learn, Reading}
 use Rattle.job.proofs.Alone.{most-24}
 use Rattle.sheet.specs.declared.sections.Place.{Place}
 use Rattle.sheet.specs.Steps.{withWinds, withInternals, withFaces, placeAfter, onward, fromCount, fromEntries, earlier, Before, Within, SectionRead}

@@ -12,8 +12,8 @@ use Rattle.building.specs.Building.{buildingFault, outOfForm, outOfRange, outOf
 use Rattle.building.specs.Roof.{roofOf}
 use Rattle.building.specs.Places.{zoneOn}
 use Rattle.building.specs.Test.{beyond}
-use Rattle.job.specs.Rules.{fieldFault, lower, lowest, fieldsFault}
-use Rattle.job.specs.Sections.{lineFault}
+use Rattle.rules.specs.Rules.{fieldFault, lower, lowest, fieldsFault}
+use Rattle.rules.specs.Sections.{lineFault}
 use Rattle.job.specs.Walk.{walk, verdict, readLines}
 use Rattle.sheet.specs.Sheet.{reading}
 

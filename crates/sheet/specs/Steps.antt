@@ -9,15 +9,15 @@ use lib.ListN.{length, drop}
 use Rattle.whole.specs.Lists.{firstOf}
 use Rattle.lines.specs.Lines.{rows}
 use Rattle.building.specs.declared.Building.{Building}
-use Rattle.job.specs.declared.Section.{Section}
-use Rattle.job.specs.declared.Section.the-variants.{B, W, I, F}
-use Rattle.job.specs.declared.Kind.{Kind}
-use Rattle.job.specs.declared.Kind.the-variants.{Count}
+use Rattle.rules.specs.declared.Section.{Section}
+use Rattle.rules.specs.declared.Section.the-variants.{B, W, I, F}
+use Rattle.rules.specs.declared.Kind.{Kind}
+use Rattle.rules.specs.declared.Kind.the-variants.{Count}
 use Rattle.entry.specs.declared.Wind.{Wind}
 use Rattle.entry.specs.declared.Face.{Face}
 use Rattle.job.specs.Carried.{Carried}
-use Rattle.job.specs.Sections.{about, entries}
-use Rattle.job.specs.Walk.{Reading, Refused, walk}
+use Rattle.rules.specs.Sections.{about}
+use Rattle.job.specs.Walk.{entries, Reading, Refused, walk}
 use Rattle.sheet.specs.declared.sections.Place.{Place}
 
 -- ---- entries and their room

@@ -14,8 +14,8 @@ use Rattle.page.specs.Writing.{Put}
 use Rattle.lines.proofs.Held.{held-all}
 use Rattle.line.proofs.Texts.{textOf-append}
 use Rattle.page.proofs.Put.{then, put-nothing, put-length}
-use Rattle.job.specs.declared.Section.{Section}
-use Rattle.job.specs.declared.Section.the-variants.{B, W, I, F}
+use Rattle.rules.specs.declared.Section.{Section}
+use Rattle.rules.specs.declared.Section.the-variants.{B, W, I, F}
 use Rattle.job.specs.declared.Job.{Job}
 use Rattle.job.specs.Carried.{carried}
 use Rattle.job.specs.Lines.{entriesOf, sectionOf}

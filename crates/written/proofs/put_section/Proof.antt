@@ -10,11 +10,11 @@ use Rattle.lines.specs.Lines.{textOf}
 use Rattle.lines.specs.Held.{lineOf}
 use Rattle.page.specs.Writing.{Put}
 use Rattle.page.proofs.Put.{put-length}
-use Rattle.job.specs.declared.Section.{Section}
-use Rattle.job.specs.declared.Section.the-variants.{W, I, F}
+use Rattle.rules.specs.declared.Section.{Section}
+use Rattle.rules.specs.declared.Section.the-variants.{W, I, F}
 use Rattle.job.specs.declared.Job.{Job}
 use Rattle.job.specs.Carried.{carried}
-use Rattle.job.specs.Sections.{about}
+use Rattle.rules.specs.Sections.{about}
 use Rattle.fields.specs.Fields.{internalFields}
 use Rattle.job.specs.Lines.{entriesOf}
 use Rattle.job.proofs.Sections.{countLine}

@@ -1,8 +1,8 @@
 -- `read_sheet` meets its contract: what comes of the start, where the four counts are called for, comes of the end, where nothing more is.
 use mathlib.Core.Path.{refl, ap, _∙_}
 use mathlib.Core.List.{[], _∷_}
-use Rattle.job.specs.declared.Section.the-variants.{W, I, F}
-use Rattle.job.specs.declared.Kind.the-variants.{Count}
+use Rattle.rules.specs.declared.Section.the-variants.{W, I, F}
+use Rattle.rules.specs.declared.Kind.the-variants.{Count}
 use Rattle.job.specs.Carried.{Carried}
 use Rattle.sheet.specs.Sheet.{answer}
 use Rattle.sheet.specs.Steps.{withInternals, withFaces}

@@ -3,10 +3,10 @@ use mathlib.Core.Path.{_≡_, refl, ap, _∙_, sym}
 use mathlib.Core.List.{_++_}
 use Prim.Native.Nat.{ℕ}
 use native.Mathlib.Omega.{arith}
-use Rattle.job.specs.declared.Section.the-variants.{B}
-use Rattle.job.specs.declared.Kind.the-variants.{Entry}
+use Rattle.rules.specs.declared.Section.the-variants.{B}
+use Rattle.rules.specs.declared.Kind.the-variants.{Entry}
 use Rattle.job.specs.Carried.{nothing}
-use Rattle.job.specs.Sections.{entries}
+use Rattle.job.specs.Walk.{entries}
 use Rattle.sheet.specs.Steps.{onward, fromCount, withBuilding}
 use Rattle.sheet.proofs.Within.{line-read, within-end}
 use borrow.Author.Needs.{needs}

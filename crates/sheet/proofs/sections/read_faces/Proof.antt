@@ -1,5 +1,5 @@
 -- `read_faces` meets its contract: the law of a section read, for faces.
-use Rattle.job.specs.declared.Section.the-variants.{F}
+use Rattle.rules.specs.declared.Section.the-variants.{F}
 use Rattle.job.specs.Carried.{noFace}
 use Rattle.sheet.specs.Steps.{withFaces, fromEntries, SectionRead}
 use Rattle.sheet.proofs.Within.{faces-carried, section-start, section-on, section-whole}

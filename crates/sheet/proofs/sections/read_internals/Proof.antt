@@ -3,7 +3,7 @@ use mathlib.Core.Path.{_∙_}
 use lib.IntN.{pos}
 use mir.ValLaws.{toZ-ofZ}
 use mir.Syntax.{w64}
-use Rattle.job.specs.declared.Section.the-variants.{I}
+use Rattle.rules.specs.declared.Section.the-variants.{I}
 use Rattle.sheet.specs.Steps.{withInternals, fromEntries, SectionRead}
 use Rattle.sheet.proofs.Within.{internals-carried, section-start, section-on, section-whole}
 use borrow.Author.Needs.{needs, sfits-of}

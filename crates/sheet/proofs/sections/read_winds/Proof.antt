@@ -1,5 +1,5 @@
 -- `read_winds` meets its contract: the law of a section read, for winds.
-use Rattle.job.specs.declared.Section.the-variants.{W}
+use Rattle.rules.specs.declared.Section.the-variants.{W}
 use Rattle.job.specs.Carried.{noWind}
 use Rattle.sheet.specs.Steps.{withWinds, fromEntries, SectionRead}
 use Rattle.sheet.proofs.Within.{winds-carried, section-start, section-on, section-whole}
