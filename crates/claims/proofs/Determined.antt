@@ -32,8 +32,10 @@ use Rattle.fields.proofs.building_line.Reads as building-line
 use Rattle.fields.proofs.wind_line.Reads as wind-line
 use Rattle.fields.proofs.internal_line.Reads as internal-line
 use Rattle.fields.proofs.face_line.Reads as face-line
-use Rattle.job.proofs.shape.count_line.Reads as count-line
-use Rattle.job.proofs.faults.line_fault.Reads as line-fault
+use Rattle.rules.proofs.shape.limits_of.Reads as limits-of
+use Rattle.rules.proofs.shape.count_line.Reads as count-line
+use Rattle.rules.proofs.faults.line_fault.Reads as line-fault
+use Rattle.rules.proofs.faults.lower_of.Reads as lower-of
 use Rattle.job.proofs.judge.judge.Reads as judge
 use Rattle.sheet.proofs.read.read_sheet.Reads as read-sheet
 use Rattle.written.proofs.write_sheet.Reads as write-sheet
@@ -169,13 +171,21 @@ internal-line-determined κ a r r′ s s′ p q = same p q
 face-line-determined : OneAnswer face-line.Post
 face-line-determined κ a r r′ s s′ p q = same p q
 
--- ---- job
+-- ---- rules
+
+limits-of-determined : OneAnswer limits-of.Post
+limits-of-determined κ a r r′ s s′ p q = λ k. record { letter = same (p .0) (q .0) k; least = same (p .1) (q .1) k; most = same (p .2) (q .2) k }
 
 count-line-determined : OneAnswer count-line.Post
 count-line-determined κ a r r′ s s′ p q = same p q
 
 line-fault-determined : OneAnswer line-fault.Post
 line-fault-determined κ a r r′ s s′ p q = same p q
+
+lower-of-determined : OneAnswer lower-of.Post
+lower-of-determined κ a r r′ s s′ p q = same p q
+
+-- ---- job
 
 judge-determined : OneAnswer judge.Post
 judge-determined κ a r r′ s s′ p q = same p q
