@@ -14,7 +14,7 @@ ghost use mathlib.Core.Path.{_≡_};
 ghost use Rattle.lines.specs.Held.{held};
 ghost use Rattle.rules.specs.Rules.{fieldFault, lower, fieldsFault};
 ghost use Rattle.entry.specs.Says.{at};
-ghost use Rattle.rules.specs.Sections.{anyNumber, rules, ownFault, lineFault};
+ghost use Rattle.rules.specs.Sections.{anyNumber, rules, lineFault};
 
 pub fn lower_of(a: u32, b: u32) -> u32
     ensures { λ r. ⌜ r ≡ lower a b ⌝ }
@@ -110,46 +110,42 @@ fn face_fields(x: Line) -> u32
     )
 }
 
-// The lowest fault of the fields of a line.
-fn fields_fault(k: Kind, x: Line) -> u32
-    ensures { λ r. ⌜ r ≡ fieldsFault (rules k) (held x) ⌝ }
+// ---- the line of a building or a face: where each of its fields is in order, it may still have a fault of its own
+
+// The building that it describes.
+fn building_line_fault(x: Line) -> u32
+    ensures { λ r. ⌜ ((g : Building) → r ≡ lineFault (Kind.Entry Section.B) g (held x)) ⌝ }
 {
-    match k {
-        Kind::Count(s) => count_fields(s, x),
-        Kind::Entry(s) => match s {
-            Section::B => building_fields(x),
-            Section::W => wind_fields(x),
-            Section::I => internal_fields(x),
-            Section::F => face_fields(x),
-        },
+    let n = building_fields(x);
+    if n != 0 {
+        return n;
     }
+    building::building_fault(building_of(x))
 }
 
-// The fault of a whole line, where each of its fields is in order: the building's own, or a zone that is not on the building.
-fn own_fault(k: Kind, g: Building, x: Line) -> u32
-    ensures { λ r. ⌜ r ≡ ownFault k g (held x) ⌝ }
+// A zone that is not on the building.
+fn face_line_fault(g: Building, x: Line) -> u32
+    ensures { λ r. ⌜ r ≡ lineFault (Kind.Entry Section.F) g (held x) ⌝ }
 {
-    match k {
-        Kind::Count(_) => 0,
-        Kind::Entry(s) => match s {
-            Section::B => building::building_fault(building_of(x)),
-            Section::W => 0,
-            Section::I => 0,
-            Section::F => {
-                let f = face_of(x);
-                field::unless(6, building::zone_on(g.kind, f.zone))
-            }
-        },
+    let n = face_fields(x);
+    if n != 0 {
+        return n;
     }
+    let f = face_of(x);
+    field::unless(6, building::zone_on(g.kind, f.zone))
 }
 
 // The lowest fault of a line of this kind on a building, 0 where there is none.
 pub fn line_fault(k: Kind, g: Building, x: Line) -> u32
     ensures { λ r. ⌜ r ≡ lineFault k g (held x) ⌝ }
 {
-    let n = fields_fault(k, x);
-    if n == 0 {
-        return own_fault(k, g, x);
+    match k {
+        Kind::Count(s) => count_fields(s, x),
+        Kind::Entry(s) => match s {
+            Section::B => building_line_fault(x),
+            Section::W => wind_fields(x),
+            Section::I => internal_fields(x),
+            Section::F => face_line_fault(g, x),
+        },
     }
-    n
 }

@@ -1,20 +1,29 @@
--- `line_fault` meets its contract.
-use mathlib.Core.Path.{_∙_, sym}
-use Rattle.rules.proofs.Parts.{fault-own, fault-fields}
+-- `line_fault` meets its contract: a count, a wind and an internal coefficient have no fault but that of their fields.
+use mathlib.Core.Path.{refl, _∙_, sym}
+use Rattle.rules.specs.declared.Section.the-variants.{W, I}
+use Rattle.rules.specs.declared.Kind.the-variants.{Count, Entry}
+use Rattle.rules.proofs.Parts.{fault-plain}
 use borrow.Author.Needs.{needs}
 use Rattle.rules.proofs.faults.line_fault.Statement.{statement}
 use Rattle.rules.proofs.faults.line_fault.Tie as tie
 
-returns : tie.Need-returns
-returns c =
-    let f = c .before .before .fields-fault in
-    c .own-fault .ensures ∙ sym (fault-own _ _ _ (sym (f .ensures) ∙ c .before .if1 .taken))
-
-returns-2 : tie.Need-returns-2
-returns-2 c =
-    let f = c .before .fields-fault in
-    f .ensures ∙ sym (fault-fields _ _ _ (λ z. c .if1 .left (f .ensures ∙ z)))
-
 pub line-fault-spec : {M : Type 1} → statement M
 line-fault-spec =
-    tie.close (tie.spec (λ c κs. search needs) (λ c κs. search needs) returns returns-2)
+    tie.close
+    (tie.spec
+    (λ c. search needs)
+    (λ c κs. search needs)
+    (λ c. search needs)
+    (λ c. search needs)
+    (λ c κs. search needs)
+    (λ c. search needs)
+    (λ c κs. search needs)
+    (λ c. search needs)
+    (λ c κs. search needs)
+    (λ c. search needs)
+    (λ c κs. search needs)
+    (λ c. rw (c .before .before .k .given .1) (c .count-fields .ensures ∙ sym (fault-plain (Count _) _ _ refl)))
+    (λ c. let t = c .before in rw (t .before .before .before .k2 .given .1, t .enum-told .given .1) (c .building-line-fault .ensures _))
+    (λ c. let t = c .before in rw (t .before .before .before .k2 .given .1, t .enum-told2 .given .1) (c .wind-fields .ensures ∙ sym (fault-plain (Entry W) _ _ refl)))
+    (λ c. let t = c .before in rw (t .before .before .before .k2 .given .1, t .enum-told3 .given .1) (c .internal-fields .ensures ∙ sym (fault-plain (Entry I) _ _ refl)))
+    (λ c. let t = c .before in rw (t .before .before .before .k2 .given .1, t .enum-told4 .given .1) (c .face-line-fault .ensures)))
