@@ -1,11 +1,11 @@
 // An entry as a line of fields.
 use building::Building;
-use form::Field;
-use lines::Line;
-use lines::Slot;
 use entry::BOTH;
 use entry::Face;
 use entry::Wind;
+use form::Field;
+use lines::Line;
+use lines::Slot;
 ghost use mathlib.Core.Path.{_≡_};
 ghost use Rattle.lines.specs.Held.{slot, lineOf};
 ghost use Rattle.fields.specs.Fields.{naturalField, numberField, markField, buildingFields, windFields, internalFields, faceFields};

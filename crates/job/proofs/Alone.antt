@@ -9,9 +9,6 @@ use lib.Seq.{take-all}
 use Rattle.whole.specs.Lists.{firstOf}
 use Rattle.whole.proofs.Lists.{every-take, getD-map, firstOf-length, firstOf-getD}
 use Rattle.form.specs.declared.Field.{Field}
-use Rattle.job.specs.declared.Section.{Section}
-use Rattle.job.specs.declared.Section.the-variants.{B, W, I, F}
-use Rattle.job.specs.declared.Kind.the-variants.{Count, Entry}
 use Rattle.rules.specs.declared.Section.{Section}
 use Rattle.rules.specs.declared.Section.the-variants.{B, W, I, F}
 use Rattle.rules.specs.declared.Kind.the-variants.{Count, Entry}

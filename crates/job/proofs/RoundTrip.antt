@@ -6,9 +6,6 @@ use lib.ListN.{length}
 use Rattle.whole.specs.Lists.{Every}
 use Rattle.whole.proofs.Lists.{every-by, every-map, every-at, map-back, only-one}
 use Rattle.form.specs.declared.Field.{Field}
-use Rattle.job.specs.declared.Section.{Section}
-use Rattle.job.specs.declared.Section.the-variants.{B, W, I, F}
-use Rattle.job.specs.declared.Kind.the-variants.{Entry}
 use Rattle.rules.specs.declared.Section.{Section}
 use Rattle.rules.specs.declared.Section.the-variants.{B, W, I, F}
 use Rattle.rules.specs.declared.Kind.the-variants.{Entry}

@@ -7,7 +7,6 @@ use lib.IntN.{ℤ, pos, negsuc, natAbs}
 use lib.Dec.{leb, ltb, eqb}
 use borrow.Author.Tests.{le-leb, lt-leb, ne-eqb, ltb-true, ltb-false}
 use Rattle.whole.proofs.Tests.{by-test}
-use Rattle.form.specs.declared.Field.the-variants.{Bad, Plus}
 use Rattle.form.specs.declared.Field.the-variants.{Bad, Plus, Letter}
 use Rattle.building.specs.declared.Building.{Building}
 use Rattle.building.specs.Building.{tooLong, outOfForm, buildingFault}

@@ -3,8 +3,6 @@ use mathlib.Core.List.{List, [], _∷_, _++_, map}
 use lib.ListN.{length}
 use Rattle.form.specs.declared.Field.{Field}
 use Rattle.form.specs.declared.Field.the-variants.{Plus, Letter}
-use Rattle.job.specs.declared.Section.{Section}
-use Rattle.job.specs.declared.Section.the-variants.{B, W, I, F}
 use Rattle.rules.specs.declared.Section.{Section}
 use Rattle.rules.specs.declared.Section.the-variants.{B, W, I, F}
 use Rattle.job.specs.Carried.{Carried}

@@ -11,8 +11,6 @@ use borrow.Author.Tests.{ne-eqb, ltb-true, ltb-false}
 use Rattle.whole.proofs.Tests.{by-test}
 use Rattle.form.specs.declared.Field.{Field}
 use Rattle.form.specs.declared.Field.the-variants.{Bad}
-use Rattle.job.specs.declared.Rule.{Rule}
-use Rattle.job.specs.Rules.{fieldFault, lower, lowest, fieldsFault}
 use Rattle.rules.specs.declared.Rule.{Rule}
 use Rattle.rules.specs.Rules.{fieldFault, lower, lowest, fieldsFault}
 use Rattle.entry.specs.Says.{at}

@@ -12,13 +12,6 @@ use Rattle.whole.proofs.Tests.{by-test, and-true, or-true}
 use Rattle.whole.proofs.Table.{both-left, both-right, all}
 use Rattle.form.specs.declared.Field.{Field}
 use Rattle.form.specs.declared.Field.the-variants.{Bad, Plus, Minus, Letter, Dash}
-use Rattle.job.specs.declared.Rule.{Rule}
-use Rattle.job.specs.declared.Rule.the-variants.{LetterFrom, NumberFrom, SizeTo, Direction, Mark}
-use Rattle.job.specs.declared.Section.the-variants.{B, W, I, F}
-use Rattle.job.specs.declared.Kind.{Kind}
-use Rattle.job.specs.declared.Kind.the-variants.{Count, Entry}
-use Rattle.job.specs.Rules.{unless, fieldFault, lower, lowest, fieldsFault}
-use Rattle.job.specs.Sections.{rules}
 use Rattle.rules.specs.declared.Rule.{Rule}
 use Rattle.rules.specs.declared.Rule.the-variants.{LetterFrom, NumberFrom, SizeTo, Direction, Mark}
 use Rattle.rules.specs.declared.Section.the-variants.{B, W, I, F}

@@ -5,8 +5,6 @@ use mathlib.Core.Bool.{Bool, true, false, _&&_, _||_}
 use lib.Dec.{leb, eqb}
 use Rattle.form.specs.declared.Field.{Field}
 use Rattle.form.specs.declared.Field.the-variants.{Bad, Plus, Minus, Letter, Dash}
-use Rattle.job.specs.declared.Rule.the-variants.{LetterFrom, NumberFrom, SizeTo, Direction, Mark}
-use Rattle.job.specs.Rules.{unless, ofNumber, isLetter, isDash, fieldFault}
 use Rattle.rules.specs.declared.Rule.the-variants.{LetterFrom, NumberFrom, SizeTo, Direction, Mark}
 use Rattle.rules.specs.Rules.{unless, ofNumber, isLetter, isDash, fieldFault}
 use Rattle.entry.specs.Says.{size}

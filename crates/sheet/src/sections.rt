@@ -12,7 +12,6 @@ use entry::says::wind_of;
 use job::Faces;
 use job::Internals;
 use job::Winds;
-use job::faults::line_fault;
 use lines::field_at;
 use lines::line_at;
 use rules::Kind;

@@ -5,7 +5,6 @@ use fields::internal_line;
 use fields::wind_line;
 use job::Job;
 use job::judge::judge;
-use job::shape::count_line;
 use line::put_line;
 use page::Writing;
 use rules::Section;
