@@ -4,7 +4,7 @@ use mathlib.Core.Bool.{Bool, _||_}
 use Prim.Native.Nat.{_^_, _<_}
 use lib.IntN.{ℤ}
 use lib.Signed.{mag}
-use mir.Syntax.{w32, w64}
+use mir.Syntax.{w64}
 use mir.Val.{toZ, ofZ}
 use mir.ValLaws.{toZ-ofZ}
 
@@ -15,10 +15,6 @@ plain z h = toZ-ofZ w64 z (record { sfits = h })
 -- what a call says of a field as the machine has it, said of the field
 pub said : {A : Type 0} (f : ℤ → A) (z : ℤ) {r : A} → r ≡ f (toZ w64 (ofZ w64 z)) → mag z < 2 ^ 63 → r ≡ f z
 said f z e h = e ∙ ap f (plain z h)
-
--- what a call says of its result of 32 bits, said of the result as a struct has it
-pub kept : (z : ℤ) {v : ℤ} → mag z < 2 ^ 31 → z ≡ v → toZ w32 (ofZ w32 z) ≡ v
-kept z h e = toZ-ofZ w32 z (record { sfits = h }) ∙ e
 
 -- the same of a test of three fields
 pub tested : {A : Type 0} (f : ℤ → ℤ → ℤ → A) (x y z : ℤ) {r : A} → r ≡ f (toZ w64 (ofZ w64 x)) (toZ w64 (ofZ w64 y)) (toZ w64 (ofZ w64 z)) → mag x < 2 ^ 63 → mag y < 2 ^ 63 → mag z < 2 ^ 63 → r ≡ f x y z

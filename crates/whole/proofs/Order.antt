@@ -6,7 +6,7 @@ use Prim.Native.Nat.{ℕ, _+_, _*_, _≤_}
 use native.Mathlib.Nat.{mul-le-mul-right}
 use native.Mathlib.Omega.{arith}
 use lib.IntN.{ℤ, pos, _+ℤ_, _*ℤ_}
-use lib.Signed.{ltZ, leZ, _≤ℤ_, _<ℤ_, ltZ-yes, ltZ-no, leZ-yes, clashℤ}
+use lib.Signed.{ltZ, _≤ℤ_, _<ℤ_, ltZ-yes, ltZ-no, clashℤ}
 use Rattle.whole.proofs.Parts.{up, down, order, add-law, up-mul, down-mul, up-scale, down-scale, eq-by, le-at, le-by, lt-by}
 use Rattle.whole.proofs.Tests.{holds, fails, is-true, is-false}
 
@@ -23,12 +23,6 @@ true-lt {x} {y} h = is-true (ltZ x y) (h .lt)
 
 pub false-lt : {x y : ℤ} → y ≤ℤ x → ltZ x y ≡ false
 false-lt {x} {y} h = is-false (ltZ x y) (λ t. clashℤ (ltZ-yes {a = x} {b = y} t) h)
-
-pub le-true : (x y : ℤ) → leZ x y ≡ true → x ≤ℤ y
-le-true x y e = leZ-yes (holds e)
-
-pub true-le : {x y : ℤ} → x ≤ℤ y → leZ x y ≡ true
-true-le {x} {y} h = is-true (leZ x y) (h .le)
 
 -- ---- the order by itself
 

@@ -1,6 +1,6 @@
 // The six extremes of a job: its faces are added up under each direction, then on each axis the best cells are found and shown.
 ghost use mathlib.Core.Path.{_≡_};
-ghost use Prim.Native.Nat.{_≤_, _<_};
+ghost use Prim.Native.Nat.{_<_};
 ghost use Rattle.worst.specs.Best.{at};
 ghost use Rattle.job.specs.Carried.{carried};
 ghost use Rattle.job.specs.InOrder.{InOrder};
