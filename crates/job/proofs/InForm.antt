@@ -1,4 +1,4 @@
--- Lines that are accepted hold at least one field each, and every field is in form: `text` gives them back from their text, and their text from them.
+-- Lines that are accepted hold at least one field each, and every field is in form: `lines` gives them back from their text, and their text from them.
 use Prim.Native.Nat.{ℕ, _+_, _<_, _^_}
 use mathlib.Core.Path.{_≡_}
 use mathlib.Core.Logic.{inl, inr}
