@@ -14,7 +14,7 @@ use Rattle.building.specs.Ratio.{_÷_, upTo}
 use Rattle.building.specs.Roof.{roofOf}
 use Rattle.building.specs.Order.{Ranged, InOrder}
 use Rattle.building.specs.Building.{begun, outOfForm, outOfRange, outOfWalls, outOfRoof, sizes, buildingFault}
-use Rattle.building.proofs.Roofs.{along-most, across-range}
+use Rattle.building.proofs.Roofs.{across-range}
 
 -- ---- each number in its range
 
@@ -68,7 +68,6 @@ ranged {g} f =
       b-least = f .b .from;
       b-most = f .b .to;
       kind-most = f .kind .to;
-      along-most = along-most (natAbs (g .kind)) (natAbs (g .x)) (f .x .to);
       across-least = across .0;
       across-most = across .1;
     }

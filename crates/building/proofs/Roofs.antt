@@ -1,10 +1,10 @@
--- How large the limits of a roof's x are, and what is compared with them.
+-- How large the limits of a roof's x are, and what x is compared over.
 use mathlib.Core.Bool.{Bool, true, false, cond}
-use Prim.Native.Nat.{ℕ, _*_, _≤_, _<_}
+use Prim.Native.Nat.{ℕ, _≤_, _<_}
 use native.Mathlib.Omega.{arith}
 use lib.Dec.{T, leb, leb→le, lit<, lit≤}
 use Rattle.whole.proofs.Table.{all-at, both, both-left, both-right}
-use Rattle.building.specs.Roof.{Roof, roof, roofs, roofOf, alongOf, acrossOf}
+use Rattle.building.specs.Roof.{Roof, roof, roofs, roofOf, acrossOf}
 
 abbrev low : Roof → Bool
 low r = both (leb (r .least) 900) (leb (r .greatest) 900)
@@ -18,13 +18,6 @@ least-most kind = leb→le _ 900 (both-left (leb (roofOf kind .least) 900) (leb 
 
 pub greatest-most : (kind : ℕ) → roofOf kind .greatest ≤ 900
 greatest-most kind = leb→le _ 900 (both-right (leb (roofOf kind .least) 900) (leb (roofOf kind .greatest) 900) (low-at kind))
-
-pub along-most : (kind x : ℕ) → x ≤ 30000 → alongOf kind x ≤ 30000000
-along-most kind x h = go (roofOf kind .byHeight)
-  where
-    go : (t : Bool) → cond t (1000 * x) x ≤ 30000000
-    go true = omega arith
-    go false = omega arith
 
 pub across-range : (kind h : ℕ) → 100 ≤ h → h ≤ 30000 → (0 < acrossOf kind h) × (acrossOf kind h ≤ 30000)
 across-range kind h from to = go (roofOf kind .byHeight)

@@ -3,7 +3,7 @@ use Prim.Native.Nat.{_*_, _≤_, _<_}
 use Rattle.building.specs.declared.Sizes.{Sizes}
 use Rattle.building.specs.Roof.{roofOf}
 
--- every number in its range
+-- every number in its range, and so what x is compared over
 pub record Ranged (s : Sizes) : Type 0 where
   pub h-least : 100 ≤ s .h
   pub h-most : s .h ≤ 30000
@@ -12,7 +12,6 @@ pub record Ranged (s : Sizes) : Type 0 where
   pub b-least : 100 ≤ s .b
   pub b-most : s .b ≤ 30000
   pub kind-most : s .kind ≤ 5
-  pub along-most : s .along ≤ 30000000
   pub across-least : 0 < s .across
   pub across-most : s .across ≤ 30000
 

@@ -1,10 +1,11 @@
 -- A question about one zone or local, judged: the building, with the line that it has in the sheet; then the direction; then the zone or local.
-use mathlib.Core.Bool.{Bool, cond, _||_}
+use mathlib.Core.Bool.{_||_}
 use Prim.Native.Nat.{ℕ, zero, suc}
 use lib.IntN.{ℤ}
 use Rattle.building.specs.declared.Building.{Building}
 use Rattle.building.specs.declared.Question.{Question}
 use Rattle.building.specs.declared.Question.the-variants.{Of, Refused}
+use Rattle.building.specs.Test.{unless}
 use Rattle.building.specs.Building.{buildingFault, sizes}
 use Rattle.building.specs.Places.{zoneOn, localOn, knows}
 
@@ -13,12 +14,9 @@ abbrev pub refuse : ℕ → ℕ → Question → Question
 refuse zero line asked = asked
 refuse (suc n) line asked = Refused (suc n) line
 
-abbrev pub unless : Bool → ℕ → ℕ
-unless right number = cond right 0 number
-
 unfoldable pub askedOf : Building → ℤ → ℕ → Question
 askedOf g direction place =
     refuse (buildingFault g) 2
-    (refuse (unless (knows (g .kind) direction) 3) 0
-    (refuse (unless (zoneOn (g .kind) place || localOn (g .kind) place) 6) 0
+    (refuse (unless 3 (knows (g .kind) direction)) 0
+    (refuse (unless 6 (zoneOn (g .kind) place || localOn (g .kind) place)) 0
     (Of (sizes g))))

@@ -1,5 +1,5 @@
--- Tests of one number.
-use mathlib.Core.Bool.{Bool, false, not, _&&_, _||_}
+-- Tests of one number, and the fault where a test fails.
+use mathlib.Core.Bool.{Bool, true, false, not, _&&_, _||_}
 use Prim.Native.Nat.{ℕ}
 use lib.IntN.{ℤ, pos, negsuc}
 use lib.Signed.{ltZ}
@@ -20,3 +20,8 @@ beyond least greatest z = ltZ z least || ltZ greatest z
 
 abbrev pub within : ℤ → ℤ → ℤ → Bool
 within least greatest z = not (beyond least greatest z)
+
+-- fault n unless the test holds
+abbrev pub unless : ℕ → Bool → ℕ
+unless n true = 0
+unless n false = n

@@ -20,7 +20,8 @@ use Rattle.rules.specs.declared.Rule.the-variants.{LetterFrom, NumberFrom, Size
 use Rattle.rules.specs.declared.Section.the-variants.{B, W, I, F}
 use Rattle.rules.specs.declared.Kind.{Kind}
 use Rattle.rules.specs.declared.Kind.the-variants.{Count, Entry}
-use Rattle.rules.specs.Rules.{unless, ofNumber, isLetter, isDash, directionFault, fieldFault, lower, lowest, fieldsFault}
+use Rattle.building.specs.Test.{unless}
+use Rattle.rules.specs.Rules.{ofNumber, isLetter, isDash, directionFault, fieldFault, lower, lowest, fieldsFault}
 use Rattle.entry.specs.Says.{buildingOf, letter, at}
 use Rattle.rules.specs.Sections.{rules, ownFault, lineFault}
 use Rattle.job.proofs.Building.{building-least, building-found}

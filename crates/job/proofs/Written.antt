@@ -15,7 +15,8 @@ use Rattle.rules.specs.declared.Rule.the-variants.{LetterFrom, NumberFrom, Size
 use Rattle.rules.specs.declared.Section.{Section}
 use Rattle.rules.specs.declared.Section.the-variants.{B}
 use Rattle.rules.specs.declared.Kind.the-variants.{Count, Entry}
-use Rattle.rules.specs.Rules.{unless, fieldFault, lower, lowest, fieldsFault}
+use Rattle.building.specs.Test.{unless}
+use Rattle.rules.specs.Rules.{fieldFault, lower, lowest, fieldsFault}
 use Rattle.entry.specs.Says.{both}
 use Rattle.rules.specs.Sections.{about, anyNumber, rules, lineFault}
 use Rattle.fields.specs.Fields.{naturalField, numberField, markField, buildingFields}

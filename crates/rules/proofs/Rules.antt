@@ -17,7 +17,8 @@ use Rattle.rules.specs.declared.Rule.the-variants.{LetterFrom, NumberFro
 use Rattle.rules.specs.declared.Section.the-variants.{B, W, I, F}
 use Rattle.rules.specs.declared.Kind.{Kind}
 use Rattle.rules.specs.declared.Kind.the-variants.{Count, Entry}
-use Rattle.rules.specs.Rules.{unless, fieldFault, lower, lowest, fieldsFault}
+use Rattle.building.specs.Test.{unless}
+use Rattle.rules.specs.Rules.{fieldFault, lower, lowest, fieldsFault}
 use Rattle.rules.specs.Sections.{rules}
 
 -- ---- a test and the fault that it spares

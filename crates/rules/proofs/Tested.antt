@@ -6,7 +6,8 @@ use lib.Dec.{leb, eqb}
 use Rattle.form.specs.declared.Field.{Field}
 use Rattle.form.specs.declared.Field.the-variants.{Bad, Plus, Minus, Letter, Dash}
 use Rattle.rules.specs.declared.Rule.the-variants.{LetterFrom, NumberFrom, SizeTo, Direction, Mark}
-use Rattle.rules.specs.Rules.{unless, ofNumber, isLetter, isDash, fieldFault}
+use Rattle.building.specs.Test.{unless}
+use Rattle.rules.specs.Rules.{ofNumber, isLetter, isDash, fieldFault}
 use Rattle.entry.specs.Says.{size}
 
 number-tested : (p q : ℕ → ℕ) (f : Field) → ofNumber (λ m. p (size f)) (λ m. q (size f)) f ≡ ofNumber p q f

@@ -1,18 +1,14 @@
 -- What one field of a line may say: fault 1 where it is out of form there, 2 or 3 where it is a number out of bounds, 0 where it is in order.
 use Prim.Native.Nat.{ℕ, zero, suc, min}
 use mathlib.Core.List.{List, [], _∷_}
-use mathlib.Core.Bool.{Bool, true, false, cond, _&&_, _||_}
+use mathlib.Core.Bool.{Bool, true, false, cond, _||_}
 use lib.ListN.{length}
 use lib.Dec.{leb, eqb}
 use Rattle.form.specs.declared.Field.{Field}
 use Rattle.form.specs.declared.Field.the-variants.{Bad, Plus, Minus, Letter, Dash}
+use Rattle.building.specs.Test.{among, unless}
 use Rattle.rules.specs.declared.Rule.{Rule}
 use Rattle.rules.specs.declared.Rule.the-variants.{LetterFrom, NumberFrom, SizeTo, Direction, Mark}
-
--- fault n unless the test holds
-abbrev pub unless : ℕ → Bool → ℕ
-unless n true = 0
-unless n false = n
 
 -- the fault of a field that must be a number: by its size where it is 0 or more, by its size where it is less, and 1 where it is no number; -0 is none
 abbrev pub ofNumber : (ℕ → ℕ) → (ℕ → ℕ) → Field → ℕ
@@ -41,8 +37,8 @@ abbrev pub directionFault : Field → ℕ
 directionFault f = ofNumber (λ m. unless 3 (eqb m 0 || eqb m 90)) (λ m. 3) f
 
 unfoldable pub fieldFault : Rule → Field → ℕ
-fieldFault (LetterFrom lo hi) f = unless 1 (isLetter (λ b. leb lo b && leb b hi) f)
-fieldFault (NumberFrom n lo hi) f = ofNumber (λ m. unless n (leb lo m && leb m hi)) (λ m. n) f
+fieldFault (LetterFrom lo hi) f = unless 1 (isLetter (among lo hi) f)
+fieldFault (NumberFrom n lo hi) f = ofNumber (λ m. unless n (among lo hi m)) (λ m. n) f
 fieldFault (SizeTo n most) f = ofNumber (λ m. unless n (leb m most)) (λ m. unless n (leb m most)) f
 fieldFault Direction f = directionFault f
 fieldFault Mark f = cond (isDash f) 0 (directionFault f)

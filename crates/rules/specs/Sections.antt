@@ -14,7 +14,8 @@ use Rattle.rules.specs.declared.Section.the-variants.{B, W, I, F}
 use Rattle.rules.specs.declared.Kind.{Kind}
 use Rattle.rules.specs.declared.Kind.the-variants.{Count, Entry}
 use Rattle.entry.specs.Says.{letter, at, buildingOf}
-use Rattle.rules.specs.Rules.{unless, fieldsFault}
+use Rattle.building.specs.Test.{unless}
+use Rattle.rules.specs.Rules.{fieldsFault}
 
 -- a section: its letter, its least and greatest count, and a rule for each field of its entries
 pub record About : Type 0 where
@@ -23,7 +24,7 @@ pub record About : Type 0 where
   pub most : ℕ
   pub fields : List Rule
 
--- a number in form has at most 7 digits; the building's ranges are judged with its whole line, by the book
+-- a number in form has at most 7 digits; the building's ranges are judged with its whole line
 abbrev pub anyNumber : Rule
 anyNumber = SizeTo 1 9999999
 

@@ -3,9 +3,10 @@ use crate::Rule;
 use entry::says::size_of;
 use form::Field;
 ghost use mathlib.Core.Path.{_≡_};
-ghost use mathlib.Core.Bool.{_&&_, _||_};
-ghost use lib.Dec.{leb, eqb};
-ghost use Rattle.rules.specs.Rules.{unless, ofNumber, isDash, fieldFault};
+ghost use mathlib.Core.Bool.{_||_};
+ghost use lib.Dec.{eqb};
+ghost use Rattle.building.specs.Test.{among, unless};
+ghost use Rattle.rules.specs.Rules.{ofNumber, isDash, fieldFault};
 
 // Fault n unless the test holds.
 pub(crate) fn unless(n: u32, test: bool) -> u32
@@ -15,7 +16,7 @@ pub(crate) fn unless(n: u32, test: bool) -> u32
 }
 
 pub(crate) fn within(lo: u32, hi: u32, m: u32) -> bool
-    ensures { λ r. ⌜ r ≡ leb lo m && leb m hi ⌝ }
+    ensures { λ r. ⌜ r ≡ among lo hi m ⌝ }
 {
     if lo <= m { m <= hi } else { false }
 }

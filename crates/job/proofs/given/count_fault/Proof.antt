@@ -4,7 +4,8 @@ use mathlib.Core.Path.{_≡_, _∙_, sym}
 use mathlib.Core.Bool.{_&&_}
 use lib.Dec.{leb}
 use Rattle.rules.specs.declared.Kind.the-variants.{Count}
-use Rattle.rules.specs.Rules.{unless, fieldsFault}
+use Rattle.building.specs.Test.{unless}
+use Rattle.rules.specs.Rules.{fieldsFault}
 use Rattle.rules.specs.Sections.{rules}
 use Rattle.job.proofs.Sections.{countLine}
 use Rattle.job.proofs.Written.{count-placed, range-below, range-above, range-within}

@@ -8,7 +8,7 @@ use Rattle.rules.specs.declared.Section.the-variants.{F}
 use Rattle.rules.specs.declared.Kind.the-variants.{Entry}
 use Rattle.entry.specs.declared.Face.{Face}
 use Rattle.fields.specs.Fields.{faceFields}
-use Rattle.rules.specs.Rules.{unless}
+use Rattle.building.specs.Test.{unless}
 use Rattle.rules.specs.Sections.{lineFault}
 use Rattle.rules.proofs.Parts.{fault-own, fault-fields}
 use borrow.Author.Needs.{needs, sfits-of}

@@ -5,7 +5,7 @@ use Rattle.building.specs.Places.{zoneOn}
 use Rattle.entry.specs.declared.Face.{Face}
 use Rattle.rules.specs.declared.Section.the-variants.{F}
 use Rattle.rules.specs.declared.Kind.the-variants.{Entry}
-use Rattle.rules.specs.Rules.{unless}
+use Rattle.building.specs.Test.{unless}
 use Rattle.rules.proofs.Parts.{fault-own, fault-fields}
 use borrow.Author.Needs.{needs, sfits-of}
 use Rattle.rules.proofs.faults.face_line_fault.Statement.{statement}

@@ -1,6 +1,6 @@
 -- `letter_fault` meets its contract.
 use mathlib.Core.Path.{_∙_, ap}
-use Rattle.rules.specs.Rules.{unless}
+use Rattle.building.specs.Test.{unless}
 use Rattle.rules.proofs.Tested.{letter-rule}
 use borrow.Author.Needs.{needs}
 use Rattle.rules.proofs.field.letter_fault.Statement.{statement}
