@@ -1,24 +1,16 @@
--- What the machine has of a signed number, and of several tests put together.
-use mathlib.Core.Path.{_≡_, ap, _∙_}
+-- A test of three fields as the machine has them, and six such tests put together.
+use mathlib.Core.Path.{_≡_, _∙_}
 use mathlib.Core.Bool.{Bool, _||_}
 use Prim.Native.Nat.{_^_, _<_}
 use lib.IntN.{ℤ}
 use lib.Signed.{mag}
 use mir.Syntax.{w64}
 use mir.Val.{toZ, ofZ}
-use mir.ValLaws.{toZ-ofZ}
+use Rattle.whole.proofs.Size.{returned}
 
--- a field of 64 bits is read back as the number that it is; `mag z < 2 ^ 63` is what a struct tells of it
-pub plain : (z : ℤ) → mag z < 2 ^ 63 → toZ w64 (ofZ w64 z) ≡ z
-plain z h = toZ-ofZ w64 z (record { sfits = h })
-
--- what a call says of a field as the machine has it, said of the field
-pub said : {A : Type 0} (f : ℤ → A) (z : ℤ) {r : A} → r ≡ f (toZ w64 (ofZ w64 z)) → mag z < 2 ^ 63 → r ≡ f z
-said f z e h = e ∙ ap f (plain z h)
-
--- the same of a test of three fields
+-- what the machine says of three fields, said of the fields
 pub tested : {A : Type 0} (f : ℤ → ℤ → ℤ → A) (x y z : ℤ) {r : A} → r ≡ f (toZ w64 (ofZ w64 x)) (toZ w64 (ofZ w64 y)) (toZ w64 (ofZ w64 z)) → mag x < 2 ^ 63 → mag y < 2 ^ 63 → mag z < 2 ^ 63 → r ≡ f x y z
-tested f x y z e h k l = e ∙ (λ i. f (plain x h i) (plain y k i) (plain z l i))
+tested f x y z e h k l = e ∙ (λ i. f (returned w64 x h .same i) (returned w64 y k .same i) (returned w64 z l .same i))
 
 -- six tests by five calls of `either`
 pub any-of-six : {t₁ t₂ t₃ t₄ t₅ t₆ r₁ r₂ r₃ r₄ r₅ u₁ u₂ u₃ u₄ u₅ u₆ : Bool} →

@@ -9,7 +9,7 @@ use mathlib.Core.Bool.{true, false}
 use lib.Dec.{T, ltb, ltb→lt}
 use lib.IntN.{ℤ, pos, negsuc, negℤ, natAbs, _+ℤ_, _-ℤ_, _*ℤ_}
 use lib.Signed.{mag, quotZ, natAbs-le, nonNeg, yes-nonNeg, _≤ℤ_, _<ℤ_, ltZ}
-use mir.Syntax.{Width}
+use mir.Syntax.{Width, w64}
 use mir.Val.{SFits, Fits, hbits, bits, toZ, ofZ}
 use mir.Facts.{toZ-ofZ, toZ-pos}
 use Rattle.whole.proofs.Parts.{le-at, le-by, add-law, up-neg, down-neg, up-mul, down-mul, one-is-zero, natAbs-is}
@@ -78,6 +78,10 @@ param {w} {z} f = param≤ f (natAbs-le z (f .sfits))
 -- what a call of a function with a signed result gave: `returned w (c .f .ok)`
 abbrev pub returned : (w : Width) (z : ℤ) → mag z < 2 ^ hbits w → Num
 returned w z h = param {w = w} {z = z} (record { sfits = h })
+
+-- what a call says of a number of 64 bits as the machine has it, said of the number
+pub said : {A : Type 0} (f : ℤ → A) (z : ℤ) {r : A} → r ≡ f (toZ w64 (ofZ w64 z)) → mag z < 2 ^ 63 → r ≡ f z
+said f z e h = e ∙ ap f (returned w64 z h .same)
 
 abbrev pub nat : (w : Width) {n : ℕ} (k : ℕ) → n ≤ k → T (ltb k (2 ^ hbits w)) → Num
 nat w {n} k h t =

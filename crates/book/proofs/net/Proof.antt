@@ -7,11 +7,10 @@ use lib.Signed.{mag}
 use mir.Syntax.{w32, w64}
 use mir.Val.{toZ, ofZ}
 use borrow.Author.Needs.{needs}
-use Rattle.whole.proofs.Size.{returned}
+use Rattle.whole.proofs.Size.{returned, said}
 use Rattle.book.specs.declared.Answer.the-variants.{One, Two}
 use Rattle.building.specs.Test.{beyond}
 use Rattle.book.specs.Question.{outsideOf, less}
-use Rattle.building.proofs.Machine.{plain, said}
 use Rattle.book.proofs.Answers.{Small, answer-small}
 use Rattle.book.proofs.Nets.{internal-small, net-refused, net-one, net-two, net-bad-one, net-bad-two}
 use Rattle.book.proofs.net.Statement.{statement}
@@ -32,10 +31,10 @@ tested z e h f = sym (said (beyond (negℤ (pos 100)) (pos 100)) z e h) ∙ f
 
 fine : (v z : ℤ) → mag v < 2 ^ 31 → mag z < 2 ^ 63 → natAbs v ≤ 2500 → beyond (negℤ (pos 100)) (pos 100) z ≡ false → (natAbs (toZ w32 (ofZ w32 v)) ≤ 2500) × (natAbs (toZ w64 (ofZ w64 z)) ≤ 100)
 fine v z f h k e =
-    (subst (λ (y : ℤ). natAbs y ≤ 2500) (sym (returned w32 v f .same)) k, subst (λ (y : ℤ). natAbs y ≤ 100) (sym (plain z h)) (internal-small z e))
+    (subst (λ (y : ℤ). natAbs y ≤ 2500) (sym (returned w32 v f .same)) k, subst (λ (y : ℤ). natAbs y ≤ 100) (sym (returned w64 z h .same)) (internal-small z e))
 
 taken-off : (v z r : ℤ) → mag v < 2 ^ 31 → mag z < 2 ^ 63 → mag r < 2 ^ 31 → r ≡ less (toZ w32 (ofZ w32 v)) (toZ w64 (ofZ w64 z)) → toZ w32 (ofZ w32 r) ≡ less v z
-taken-off v z r f h g e = returned w32 r g .same ∙ e ∙ ap₂ less (returned w32 v f .same) (plain z h)
+taken-off v z r f h g e = returned w32 r g .same ∙ e ∙ ap₂ less (returned w32 v f .same) (returned w64 z h .same)
 
 outside-requires : tie.Need-outside-requires
 outside-requires c κs = search needs

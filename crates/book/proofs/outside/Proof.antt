@@ -5,7 +5,7 @@ use lib.IntN.{ℤ, natAbs}
 use borrow.Author.Needs.{needs}
 use Rattle.building.specs.declared.Question.{Question}
 use Rattle.building.specs.Question.{askedOf}
-use Rattle.building.proofs.Machine.{said}
+use Rattle.whole.proofs.Size.{said}
 use Rattle.building.proofs.Judged.{Told, told}
 use Rattle.book.specs.Question.{coefficientOf, answer, outsideOf}
 use Rattle.book.proofs.outside.Statement.{statement}

@@ -8,7 +8,7 @@ use borrow.Author.Needs.{needs}
 use Rattle.building.specs.declared.Question.the-variants.{Of, Refused}
 use Rattle.building.specs.Building.{buildingFault}
 use Rattle.building.specs.Places.{knows, zoneOn, localOn}
-use Rattle.building.proofs.Machine.{said}
+use Rattle.whole.proofs.Size.{said}
 use Rattle.building.proofs.Accepted.{in-range}
 use Rattle.building.proofs.Judged.{bad-building, bad-direction, bad-place, in-question}
 use Rattle.building.proofs.asked.Statement.{statement}

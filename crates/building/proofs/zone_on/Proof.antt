@@ -3,7 +3,7 @@ use mathlib.Core.Path.{ap₂, _∙_}
 use mathlib.Core.Bool.{_&&_, _||_}
 use borrow.Author.Needs.{needs}
 use Rattle.building.specs.Places.{gable, flat, zoneOn}
-use Rattle.building.proofs.Machine.{said}
+use Rattle.whole.proofs.Size.{said}
 use Rattle.building.proofs.zone_on.Statement.{statement}
 use Rattle.building.proofs.zone_on.Tie as tie
 

@@ -7,8 +7,7 @@ use mir.Syntax.{w64}
 use borrow.Author.Needs.{needs}
 use Rattle.whole.specs.Round.{halfUp}
 use Rattle.whole.proofs.Rounding.{round-below, round-above, halfUp-le}
-use Rattle.whole.proofs.Size.{Num, fit, param, nat, num, num≤, back, lt-yes, lt-no, _⊖_}
-use Rattle.building.proofs.Machine.{said}
+use Rattle.whole.proofs.Size.{Num, fit, param, nat, num, num≤, back, lt-yes, lt-no, _⊖_, said}
 use Rattle.book.proofs.line.round_away.Statement.{statement}
 use Rattle.book.proofs.line.round_away.Tie as tie
 

@@ -2,8 +2,9 @@
 use mathlib.Core.Path.{sym, ap, _∙_}
 use lib.IntN.{ℤ, pos, negℤ}
 use lib.Signed.{ltZ}
+use mir.Syntax.{w64}
 use Rattle.building.specs.Test.{beyond}
-use Rattle.building.proofs.Machine.{plain}
+use Rattle.whole.proofs.Size.{returned}
 use Rattle.book.proofs.question.too_great.Statement.{statement}
 use Rattle.book.proofs.question.too_great.Tie as tie
 
@@ -11,13 +12,13 @@ returns : tie.Need-returns
 unfolding beyond
 returns c =
     let s = c .before in
-    rw (ap (λ (z : ℤ). ltZ z (negℤ (pos 100))) (sym (plain (s .args .internal) (s .fits .internal .sfits))) ∙ c .if1 .taken)
+    rw (ap (λ (z : ℤ). ltZ z (negℤ (pos 100))) (sym (returned w64 (s .args .internal) (s .fits .internal .sfits) .same)) ∙ c .if1 .taken)
 
 returns-2 : tie.Need-returns-2
 unfolding beyond
 returns-2 c =
     let s = c .before in
-    let e = plain (s .args .internal) (s .fits .internal .sfits) in
+    let e = returned w64 (s .args .internal) (s .fits .internal .sfits) .same in
     rw (ap (λ (z : ℤ). ltZ z (negℤ (pos 100))) (sym e) ∙ c .if1 .left) (ap (ltZ (pos 100)) e)
 
 pub too-great-spec : {M : Type 1} → statement M

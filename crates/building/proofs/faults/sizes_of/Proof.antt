@@ -7,7 +7,7 @@ use borrow.Author.Needs.{needs}
 use Rattle.building.specs.declared.Building.{Building}
 use Rattle.building.specs.declared.Sizes.{Sizes}
 use Rattle.building.specs.Roof.{alongOf, acrossOf}
-use Rattle.building.proofs.Machine.{said}
+use Rattle.whole.proofs.Size.{said}
 use Rattle.building.proofs.Accepted.{fields}
 use Rattle.building.proofs.faults.sizes_of.Statement.{statement}
 use Rattle.building.proofs.faults.sizes_of.Tie as tie

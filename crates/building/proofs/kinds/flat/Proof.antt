@@ -4,7 +4,7 @@ use mathlib.Core.Bool.{not}
 use lib.IntN.{pos}
 use borrow.Author.Needs.{needs}
 use Rattle.building.specs.Test.{beyond}
-use Rattle.building.proofs.Machine.{said}
+use Rattle.whole.proofs.Size.{said}
 use Rattle.building.proofs.kinds.flat.Statement.{statement}
 use Rattle.building.proofs.kinds.flat.Tie as tie
 

@@ -1,7 +1,7 @@
 -- `kinds::gable`: the kind is read back as it is.
 use borrow.Author.Needs.{needs}
 use Rattle.building.specs.Test.{is}
-use Rattle.building.proofs.Machine.{said}
+use Rattle.whole.proofs.Size.{said}
 use Rattle.building.proofs.kinds.gable.Statement.{statement}
 use Rattle.building.proofs.kinds.gable.Tie as tie
 

@@ -3,7 +3,7 @@ use mathlib.Core.Path.{ap₂, _∙_}
 use mathlib.Core.Bool.{_||_}
 use borrow.Author.Needs.{needs}
 use Rattle.building.specs.Test.{is}
-use Rattle.building.proofs.Machine.{said}
+use Rattle.whole.proofs.Size.{said}
 use Rattle.building.proofs.kinds.knows.Statement.{statement}
 use Rattle.building.proofs.kinds.knows.Tie as tie
 

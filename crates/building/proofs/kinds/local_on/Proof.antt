@@ -4,7 +4,7 @@ use mathlib.Core.Bool.{Bool, _&&_, _||_}
 use borrow.Author.Needs.{needs}
 use lib.Dec.{eqb}
 use Rattle.building.specs.Places.{flat, localOn, wallLocal}
-use Rattle.building.proofs.Machine.{said}
+use Rattle.whole.proofs.Size.{said}
 use Rattle.building.proofs.kinds.local_on.Statement.{statement}
 use Rattle.building.proofs.kinds.local_on.Tie as tie
 

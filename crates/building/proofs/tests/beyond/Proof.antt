@@ -2,9 +2,10 @@
 use mathlib.Core.Path.{ap₂, _∙_}
 use mathlib.Core.Bool.{_||_}
 use lib.Signed.{ltZ}
+use mir.Syntax.{w64}
 use borrow.Author.Needs.{needs}
 use Rattle.building.specs.Test.{beyond}
-use Rattle.building.proofs.Machine.{plain}
+use Rattle.whole.proofs.Size.{returned}
 use Rattle.building.proofs.tests.beyond.Statement.{statement}
 use Rattle.building.proofs.tests.beyond.Tie as tie
 
@@ -15,8 +16,8 @@ returns : tie.Need-returns
 unfolding beyond
 returns c =
     let s = c .before in
-    let e = plain (s .args .z) (s .fits .z .sfits) in
-    c .either .ensures ∙ ap₂ _||_ (ap₂ ltZ e (plain (s .args .least) (s .fits .least .sfits))) (ap₂ ltZ (plain (s .args .greatest) (s .fits .greatest .sfits)) e)
+    let e = returned w64 (s .args .z) (s .fits .z .sfits) .same in
+    c .either .ensures ∙ ap₂ _||_ (ap₂ ltZ e (returned w64 (s .args .least) (s .fits .least .sfits) .same)) (ap₂ ltZ (returned w64 (s .args .greatest) (s .fits .greatest .sfits) .same) e)
 
 pub beyond-spec : {M : Type 1} → statement M
 beyond-spec = tie.close (tie.spec either-requires returns)

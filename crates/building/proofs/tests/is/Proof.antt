@@ -5,11 +5,12 @@ use Prim.Native.Nat.{ℕ}
 use lib.Dec.{eqb}
 use lib.IntN.{ℤ, pos, negsuc, natAbs}
 use lib.Signed.{ltZ}
+use mir.Syntax.{w64}
 use borrow.Author.Needs.{needs}
 use borrow.Author.Tests.{ltb-true}
 use native.Mathlib.Omega.{arith}
 use Rattle.building.specs.Test.{is}
-use Rattle.building.proofs.Machine.{plain, said}
+use Rattle.whole.proofs.Size.{said, returned}
 use Rattle.building.proofs.tests.is.Statement.{statement}
 use Rattle.building.proofs.tests.is.Tie as tie
 
@@ -24,7 +25,7 @@ natural n (negsuc k) e = absurd (true≢false e)
 returns : tie.Need-returns
 returns c =
     let s = c .before in
-    negative (s .args .n) (s .args .z) (ap (λ (z : ℤ). ltZ z (pos 0)) (sym (plain (s .args .z) (s .fits .z .sfits))) ∙ c .if1 .taken)
+    negative (s .args .n) (s .args .z) (ap (λ (z : ℤ). ltZ z (pos 0)) (sym (returned w64 (s .args .z) (s .fits .z .sfits) .same)) ∙ c .if1 .taken)
 
 magnitude-requires : tie.Need-magnitude-requires
 magnitude-requires c κs = search needs
@@ -34,7 +35,7 @@ returns-2 c =
     let s = c .before .before in
     let z = s .args .z in
     ap (λ (k : ℕ). eqb k (s .args .n)) (said natAbs z (c .magnitude .ensures) (s .fits .z .sfits))
-    ∙ natural (s .args .n) z (ap (λ (z : ℤ). ltZ z (pos 0)) (sym (plain z (s .fits .z .sfits))) ∙ c .before .if1 .left)
+    ∙ natural (s .args .n) z (ap (λ (z : ℤ). ltZ z (pos 0)) (sym (returned w64 z (s .fits .z .sfits) .same)) ∙ c .before .if1 .left)
 
 pub is-spec : {M : Type 1} → statement M
 is-spec = tie.close (tie.spec returns magnitude-requires returns-2)
