@@ -5,4 +5,7 @@ pub mod Demand2
 pub mod Demand3
 pub mod Printed
 pub mod Sample
+pub mod Contracts
+pub mod NothingAsked
 pub mod Determined
+pub mod Unchanged

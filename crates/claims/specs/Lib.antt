@@ -1,3 +1,3 @@
 -- What the demands speak of, beside the definitions of the other crates.
-pub mod Answers
+pub mod Contract
 pub mod Shown

@@ -1,0 +1,203 @@
+-- One line for each public function: "no entry point relies on its caller having checked anything".
+use Rattle.claims.specs.Contract.{AsksNothing}
+use Rattle.claims.proofs.Contracts as of
+
+-- ---- whole
+
+magnitude-asks : AsksNothing of.magnitude.Asked
+magnitude-asks κ a = tt
+
+-- ---- page
+
+put-byte-asks : AsksNothing of.put-byte.Asked
+put-byte-asks κ a = tt
+
+put-bytes-asks : AsksNothing of.put-bytes.Asked
+put-bytes-asks κ a = tt
+
+emit-asks : AsksNothing of.emit.Asked
+emit-asks κ a = tt
+
+-- ---- text
+
+put-natural-asks : AsksNothing of.put-natural.Asked
+put-natural-asks κ a = tt
+
+put-decimal-asks : AsksNothing of.put-decimal.Asked
+put-decimal-asks κ a = tt
+
+write-decimal-asks : AsksNothing of.write-decimal.Asked
+write-decimal-asks κ a = tt
+
+-- ---- form
+
+field-of-asks : AsksNothing of.field-of.Asked
+field-of-asks κ a = tt
+
+-- ---- lines
+
+line-at-asks : AsksNothing of.line-at.Asked
+line-at-asks κ a = tt
+
+field-at-asks : AsksNothing of.field-at.Asked
+field-at-asks κ a = tt
+
+held-count-asks : AsksNothing of.held-count.Asked
+held-count-asks κ a = tt
+
+-- ---- line
+
+put-field-asks : AsksNothing of.put-field.Asked
+put-field-asks κ a = tt
+
+put-line-asks : AsksNothing of.put-line.Asked
+put-line-asks κ a = tt
+
+-- ---- building
+
+building-fault-asks : AsksNothing of.building-fault.Asked
+building-fault-asks κ a = tt
+
+zone-on-asks : AsksNothing of.zone-on.Asked
+zone-on-asks κ a = tt
+
+asked-asks : AsksNothing of.asked.Asked
+asked-asks κ a = tt
+
+-- ---- book
+
+outside-asks : AsksNothing of.outside.Asked
+outside-asks κ a = tt
+
+net-asks : AsksNothing of.net.Asked
+net-asks κ a = tt
+
+-- ---- entry
+
+size-of-asks : AsksNothing of.size-of.Asked
+size-of-asks κ a = tt
+
+building-of-asks : AsksNothing of.building-of.Asked
+building-of-asks κ a = tt
+
+wind-of-asks : AsksNothing of.wind-of.Asked
+wind-of-asks κ a = tt
+
+internal-of-asks : AsksNothing of.internal-of.Asked
+internal-of-asks κ a = tt
+
+face-of-asks : AsksNothing of.face-of.Asked
+face-of-asks κ a = tt
+
+-- ---- fields
+
+building-line-asks : AsksNothing of.building-line.Asked
+building-line-asks κ a = tt
+
+wind-line-asks : AsksNothing of.wind-line.Asked
+wind-line-asks κ a = tt
+
+internal-line-asks : AsksNothing of.internal-line.Asked
+internal-line-asks κ a = tt
+
+face-line-asks : AsksNothing of.face-line.Asked
+face-line-asks κ a = tt
+
+-- ---- rules
+
+limits-of-asks : AsksNothing of.limits-of.Asked
+limits-of-asks κ a = tt
+
+count-line-asks : AsksNothing of.count-line.Asked
+count-line-asks κ a = tt
+
+line-fault-asks : AsksNothing of.line-fault.Asked
+line-fault-asks κ a = tt
+
+lower-of-asks : AsksNothing of.lower-of.Asked
+lower-of-asks κ a = tt
+
+-- ---- job
+
+judge-asks : AsksNothing of.judge.Asked
+judge-asks κ a = tt
+
+-- ---- sheet
+
+read-sheet-asks : AsksNothing of.read-sheet.Asked
+read-sheet-asks κ a = tt
+
+-- ---- written
+
+write-sheet-asks : AsksNothing of.write-sheet.Asked
+write-sheet-asks κ a = tt
+
+-- ---- worst
+
+worst-cases-asks : AsksNothing of.worst-cases.Asked
+worst-cases-asks κ a = tt
+
+-- ---- report
+
+write-report-asks : AsksNothing of.write-report.Asked
+write-report-asks κ a = tt
+
+write-totals-asks : AsksNothing of.write-totals.Asked
+write-totals-asks κ a = tt
+
+-- ---- panel
+
+panel-of-asks : AsksNothing of.panel-of.Asked
+panel-of-asks κ a = tt
+
+chart-asks : AsksNothing of.chart.Asked
+chart-asks κ a = tt
+
+-- ---- answers
+
+no-text-asks : AsksNothing of.no-text.Asked
+no-text-asks κ a = tt
+
+text-of-asks : AsksNothing of.text-of.Asked
+text-of-asks κ a = tt
+
+coefficient-of-asks : AsksNothing of.coefficient-of.Asked
+coefficient-of-asks κ a = tt
+
+double-of-asks : AsksNothing of.double-of.Asked
+double-of-asks κ a = tt
+
+no-extreme-asks : AsksNothing of.no-extreme.Asked
+no-extreme-asks κ a = tt
+
+line-of-asks : AsksNothing of.line-of.Asked
+line-of-asks κ a = tt
+
+-- ---- aralimogga
+
+aral-read-asks : AsksNothing of.aral-read.Asked
+aral-read-asks κ a = tt
+
+aral-rewrite-asks : AsksNothing of.aral-rewrite.Asked
+aral-rewrite-asks κ a = tt
+
+aral-report-asks : AsksNothing of.aral-report.Asked
+aral-report-asks κ a = tt
+
+aral-total-asks : AsksNothing of.aral-total.Asked
+aral-total-asks κ a = tt
+
+aral-outside-asks : AsksNothing of.aral-outside.Asked
+aral-outside-asks κ a = tt
+
+aral-net-asks : AsksNothing of.aral-net.Asked
+aral-net-asks κ a = tt
+
+aral-digits-asks : AsksNothing of.aral-digits.Asked
+aral-digits-asks κ a = tt
+
+aral-panel-asks : AsksNothing of.aral-panel.Asked
+aral-panel-asks κ a = tt
+
+aral-chart-asks : AsksNothing of.aral-chart.Asked
+aral-chart-asks κ a = tt
