@@ -1,36 +1,39 @@
--- What an accepted job carries is in order, and the six that are shown for it are its extremes.
-use mathlib.Core.Path.{_≡_, refl, ap, _∙_}
+-- What an accepted job carries is in order, and its six extremes are what the definition of the worst cases says of one axis and one side.
+use mathlib.Core.Path.{_≡_, refl, ap}
+use mathlib.Core.List.{List}
+use Prim.Native.Nat.{ℕ}
 use Rattle.job.specs.declared.Job.{Job}
 use Rattle.job.specs.Carried.{Carried, carried}
 use Rattle.job.specs.Lines.{linesOf}
 use Rattle.job.specs.InOrder.{InOrder}
 use Rattle.job.specs.Walk.{Accepted, judged}
 use Rattle.job.proofs.InOrder.{accepted-in-order}
+use Rattle.lines.specs.Lines.{rows}
+use Rattle.sheet.specs.Sheet.{reading}
 use Rattle.worst.specs.declared.Side.{Side}
 use Rattle.worst.specs.declared.Side.the-variants.{Greatest, Least}
 use Rattle.worst.specs.declared.Axis.{Axis}
 use Rattle.worst.specs.declared.Axis.the-variants.{X, Y, Z}
-use Rattle.worst.specs.declared.Six.{Six}
 use Rattle.worst.specs.Worst.{extreme, sixExtremes, reckoned, worstOf}
-use Rattle.claims.specs.Shown.{onAxis, onSide, shownFor}
+use Rattle.claims.specs.Shown.{shownIn}
 
-module _ (j : Job) (c : Carried) (a : judged j ≡ Accepted c) where
-  pub job-in-order : InOrder c
-  unfolding judged
-  job-in-order = accepted-in-order (linesOf (carried j)) c a
+pub job-in-order : (j : Job) (c : Carried) → judged j ≡ Accepted c → InOrder c
+unfolding judged
+job-in-order j c a = accepted-in-order (linesOf (carried j)) c a
 
-  six-is : worstOf j .six ≡ sixExtremes c
-  unfolding worstOf
-  six-is = ap (λ r. reckoned r .six) a
+pub sheet-in-order : (s : List ℕ) (c : Carried) → reading s ≡ Accepted c → InOrder c
+unfolding reading
+sheet-in-order s c a = accepted-in-order (rows s) c a
 
-  one-is : (axis : Axis) (side : Side) → onSide side (onAxis axis (sixExtremes c)) ≡ extreme axis side c
-  unfolding sixExtremes
-  one-is X Greatest = refl
-  one-is X Least = refl
-  one-is Y Greatest = refl
-  one-is Y Least = refl
-  one-is Z Greatest = refl
-  one-is Z Least = refl
+pub six-is : (j : Job) (c : Carried) → judged j ≡ Accepted c → worstOf j .six ≡ sixExtremes c
+unfolding worstOf
+six-is j c a = ap (λ r. reckoned r .six) a
 
-  pub shown-is : (axis : Axis) (side : Side) → shownFor j axis side ≡ extreme axis side c
-  shown-is axis side = ap (λ (six : Six). onSide side (onAxis axis six)) six-is ∙ one-is axis side
+pub one-is : (c : Carried) (axis : Axis) (side : Side) → shownIn (sixExtremes c) axis side ≡ extreme axis side c
+unfolding sixExtremes
+one-is c X Greatest = refl
+one-is c X Least = refl
+one-is c Y Greatest = refl
+one-is c Y Least = refl
+one-is c Z Greatest = refl
+one-is c Z Least = refl

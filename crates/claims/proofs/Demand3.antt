@@ -1,122 +1,123 @@
 -- Demand 3: what is shown is the greatest and the least over every permitted case; more winds and internals show no less; faster winds show no less on their side of zero.
 use mathlib.Core.Path.{_≡_, refl, sym, ap, subst, _∙_}
-use mathlib.Core.Logic.{⊎-elim}
-use mathlib.Core.List.{List, [], _∷_, map, List·Memᴰ, List·Memᴰ·head, List·Memᴰ·tail, List·Memᴰ·not-nil, List·Memᴰ·cases-cons, Memᴰ·map}
-use native.Mathlib.Omega.{arith}
+use mathlib.Core.List.{List, List·Memᴰ}
+use Prim.Native.Nat.{ℕ}
+use denote.Ref.{now}
 use lib.IntN.{ℤ, pos}
-use lib.ListN.{length}
-use Rattle.whole.specs.Lists.{Every}
+use Rattle.page.specs.declared.Writing.{Writing}
+use Rattle.page.specs.Writing.{writing, bufferAfter}
 use Rattle.job.specs.declared.Job.{Job}
-use Rattle.entry.specs.declared.Wind.{Wind}
 use Rattle.job.specs.Carried.{Carried}
-use Rattle.job.specs.InOrder.{WindInOrder}
-use Rattle.job.specs.Walk.{Accepted, judged}
+use Rattle.job.specs.InOrder.{InOrder}
+use Rattle.job.specs.Walk.{Reading, Accepted, judged}
+use Rattle.sheet.specs.Sheet.{reading, jobWriting, jobBuffer}
 use Rattle.worst.specs.declared.Side.{Side}
+use Rattle.worst.specs.declared.Side.the-variants.{Greatest, Least}
 use Rattle.worst.specs.declared.Axis.{Axis}
-use Rattle.worst.specs.Best.{Within, IsBest}
-use Rattle.worst.specs.Cases.{Loads, Case, choices, cases, caseTotal}
-use Rattle.worst.specs.Forces.{loads}
-use Rattle.worst.specs.Shown.{shown}
-use Rattle.worst.specs.Worst.{given, extreme}
-use Rattle.worst.proofs.Members.{member-each, each-member, map-member, cases-only, cases-all}
-use Rattle.worst.proofs.Demand.{AllIn, Faster}
-use Rattle.worst.proofs.Promises.{extreme-shows, extreme-more, extreme-faster}
-use Rattle.claims.specs.Shown.{shownFor, Shows, Chosen, Permitted, Includes, Raised}
-use Rattle.claims.proofs.Accepted.{job-in-order, shown-is}
+use Rattle.worst.specs.declared.Axis.the-variants.{X, Y, Z}
+use Rattle.worst.specs.declared.Extreme.{Extreme}
+use Rattle.worst.specs.declared.Reckoning.{Reckoning}
+use Rattle.worst.specs.Best.{Within}
+use Rattle.worst.specs.Cases.{Loads, Case, cases}
+use Rattle.worst.specs.Worst.{extreme, sixExtremes, worstOf}
+use Rattle.report.specs.Report.{reportText, totalsText}
+use Rattle.answers.specs.Answers.{textOf, extremeOf, onLine, lineOf, totalOf}
+use Rattle.claims.specs.Contract.{Always}
+use Rattle.claims.specs.Shown.{Shows, ShowsSix, shownIn, lineNumber, Reported, Permitted, More, Faster}
+use Rattle.claims.proofs.Contracts as of
+use Rattle.claims.proofs.Accepted.{job-in-order, sheet-in-order, six-is, one-is}
+use Rattle.claims.proofs.Shown as shown
 
 -- ---- the statements
 
 -- "For an accepted job and each axis, the greatest and least shown are those over every permitted case .., each with the first case that reaches it."
 abbrev pub ShowsWorst : Type 0
-ShowsWorst = (j : Job) (c : Carried) → judged j ≡ Accepted c → (axis : Axis) (side : Side) → Shows j c axis side
+ShowsWorst = Always of.worst-cases.Post (λ κ a r s. (c : Carried) → judged (a .0) ≡ Accepted c → ShowsSix c (r .six))
+
+-- and so in the six lines, of a record or of a sheet, for the program `totals` and for a host in C
+pub record ReportsWorst : Type 0 where
+  pub write_report : Always of.write-report.Post (λ κ a r s. (c : Carried) → judged (a .0) ≡ Accepted c
+      → Reported c (now (a .1 .0)) (now (s .1 .0)) r)
+  pub write_totals : Always of.write-totals.Post (λ κ a r s. (c : Carried) → reading (now (a .0)) ≡ Accepted c
+      → Reported c (now (a .1 .0)) (now (s .1 .0)) r)
+  pub aral_report : Always of.aral-report.Post (λ κ a r s. (c : Carried) → reading (now (a .0)) ≡ Accepted c
+      → (w : Writing) × Reported c (now (a .1 .0)) (now (s .1 .0)) w × (r ≡ textOf w))
+  pub aral_total : Always of.aral-total.Post (λ κ a r s. (c : Carried) → reading (now (a .0)) ≡ Accepted c
+      → (axis : Axis) (side : Side) → a .1 .0 ≡ pos (lineNumber axis side) → (e : Extreme) × Shows c axis side e × (r ≡ extremeOf e))
+
+-- What may be shown leaves no choice: a program that pretends, or invents the numbers of a case, shows something else.
+abbrev pub ShowsOne : Type 0
+ShowsOne = (c : Carried) (axis : Axis) (side : Side) (e e′ : Extreme) → Shows c axis side e → Shows c axis side e′ → e ≡ e′
 
 -- ".. each wind, each internal coefficient and, separately at each face, each alternative": the cases are these and no others
 abbrev pub CasesArePermitted : Type 1
-CasesArePermitted = (W I F A : Type 0) (l : Loads W I F A) (c : Case W I A) → (List·Memᴰ c (cases l) → Permitted l c) × (Permitted l c → List·Memᴰ c (cases l))
+CasesArePermitted = (W I F A : Type 0) (l : Loads W I F A) (c : Case W I A)
+    → (List·Memᴰ c (cases l) → Permitted l c) × (Permitted l c → List·Memᴰ c (cases l))
 
 -- "A job whose winds and internals include another's (same building and faces) shows no smaller greatest and no larger least."
 abbrev pub MoreShowsNoLess : Type 0
-MoreShowsNoLess = (j k : Job) (c d : Carried) → judged j ≡ Accepted c → judged k ≡ Accepted d
-    → c .building ≡ d .building → c .faces ≡ d .faces → Includes (d .winds) (c .winds) → Includes (d .internals) (c .internals)
-    → (axis : Axis) (side : Side) → Within side (shownFor j axis side .total) (shownFor k axis side .total)
+MoreShowsNoLess = Always of.worst-cases.Post (λ κ a r s. Always of.worst-cases.Post (λ κ′ b q t.
+    (c d : Carried) → judged (a .0) ≡ Accepted c → judged (b .0) ≡ Accepted d → More c d
+    → (axis : Axis) (side : Side) → Within side (shownIn (r .six) axis side .total) (shownIn (q .six) axis side .total)))
 
 -- "If only speeds change and none is lowered, a greatest that was zero or more does not fall, and a least that was zero or less does not rise."
 abbrev pub FasterShowsNoLess : Type 0
-FasterShowsNoLess = (j k : Job) (c d : Carried) → judged j ≡ Accepted c → judged k ≡ Accepted d
-    → c .building ≡ d .building → c .faces ≡ d .faces → c .internals ≡ d .internals → Raised (c .winds) (d .winds)
-    → (axis : Axis) (side : Side) → Within side (pos 0) (shownFor j axis side .total) → Within side (shownFor j axis side .total) (shownFor k axis side .total)
+FasterShowsNoLess = Always of.worst-cases.Post (λ κ a r s. Always of.worst-cases.Post (λ κ′ b q t.
+    (c d : Carried) → judged (a .0) ≡ Accepted c → judged (b .0) ≡ Accepted d → Faster c d
+    → (axis : Axis) (side : Side) → Within side (pos 0) (shownIn (r .six) axis side .total)
+    → Within side (shownIn (r .six) axis side .total) (shownIn (q .six) axis side .total)))
 
 -- ---- the proofs
 
+-- what a result shows is the extreme of what its job carries
+module _ (j : Job) {r : Reckoning} (p : r ≡ worstOf j) (c : Carried) (a : judged j ≡ Accepted c) where
+  six-of : r .six ≡ sixExtremes c
+  six-of = ap (λ (q : Reckoning). q .six) p ∙ six-is j c a
+
+  total-of : (axis : Axis) (side : Side) → shownIn (r .six) axis side .total ≡ extreme axis side c .total
+  total-of axis side = ap (λ six. shownIn six axis side .total) six-of ∙ ap (λ (e : Extreme). e .total) (one-is c axis side)
+
+reported : (c : Carried) → InOrder c → {before after : List ℕ} {w : Writing} → w ≡ writing (reportText c) before → after ≡ bufferAfter (reportText c) before → Reported c before after w
+reported c o {before} p q = rw (p, q) (shown.report-written c o before)
+
 pub shows-worst : ShowsWorst
-unfolding shown
-shows-worst j c a axis side =
-    let e = shown-is j c a axis side in
-    let f = extreme-shows axis side c (job-in-order j c a) in
-    let n = e ∙ f .named in
+shows-worst κ a r s p c e = subst (ShowsSix c) (sym (six-of (a .0) p c e)) (shown.six-shown c (job-in-order (a .0) c e))
+
+-- a line of the report is its extreme
+line-is : (c : Carried) (axis : Axis) (side : Side) → onLine (sixExtremes c) (lineNumber axis side) ≡ extremeOf (shownIn (sixExtremes c) axis side)
+unfolding onLine
+line-is c X Greatest = refl
+line-is c X Least = refl
+line-is c Y Greatest = refl
+line-is c Y Least = refl
+line-is c Z Greatest = refl
+line-is c Z Least = refl
+
+pub reports-worst : ReportsWorst
+reports-worst =
     record {
-      case = f .case;
-      best = subst (λ (v : ℤ). IsBest side (caseTotal (loads axis (given c))) (cases (loads axis (given c))) v (f .case)) (sym (ap (λ x. x .total) e)) (f .best);
-      wind = ap (λ x. x .wind) n;
-      internal = ap (λ x. x .internal) n;
-      faces = ap (λ x. x .faces) n;
-      alternative = ap (λ x. x .alternative) n;
+      write_report = λ κ a r s p c e.
+          reported c (job-in-order (a .0) c e) (p .0 ∙ ap (λ x. jobWriting reportText x (now (a .1 .0))) e) (p .1 ∙ ap (λ x. jobBuffer reportText x (now (a .1 .0))) e);
+      write_totals = λ κ a r s p c e.
+          reported c (sheet-in-order (now (a .0)) c e) (p .0 ∙ ap (λ x. writing (totalsText x) (now (a .1 .0))) e) (p .1 ∙ ap (λ x. bufferAfter (totalsText x) (now (a .1 .0))) e);
+      aral_report = λ κ a r s p c e.
+          (writing (reportText c) (now (a .1 .0)), reported c (sheet-in-order (now (a .0)) c e) refl (p .1 ∙ ap (λ x. jobBuffer reportText x (now (a .1 .0))) e), p .0 ∙ ap (λ x. textOf (jobWriting reportText x (now (a .1 .0)))) e);
+      aral_total = λ κ a r s p c e axis side n.
+          (shownIn (sixExtremes c) axis side, shown.six-shown c (sheet-in-order (now (a .0)) c e) axis side, p ∙ ap (λ x. totalOf x (a .1 .0)) e ∙ ap (lineOf (sixExtremes c)) n ∙ line-is c axis side);
     }
 
--- a choice is in the list of choices exactly if it has an alternative of each face
-choices-only : {F A : Type 0} (alternatives : F → List A) (fs : List F) (ks : List A) → List·Memᴰ ks (choices alternatives fs) → Chosen alternatives fs ks
-unfolding choices
-choices-only alternatives [] [] m = tt
-choices-only alternatives [] (k ∷ ks) m = ⊎-elim (λ e. absurd (not-empty e)) (λ n. absurd (List·Memᴰ·not-nil n)) (List·Memᴰ·cases-cons m)
-  where
-    not-empty : {A : Type 0} {k : A} {ks : List A} → k ∷ ks ≡ [] → ⊥
-    not-empty e = let z = ap length e in omega arith
-choices-only alternatives (f ∷ fs) ks m =
-    let r = each-member (alternatives f) _ m in
-    let q = map-member _ (choices alternatives fs) (r .2) in
-    subst (Chosen alternatives (f ∷ fs)) (sym (q .2)) (r .1, choices-only alternatives fs (q .0) (q .1))
-
-choices-all : {F A : Type 0} (alternatives : F → List A) (fs : List F) (ks : List A) → Chosen alternatives fs ks → List·Memᴰ ks (choices alternatives fs)
-unfolding choices
-choices-all alternatives [] [] h = List·Memᴰ·head refl
-choices-all alternatives [] (k ∷ ks) h = absurd h
-choices-all alternatives (f ∷ fs) [] h = absurd h
-choices-all alternatives (f ∷ fs) (k ∷ ks) h =
-    member-each (λ k. map (λ ks. k ∷ ks) (choices alternatives fs)) (h .0) (Memᴰ·map (λ ks. k ∷ ks) (choices-all alternatives fs ks (h .1)))
+pub shows-one : ShowsOne
+shows-one c axis side e e′ h k = shown.shows-unique c axis side h k
 
 pub cases-permitted : CasesArePermitted
-cases-permitted W I F A l c =
-    (λ m. let h = cases-only l c m in record { wind = h .wind; internal = h .internal; chosen = choices-only (l .alternatives (c .wind)) (l .faces) (c .chosen) (h .chosen) }, λ h. cases-all l c (record { wind = h .wind; internal = h .internal; chosen = choices-all (l .alternatives (c .wind)) (l .faces) (c .chosen) (h .chosen) }))
-
-included : {X : Type 0} (xs ys : List X) → Includes ys xs → AllIn _≡_ xs ys
-included xs ys h x m = (x, h x m, refl)
-
--- what is shown is the extreme of what is carried
-carry : (j k : Job) (c d : Carried) (a : judged j ≡ Accepted c) (b : judged k ≡ Accepted d) (axis : Axis) (side : Side)
-    → Within side (extreme axis side c .total) (extreme axis side d .total) → Within side (shownFor j axis side .total) (shownFor k axis side .total)
-carry j k c d a b axis side h =
-    subst (λ (v : ℤ). Within side v (shownFor k axis side .total)) (sym (ap (λ x. x .total) (shown-is j c a axis side)))
-    (subst (λ (v : ℤ). Within side (extreme axis side c .total) v) (sym (ap (λ x. x .total) (shown-is k d b axis side))) h)
+cases-permitted W I F A l c = (shown.case-permitted l c, shown.permitted-case l c)
 
 pub more-shows-no-less : MoreShowsNoLess
-more-shows-no-less j k c d a b building faces ws is axis side =
-    carry j k c d a b axis side
-    (extreme-more c d building faces (job-in-order j c a) (job-in-order k d b) (included (c .winds) (d .winds) ws) (included (c .internals) (d .internals) is) axis side)
-
--- each wind has its faster one in its own place
-faster : (ws vs : List Wind) → Every WindInOrder ws → Raised ws vs → AllIn Faster ws vs
-faster [] [] o r x m = absurd (List·Memᴰ·not-nil m)
-faster [] (v ∷ vs) o r x m = absurd r
-faster (w ∷ ws) [] o r x m = absurd r
-faster (w ∷ ws) (v ∷ vs) o r x m =
-    ⊎-elim (λ e. (v, List·Memᴰ·head refl, subst (λ (u : Wind). Faster u v) (sym e) (record { direction = r .0; some = omega (arith, o .0 .speed .low); risen = r .1 })))
-    (λ n. let t = faster ws vs (o .1) (r .2) x n in (t .0, List·Memᴰ·tail (t .1), t .2))
-    (List·Memᴰ·cases-cons m)
+more-shows-no-less κ a r s p κ′ b q t p′ c d e f m axis side =
+    rw (total-of (a .0) p c e axis side, total-of (b .0) p′ d f axis side)
+    (shown.more-no-less (job-in-order (a .0) c e) (job-in-order (b .0) d f) axis side m)
 
 pub faster-shows-no-less : FasterShowsNoLess
-faster-shows-no-less j k c d a b building faces internals raised axis side h =
-    let o = job-in-order j c a in
-    carry j k c d a b axis side
-    (extreme-faster c d building faces o (job-in-order k d b) (faster (c .winds) (d .winds) (o .winds) raised)
-    (λ x m. (x, subst (List·Memᴰ x) internals m, refl)) axis side
-    (subst (λ (v : ℤ). Within side (pos 0) v) (ap (λ x. x .total) (shown-is j c a axis side)) h))
+faster-shows-no-less κ a r s p κ′ b q t p′ c d e f m axis side h =
+    rw (total-of (a .0) p c e axis side, total-of (b .0) p′ d f axis side)
+    (shown.faster-no-less (job-in-order (a .0) c e) (job-in-order (b .0) d f) axis side m (rw (total-of (a .0) p c e axis side) at h))

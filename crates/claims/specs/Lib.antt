@@ -1,3 +1,5 @@
 -- What the demands speak of, beside the definitions of the other crates.
 pub mod Contract
+pub mod Written
 pub mod Shown
+pub mod Doubles

@@ -1,10 +1,10 @@
--- What is shown for a job on one axis and one side, which cases are permitted, and how two jobs compare.
+-- What may be shown for a job on one axis and one side, which cases are permitted, and how two jobs compare.
 use mathlib.Core.Path.{_≡_}
 use mathlib.Core.List.{List, [], _∷_, List·Memᴰ}
 use Prim.Native.Nat.{ℕ, _≤_}
 use lib.ListN.{length}
+use Rattle.page.specs.declared.Writing.{Writing}
 use Rattle.entry.specs.declared.Wind.{Wind}
-use Rattle.job.specs.declared.Job.{Job}
 use Rattle.job.specs.Carried.{Carried}
 use Rattle.worst.specs.declared.Side.{Side}
 use Rattle.worst.specs.declared.Side.the-variants.{Greatest, Least}
@@ -17,9 +17,22 @@ use Rattle.worst.specs.Best.{IsBest}
 use Rattle.worst.specs.Cases.{Loads, Case, cases, caseTotal}
 use Rattle.worst.specs.Forces.{loads}
 use Rattle.worst.specs.Shown.{padded}
-use Rattle.worst.specs.Worst.{given, worstOf}
+use Rattle.worst.specs.Worst.{given}
+use Rattle.report.specs.Lines.{sixText}
+use Rattle.claims.specs.Written.{Written}
 
--- ---- one of the six
+-- ---- one extreme
+
+-- `case` is the one whose numbers are shown; its total is shown, bounds that of every case, and is reached by no earlier case
+pub record Shows (c : Carried) (axis : Axis) (side : Side) (e : Extreme) : Type 0 where
+  pub case : Case ℕ ℕ ℕ
+  pub best : IsBest side (caseTotal (loads axis (given c))) (cases (loads axis (given c))) (e .total) case
+  pub wind : e .wind ≡ case .wind
+  pub internal : e .internal ≡ case .internal
+  pub faces : e .faces ≡ length (c .faces)
+  pub alternative : e .alternative ≡ padded 24 (case .chosen)
+
+-- ---- all six
 
 abbrev pub onAxis : Axis → Six → Extremes
 onAxis X six = six .x
@@ -30,17 +43,26 @@ abbrev pub onSide : Side → Extremes → Extreme
 onSide Greatest e = e .greatest
 onSide Least e = e .least
 
-abbrev pub shownFor : Job → Axis → Side → Extreme
-shownFor j axis side = onSide side (onAxis axis (worstOf j .six))
+abbrev pub shownIn : Six → Axis → Side → Extreme
+shownIn six axis side = onSide side (onAxis axis six)
 
--- `case` is the one whose numbers are shown; its total is shown, bounds that of every case, and is reached by no earlier case
-pub record Shows (j : Job) (c : Carried) (axis : Axis) (side : Side) : Type 0 where
-  pub case : Case ℕ ℕ ℕ
-  pub best : IsBest side (caseTotal (loads axis (given c))) (cases (loads axis (given c))) (shownFor j axis side .total) case
-  pub wind : shownFor j axis side .wind ≡ case .wind
-  pub internal : shownFor j axis side .internal ≡ case .internal
-  pub faces : shownFor j axis side .faces ≡ length (c .faces)
-  pub alternative : shownFor j axis side .alternative ≡ padded 24 (case .chosen)
+abbrev pub ShowsSix : Carried → Six → Type 0
+ShowsSix c six = (axis : Axis) (side : Side) → Shows c axis side (shownIn six axis side)
+
+-- the lines of the report, in their order
+abbrev pub lineNumber : Axis → Side → ℕ
+lineNumber X Greatest = 1
+lineNumber X Least = 2
+lineNumber Y Greatest = 3
+lineNumber Y Least = 4
+lineNumber Z Greatest = 5
+lineNumber Z Least = 6
+
+-- the six lines of such extremes, written
+pub record Reported (c : Carried) (before after : List ℕ) (w : Writing) : Type 0 where
+  pub six : Six
+  pub shows : ShowsSix c six
+  pub written : Written (sixText six) before after w
 
 -- ---- permitted cases
 
@@ -63,9 +85,23 @@ pub record Permitted {W I F A : Type 0} (l : Loads W I F A) (c : Case W I A) : T
 abbrev pub Includes : {X : Type 0} → List X → List X → Type 0
 Includes {X} ys xs = (x : X) → List·Memᴰ x xs → List·Memᴰ x ys
 
--- only speeds change, and none is lowered
+-- the winds and internal coefficients of d include those of c, with the same building and faces
+pub record More (c d : Carried) : Type 0 where
+  pub building : c .building ≡ d .building
+  pub faces : c .faces ≡ d .faces
+  pub winds : Includes (d .winds) (c .winds)
+  pub internals : Includes (d .internals) (c .internals)
+
+-- in its own place each wind has its direction, and no lower speed
 abbrev pub Raised : List Wind → List Wind → Type 0
 Raised [] [] = Unit
 Raised [] (v ∷ vs) = ⊥
 Raised (w ∷ ws) [] = ⊥
 Raised (w ∷ ws) (v ∷ vs) = (w .direction ≡ v .direction) × (w .speed ≤ v .speed) × Raised ws vs
+
+-- only speeds change from c to d, and none is lowered
+pub record Faster (c d : Carried) : Type 0 where
+  pub building : c .building ≡ d .building
+  pub faces : c .faces ≡ d .faces
+  pub internals : c .internals ≡ d .internals
+  pub winds : Raised (c .winds) (d .winds)

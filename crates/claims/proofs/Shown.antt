@@ -1,0 +1,154 @@
+-- The six extremes of an accepted job are what may be shown for it, and nothing else is; and the cases are those that are permitted.
+use mathlib.Core.Path.{_≡_, refl, sym, ap, subst, _∙_}
+use mathlib.Core.Logic.{⊎-elim}
+use mathlib.Core.List.{List, [], _∷_, map, List·Memᴰ, List·Memᴰ·head, List·Memᴰ·tail, List·Memᴰ·not-nil, List·Memᴰ·cases-cons, Memᴰ·map}
+use native.Mathlib.Omega.{arith}
+use Prim.Native.Nat.{ℕ}
+use lib.IntN.{pos}
+use lib.ListN.{length}
+use Rattle.whole.specs.Lists.{Every}
+use Rattle.page.specs.declared.Writing.{Writing}
+use Rattle.page.specs.Writing.{writing, bufferAfter}
+use Rattle.entry.specs.declared.Wind.{Wind}
+use Rattle.job.specs.Carried.{Carried}
+use Rattle.job.specs.InOrder.{InOrder, WindInOrder}
+use Rattle.worst.specs.declared.Side.{Side}
+use Rattle.worst.specs.declared.Side.the-variants.{Greatest, Least}
+use Rattle.worst.specs.declared.Axis.{Axis}
+use Rattle.worst.specs.declared.Axis.the-variants.{X, Y, Z}
+use Rattle.worst.specs.declared.Extreme.{Extreme}
+use Rattle.worst.specs.declared.Six.{Six}
+use Rattle.worst.specs.Best.{Within}
+use Rattle.worst.specs.Cases.{Case, Loads, choices, cases, caseTotal}
+use Rattle.worst.specs.Forces.{loads}
+use Rattle.worst.specs.Shown.{padded, shown}
+use Rattle.worst.specs.Worst.{given, extreme, sixExtremes}
+use Rattle.worst.proofs.Meaning.{isBest-unique}
+use Rattle.worst.proofs.Members.{member-each, each-member, map-member, cases-only, cases-all}
+use Rattle.worst.proofs.Demand.{AllIn, Faster}
+use Rattle.worst.proofs.Promises.{extreme-shows, extreme-more, extreme-faster}
+use Rattle.report.specs.Lines.{sixText}
+use Rattle.report.specs.Report.{reportText}
+use Rattle.claims.specs.Shown.{Shows, ShowsSix, Reported, Chosen, Permitted, Includes, More, Raised}
+use Rattle.claims.specs.Shown as faster
+use Rattle.claims.specs.Written.{Written}
+use Rattle.claims.proofs.Accepted.{one-is}
+use Rattle.claims.proofs.Written.{writing-written, written-unique}
+
+-- ---- one extreme
+
+module _ (c : Carried) (axis : Axis) (side : Side) where
+  extreme-is-shown : InOrder c → Shows c axis side (extreme axis side c)
+  unfolding shown
+  extreme-is-shown o =
+      let f = extreme-shows axis side c o in
+      record {
+        case = f .case;
+        best = f .best;
+        wind = ap (λ x. x .wind) (f .named);
+        internal = ap (λ x. x .internal) (f .named);
+        faces = ap (λ x. x .faces) (f .named);
+        alternative = ap (λ x. x .alternative) (f .named);
+      }
+
+  pub shows-unique : {e e′ : Extreme} → Shows c axis side e → Shows c axis side e′ → e ≡ e′
+  shows-unique {e} {e′} h k =
+      let l = loads axis (given c) in
+      let u = isBest-unique side (caseTotal l) (cases l) (e .total) (e′ .total) (h .case) (k .case) (h .best) (k .best) in
+      let same : h .case ≡ k .case = u .1 in
+      let wind = h .wind ∙ ap (λ x. x .wind) same ∙ sym (k .wind) in
+      let internal = h .internal ∙ ap (λ x. x .internal) same ∙ sym (k .internal) in
+      let alternative = h .alternative ∙ ap (λ (x : Case ℕ ℕ ℕ). padded 24 (x .chosen)) same ∙ sym (k .alternative) in
+      λ i.
+      record {
+        total = u .0 i;
+        wind = wind i;
+        internal = internal i;
+        faces = (h .faces ∙ sym (k .faces)) i;
+        alternative = alternative i;
+      }
+
+-- ---- all six
+
+pub six-shown : (c : Carried) → InOrder c → ShowsSix c (sixExtremes c)
+six-shown c o axis side = subst (Shows c axis side) (sym (one-is c axis side)) (extreme-is-shown c axis side o)
+
+pub report-written : (c : Carried) → InOrder c → (before : List ℕ) → Reported c before (bufferAfter (reportText c) before) (writing (reportText c) before)
+unfolding reportText
+report-written c o before =
+    record { six = sixExtremes c; shows = six-shown c o; written = writing-written (sixText (sixExtremes c)) before }
+
+pub six-unique : (c : Carried) {six six′ : Six} → ShowsSix c six → ShowsSix c six′ → six ≡ six′
+six-unique c h k =
+    let same : (axis : Axis) (side : Side) → _ = λ axis side. shows-unique c axis side (h axis side) (k axis side) in
+    λ i.
+    record {
+      x = record { greatest = same X Greatest i; least = same X Least i };
+      y = record { greatest = same Y Greatest i; least = same Y Least i };
+      z = record { greatest = same Z Greatest i; least = same Z Least i };
+    }
+
+pub reported-unique : (c : Carried) (before : List ℕ) {after after′ : List ℕ} {w w′ : Writing}
+    → Reported c before after w → Reported c before after′ w′ → (w ≡ w′) × (after ≡ after′)
+reported-unique c before {after′ = after′} {w′ = w′} h k =
+    written-unique (sixText (h .six)) before (h .written)
+    (subst (λ (six : Six). Written (sixText six) before after′ w′) (six-unique c (k .shows) (h .shows)) (k .written))
+
+-- ---- permitted cases
+
+-- a choice is in the list of choices exactly if it has an alternative of each face
+module _ {F A : Type 0} (alternatives : F → List A) where
+  choices-only : (fs : List F) (ks : List A) → List·Memᴰ ks (choices alternatives fs) → Chosen alternatives fs ks
+  unfolding choices
+  choices-only [] [] m = tt
+  choices-only [] (k ∷ ks) m =
+      ⊎-elim (λ e. absurd (let z = ap length e in omega arith)) (λ n. absurd (List·Memᴰ·not-nil n)) (List·Memᴰ·cases-cons m)
+  choices-only (f ∷ fs) ks m =
+      let r = each-member (alternatives f) _ m in
+      let q = map-member _ (choices alternatives fs) (r .2) in
+      subst (Chosen alternatives (f ∷ fs)) (sym (q .2)) (r .1, choices-only fs (q .0) (q .1))
+
+  choices-all : (fs : List F) (ks : List A) → Chosen alternatives fs ks → List·Memᴰ ks (choices alternatives fs)
+  unfolding choices
+  choices-all [] [] h = List·Memᴰ·head refl
+  choices-all [] (k ∷ ks) h = absurd h
+  choices-all (f ∷ fs) [] h = absurd h
+  choices-all (f ∷ fs) (k ∷ ks) h =
+      member-each (λ k. map (λ ks. k ∷ ks) (choices alternatives fs)) (h .0) (Memᴰ·map (λ ks. k ∷ ks) (choices-all fs ks (h .1)))
+
+module _ {W I F A : Type 0} (l : Loads W I F A) (c : Case W I A) where
+  pub case-permitted : List·Memᴰ c (cases l) → Permitted l c
+  case-permitted m =
+      let h = cases-only l c m in
+      record { wind = h .wind; internal = h .internal; chosen = choices-only (l .alternatives (c .wind)) (l .faces) (c .chosen) (h .chosen) }
+
+  pub permitted-case : Permitted l c → List·Memᴰ c (cases l)
+  permitted-case h =
+      cases-all l c
+      (record { wind = h .wind; internal = h .internal; chosen = choices-all (l .alternatives (c .wind)) (l .faces) (c .chosen) (h .chosen) })
+
+-- ---- two jobs
+
+included : {X : Type 0} {xs ys : List X} → Includes ys xs → AllIn _≡_ xs ys
+included h x m = (x, h x m, refl)
+
+-- each wind has its faster one in its own place
+raised : (ws vs : List Wind) → Every WindInOrder ws → Raised ws vs → AllIn Faster ws vs
+raised [] [] o r x m = absurd (List·Memᴰ·not-nil m)
+raised [] (v ∷ vs) o r x m = absurd r
+raised (w ∷ ws) [] o r x m = absurd r
+raised (w ∷ ws) (v ∷ vs) o r x m =
+    ⊎-elim
+    (λ e. (v, List·Memᴰ·head refl, subst (λ (u : Wind). Faster u v) (sym e) (record { direction = r .0; some = omega (arith, o .0 .speed .low); risen = r .1 })))
+    (λ n. let t = raised ws vs (o .1) (r .2) x n in (t .0, List·Memᴰ·tail (t .1), t .2))
+    (List·Memᴰ·cases-cons m)
+
+module _ {c d : Carried} (o : InOrder c) (p : InOrder d) (axis : Axis) (side : Side) where
+  pub more-no-less : More c d → Within side (extreme axis side c .total) (extreme axis side d .total)
+  more-no-less m = extreme-more c d (m .building) (m .faces) o p (included (m .winds)) (included (m .internals)) axis side
+
+  pub faster-no-less : faster.Faster c d → Within side (pos 0) (extreme axis side c .total)
+      → Within side (extreme axis side c .total) (extreme axis side d .total)
+  faster-no-less m =
+      extreme-faster c d (m .building) (m .faces) o p (raised (c .winds) (d .winds) (o .winds) (m .winds))
+      (λ x n. (x, subst (List·Memᴰ x) (m .internals) n, refl)) axis side
