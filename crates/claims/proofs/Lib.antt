@@ -1,6 +1,7 @@
 -- What the customer was promised, as theorems: the three demands, the printed cases, and that no contract leaves a choice.
 pub mod Accepted
 pub mod Written
+pub mod Fault
 pub mod Shown
 pub mod Demand1
 pub mod Demand2

@@ -1,5 +1,6 @@
 -- What the demands speak of, beside the definitions of the other crates.
 pub mod Contract
 pub mod Written
+pub mod Fault
 pub mod Shown
 pub mod Doubles

@@ -1,0 +1,70 @@
+-- Lines with a first fault are read as refused with it, lines without one are accepted, and no lines have two first faults.
+use mathlib.Core.Path.{_≡_, refl, ap, _∙_}
+use mathlib.Core.Logic.{_⊎_, inl, inr}
+use mathlib.Core.List.{List}
+use Prim.Native.Nat.{ℕ, _+_}
+use native.Mathlib.Omega.{arith}
+use Rattle.form.specs.declared.Field.{Field}
+use Rattle.lines.specs.Lines.{rows}
+use Rattle.job.specs.declared.Job.{Job}
+use Rattle.job.specs.Carried.{Carried, nothing, carried}
+use Rattle.job.specs.Lines.{linesOf}
+use Rattle.job.specs.FirstFault.{Answers, in-order, faulty}
+use Rattle.job.specs.Walk.{Reading, Accepted, Refused, sheet, readLines, judged}
+use Rattle.job.proofs.FirstFault.{lines-answer, first-unique}
+use Rattle.job.proofs.RoundTrip.{judged-carried}
+use Rattle.sheet.specs.Sheet.{reading}
+use Rattle.claims.specs.Fault.{Faulty, at, Faultless}
+
+pub faulty-unique : (xs : List (List Field)) {n l m k : ℕ} → Faulty xs n l → Faulty xs m k → (n ≡ m) × (l ≡ k)
+faulty-unique xs (at f) (at g) = let u = first-unique sheet nothing xs f g in (u .1, ap (λ i. 1 + i) (u .0))
+
+module _ (xs : List (List Field)) where
+  faulty-answer : (r : Reading) → Answers sheet nothing xs 1 r → {n l : ℕ} → Faulty xs n l → r ≡ Refused n l
+  faulty-answer r (in-order d none) (at {n} {i} f) = absurd (none i n (f .some) (f .has))
+  faulty-answer r (faulty m h g) (at f) = let u = first-unique sheet nothing xs g f in rw (u .0, u .1)
+
+  faultless-answer : (r : Reading) → Answers sheet nothing xs 1 r → Faultless xs → (c : Carried) × (r ≡ Accepted c)
+  faultless-answer r (in-order d none) f = (d, refl)
+  faultless-answer r (faulty n i g) f = absurd (f i n (g .some) (g .has))
+
+  accepted-answer : (r : Reading) → Answers sheet nothing xs 1 r → (c : Carried) → r ≡ Accepted c → Faultless xs
+  accepted-answer r (in-order d none) c e = none
+  accepted-answer r (faulty n i g) c e = let z : _≡_ {A = ℕ} 0 1 = cc in absurd (omega arith)
+
+  either : (r : Reading) → Answers sheet nothing xs 1 r → Faultless xs ⊎ ((n : ℕ) × (l : ℕ) × Faulty xs n l)
+  either r (in-order d none) = inl none
+  either r (faulty n i f) = inr (n, 1 + i, at f)
+
+  pub faultless-or-faulty : Faultless xs ⊎ ((n : ℕ) × (l : ℕ) × Faulty xs n l)
+  faultless-or-faulty = either (readLines xs) (lines-answer xs)
+
+-- ---- a sheet and a job
+
+pub sheet-faulty : (s : List ℕ) {n l : ℕ} → Faulty (rows s) n l → reading s ≡ Refused n l
+unfolding reading
+sheet-faulty s f = faulty-answer (rows s) (readLines (rows s)) (lines-answer (rows s)) f
+
+pub sheet-faultless : (s : List ℕ) → Faultless (rows s) → (c : Carried) × (reading s ≡ Accepted c)
+unfolding reading
+sheet-faultless s f = faultless-answer (rows s) (readLines (rows s)) (lines-answer (rows s)) f
+
+pub sheet-accepted : (s : List ℕ) (c : Carried) → reading s ≡ Accepted c → Faultless (rows s)
+unfolding reading
+sheet-accepted s c e = accepted-answer (rows s) (readLines (rows s)) (lines-answer (rows s)) c e
+
+module _ (j : Job) where
+  pub job-faulty : {n l : ℕ} → Faulty (linesOf (carried j)) n l → judged j ≡ Refused n l
+  unfolding judged
+  job-faulty f = faulty-answer (linesOf (carried j)) (judged j) (lines-answer (linesOf (carried j))) f
+
+  pub job-faultless : Faultless (linesOf (carried j)) → judged j ≡ Accepted (carried j)
+  unfolding judged
+  job-faultless f =
+      let r = faultless-answer (linesOf (carried j)) (judged j) (lines-answer (linesOf (carried j))) f in
+      r .1 ∙ ap Accepted (judged-carried j (r .0) (r .1))
+
+  pub job-accepted : (c : Carried) → judged j ≡ Accepted c → Faultless (linesOf (carried j)) × (c ≡ carried j)
+  unfolding judged
+  job-accepted c e =
+      (accepted-answer (linesOf (carried j)) (judged j) (lines-answer (linesOf (carried j))) c e, judged-carried j c e)
