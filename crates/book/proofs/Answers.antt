@@ -16,7 +16,7 @@ use Rattle.book.specs.Roofs.{roofValue}
 use Rattle.book.specs.Walls.{wallRow, wallCells, wallValue}
 use Rattle.building.specs.Order.{InOrder}
 use Rattle.building.specs.Building.{buildingFault, sizes}
-use Rattle.book.specs.Answer.{numberOf, lineOf, valuesOf}
+use Rattle.book.specs.Answer.{numberOf, lineOf, valuesOf, Alternatives, one, two}
 use Rattle.building.specs.declared.Question.{Question}
 use Rattle.building.specs.declared.Question.the-variants as asked
 use Rattle.building.specs.Places.{E, F, wallPlace, zoneOn, localOn, knows}
@@ -49,11 +49,6 @@ module _ (s : Sizes) (wind place : ℕ) where
   on-flat e f g = rw (e, ne-eqb (s .kind) 1 f, ne-eqb place F g)
 
 -- ---- how large they can be
-
--- the alternatives of a place, none above k in size: two only in zone F of a flat roof
-pub data Alternatives (k kind place : ℕ) : Answer → Type 0 where
-  one : {v : ℤ} → natAbs v ≤ k → Alternatives k kind place (One v)
-  two : {v w : ℤ} → natAbs v ≤ k → natAbs w ≤ k → place ≡ F → 2 ≤ kind → Alternatives k kind place (Two v w)
 
 -- a wall's value is its row's
 pub wall-on : (h a b col : ℕ) → wallValue h a b col ≡ cellIn wallCells (wallRow h a b) col *ℤ pos 10

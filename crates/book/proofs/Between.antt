@@ -9,7 +9,7 @@ use Rattle.whole.proofs.Parts.{add-law, up-neg, down-neg, up-scale, down-scale,
 use Rattle.whole.proofs.Order.{≤ℤ-antisym}
 use Rattle.whole.proofs.Size.{size-low, size-high, size-between}
 use Rattle.whole.proofs.Rounding.{roundAway-mono, roundAway-exact}
-use Rattle.book.specs.Line.{lineAt}
+use Rattle.book.specs.Line.{lineAt, Between}
 
 -- a mean of two numbers with weights p and q lies above what is below both, and below what is above both
 module _ (p q : ℕ) (v w m : ℤ) where
@@ -29,11 +29,6 @@ tenfold : (k : ℕ) → negℤ (pos k) *ℤ pos 10 ≡ negℤ (pos (k * 10))
 tenfold k =
     eq-by _ _
     (simp (up-scale, down-scale) (omega (arith, up-neg (pos k), down-neg (pos k), up-neg (pos (k * 10)), down-neg (pos (k * 10)))))
-
--- a value between two others, whichever is the larger
-pub record Between (v w z : ℤ) : Type 0 where
-  pub rising : v ≤ℤ w → (v ≤ℤ z) × (z ≤ℤ w)
-  pub falling : w ≤ℤ v → (w ≤ℤ z) × (z ≤ℤ v)
 
 module _ (v w : ℤ) (part whole : ℕ) (within : part ≤ whole) (some : 0 < whole) where
   both : (whole - part) + part ≡ whole

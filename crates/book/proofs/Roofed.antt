@@ -9,7 +9,7 @@ use lib.ListN.{getD}
 use borrow.Author.Tests.{eqb-true, eqb-false}
 use Rattle.whole.proofs.Table.{each-at}
 use Rattle.building.specs.declared.Sizes.{Sizes}
-use Rattle.book.specs.Line.{cellIn}
+use Rattle.book.specs.Line.{cellIn, Between}
 use Rattle.book.specs.Gable.{blockOf}
 use Rattle.building.specs.Roof.{roofOf}
 use Rattle.building.specs.Order.{InOrder}
@@ -17,7 +17,7 @@ use Rattle.book.specs.Roofs.{partAts, firstRow, partOf, spotIn, roofCell
 use Rattle.book.proofs.Spot.{Good, spot-good}
 use Rattle.book.proofs.Tables.{part, roof-small, gable-small, flat-small}
 use Rattle.book.proofs.Rows.{blockOf-most}
-use Rattle.book.proofs.Between.{Between, line-between, line-small}
+use Rattle.book.proofs.Between.{line-between, line-small}
 
 -- a part's first row stands at the least x of its kind
 gable-begins : (k : ℕ) → k < 3 → getD (partAts k) 0 0 ≡ roofOf 1 .least

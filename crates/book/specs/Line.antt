@@ -3,6 +3,7 @@ use mathlib.Core.Bool.{cond}
 use mathlib.Core.List.{List, [], _∷_}
 use Prim.Native.Nat.{ℕ, _+_, _-_, _*_}
 use lib.IntN.{ℤ, pos, _+ℤ_, _*ℤ_}
+use lib.Signed.{_≤ℤ_}
 use lib.Dec.{leb}
 use lib.ListN.{getD}
 use Rattle.whole.specs.Round.{roundAway}
@@ -39,3 +40,8 @@ cellIn cells i col = getD (getD cells i []) col (pos 0)
 
 abbrev pub valueAt : List (List ℤ) → ℕ → Spot → ℤ
 valueAt cells col s = lineAt (cellIn cells (s .lower) col) (cellIn cells (s .upper) col) (s .part) (s .whole)
+
+-- a value between two others, whichever is the larger
+pub record Between (v w z : ℤ) : Type 0 where
+  pub rising : v ≤ℤ w → (v ≤ℤ z) × (z ≤ℤ w)
+  pub falling : w ≤ℤ v → (w ≤ℤ z) × (z ≤ℤ v)

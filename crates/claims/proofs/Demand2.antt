@@ -12,14 +12,14 @@ use Rattle.lines.specs.Lines.{LinesInForm}
 use Rattle.building.specs.declared.Building.{Building}
 use Rattle.book.specs.declared.Answer.{Answer}
 use Rattle.book.specs.declared.Answer.the-variants.{One, Two, Refused}
-use Rattle.book.specs.Line.{cellIn, lineAt}
+use Rattle.book.specs.Line.{cellIn, lineAt, Between}
 use Rattle.book.specs.Walls.{wallRow, wallCells}
 use Rattle.book.specs.Roofs.{roofValue, roofCells, spotIn, partOf}
 use Rattle.building.specs.Building.{buildingFault, sizes}
 use Rattle.book.specs.Answer.{valuesOf}
 use Rattle.building.specs.Places.{F, zoneOn, localOn, knows, wallPlace}
 use Rattle.book.specs.Question.{wallColumn, gableColumn, flatColumn, bothSigns, outsideOf, netOf, less, tooGreat, then, minus}
-use Rattle.book.proofs.Between.{Between, line-between}
+use Rattle.book.proofs.Between.{line-between}
 use Rattle.building.proofs.Accepted.{in-order}
 use Rattle.book.proofs.Roofed.{roof-between}
 use Rattle.book.proofs.Answers.{answered, on-wall, wall-on, on-gable, on-f, on-flat}

@@ -1,4 +1,4 @@
--- What it is to round to the nearest whole number with a half going away from zero: `roundAway` does, and no other number is so near.
+-- `roundAway` rounds to the nearest whole number with a half going away from zero, and no other number is so near.
 use mathlib.Core.Path.{_≡_}
 use mathlib.Core.Logic.{⊎-elim}
 use Prim.Native.Nat.{ℕ, zero, suc, _+_, _-_, _*_, _%_, _≤_, _<_}
@@ -6,15 +6,10 @@ use native.Mathlib.Nat.{div-add-mod', mod-lt, mul-le-mul-right}
 use native.Mathlib.Omega.{arith}
 use lib.IntN.{ℤ, pos, negsuc, negℤ, natAbs, _-ℤ_, _*ℤ_}
 use lib.Signed.{_≤ℤ_, _<ℤ_}
-use Rattle.whole.specs.Round.{halfUp, roundAway}
+use Rattle.whole.specs.Round.{halfUp, roundAway, Nearest}
 use Rattle.whole.proofs.Parts.{up, down, up-neg, down-neg, sub-lawℤ, up-scale, down-scale, lt-at, natAbs-is}
 use Rattle.whole.proofs.Order.{≤ℤ-or-<ℤ, ≤ℤ-antisym}
 use Rattle.whole.proofs.Size.{natAbs-neg}
-
--- r is z / d rounded: it is off by no more than a half, and where by just a half, it is not nearer to zero than z / d
-pub record Nearest (z : ℤ) (d : ℕ) (r : ℤ) : Type 0 where
-  pub near : 2 * natAbs (r *ℤ pos d -ℤ z) ≤ d
-  pub away : 2 * natAbs (r *ℤ pos d -ℤ z) ≡ d → natAbs z ≤ natAbs r * d
 
 -- ---- how far off, in naturals
 

@@ -13,11 +13,11 @@ use Rattle.whole.specs.Lists.{firstOf, Every}
 use Rattle.whole.proofs.Parts.{lt-by}
 use Rattle.whole.proofs.Lists.{every-at, every-member, firstOf-length, firstOf-getD}
 use Rattle.book.specs.declared.Answer.{Answer}
-use Rattle.book.specs.Answer.{valuesOf}
+use Rattle.book.specs.Answer.{valuesOf, Alternatives, one, two}
 use Rattle.building.specs.Places.{knows}
 use Rattle.book.specs.Question.{outsideOf}
 use Rattle.building.proofs.Accepted.{good-fields}
-use Rattle.book.proofs.Answers.{Alternatives, one, two, zone-answered}
+use Rattle.book.proofs.Answers.{zone-answered}
 use Rattle.entry.specs.declared.Wind.{Wind}
 use Rattle.entry.specs.declared.Face.{Face}
 use Rattle.job.specs.declared.Job.{Job}
