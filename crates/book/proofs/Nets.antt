@@ -10,7 +10,7 @@ use Rattle.whole.proofs.Tests.{or-false}
 use Rattle.building.specs.declared.Building.{Building}
 use Rattle.book.specs.declared.Answer.the-variants.{One, Two, Refused}
 use Rattle.building.specs.Test.{beyond}
-use Rattle.book.specs.Question.{outsideOf, netOf, less}
+use Rattle.book.specs.Question.{outsideOf, netOf, net}
 
 pub internal-small : (z : ℤ) → beyond (negℤ (pos 100)) (pos 100) z ≡ false → natAbs z ≤ 100
 unfolding beyond
@@ -22,11 +22,11 @@ module _ (g : Building) (direction : ℤ) (place : ℕ) (internal : ℤ) where
   unfolding netOf
   net-refused e = rw e
 
-  pub net-one : {v : ℤ} → outsideOf g direction place ≡ One v → beyond (negℤ (pos 100)) (pos 100) internal ≡ false → netOf g direction place internal ≡ One (less v internal)
+  pub net-one : {v : ℤ} → outsideOf g direction place ≡ One v → beyond (negℤ (pos 100)) (pos 100) internal ≡ false → netOf g direction place internal ≡ One (net v internal)
   unfolding netOf
   net-one e f = rw (e, f)
 
-  pub net-two : {v w : ℤ} → outsideOf g direction place ≡ Two v w → beyond (negℤ (pos 100)) (pos 100) internal ≡ false → netOf g direction place internal ≡ Two (less v internal) (less w internal)
+  pub net-two : {v w : ℤ} → outsideOf g direction place ≡ Two v w → beyond (negℤ (pos 100)) (pos 100) internal ≡ false → netOf g direction place internal ≡ Two (net v internal) (net w internal)
   unfolding netOf
   net-two e f = rw (e, f)
 

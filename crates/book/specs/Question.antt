@@ -48,12 +48,12 @@ unfoldable pub outsideOf : Building → ℤ → ℕ → Answer
 outsideOf g direction place = answer (askedOf g direction place) (natAbs direction) place
 
 -- net = outside minus internal, which is in hundredths
-abbrev pub less : ℤ → ℤ → ℤ
-less v internal = v -ℤ internal *ℤ pos 10
+abbrev pub net : ℤ → ℤ → ℤ
+net outside internal = outside -ℤ internal *ℤ pos 10
 
 abbrev pub minus : Answer → ℤ → Answer
-minus (One v) internal = One (less v internal)
-minus (Two v w) internal = Two (less v internal) (less w internal)
+minus (One v) internal = One (net v internal)
+minus (Two v w) internal = Two (net v internal) (net w internal)
 minus (Refused number line) internal = Refused number line
 
 -- beyond 1 in size, in hundredths

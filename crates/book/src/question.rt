@@ -109,7 +109,7 @@ pub(crate) fn too_great(internal: i64) -> bool
 // Hundredths taken off thousandths.
 pub(crate) fn less(v: i32, internal: i64) -> i32
     requires { ⌜ (natAbs v ≤ 2500) × (natAbs internal ≤ 100) ⌝ }
-    ensures { λ r. ⌜ r ≡ question.less v internal ⌝ }
+    ensures { λ r. ⌜ r ≡ question.net v internal ⌝ }
 {
     ((v as i64) - internal * 10) as i32
 }

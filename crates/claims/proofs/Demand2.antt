@@ -18,7 +18,7 @@ use Rattle.book.specs.Roofs.{roofValue, roofCells, spotIn, partOf}
 use Rattle.building.specs.Building.{buildingFault, sizes}
 use Rattle.book.specs.Answer.{valuesOf}
 use Rattle.building.specs.Places.{F, zoneOn, localOn, knows, wallPlace}
-use Rattle.book.specs.Question.{wallColumn, gableColumn, flatColumn, bothSigns, outsideOf, netOf, less, tooGreat, then, minus}
+use Rattle.book.specs.Question.{wallColumn, gableColumn, flatColumn, bothSigns, outsideOf, netOf, net, tooGreat, then, minus}
 use Rattle.book.proofs.Between.{line-between}
 use Rattle.building.proofs.Accepted.{in-order}
 use Rattle.book.proofs.Roofed.{roof-between}
@@ -35,7 +35,7 @@ use Rattle.sheet.proofs.RoundTrip.{read-written, read-rewritten, written-read, 
 use Rattle.sheet.proofs.Part.{part-decides}
 use Rattle.worst.specs.declared.Axis.{Axis}
 use Rattle.worst.specs.Cases.{Case, total, caseTotal}
-use Rattle.worst.specs.Forces.{acts, alternatives, net, pressure, area, force, windAt, internalAt, loads}
+use Rattle.worst.specs.Forces.{acts, alternatives, pressure, area, force, windAt, internalAt, loads}
 use Rattle.worst.specs.Worst.{given}
 use Rattle.worst.proofs.Accepted.{given-in-range}
 use Rattle.worst.proofs.Ranges.{caseTotal-small}
@@ -74,11 +74,11 @@ roof-between-rows g good roofed col = roof-between (sizes g) (in-order g good) r
 
 -- Outside minus internal, alternative by alternative; what is refused outside is refused net.
 pub net-coefficients : (g : Building) (direction : ℤ) (place : ℕ) (internal : ℤ) → tooGreat internal ≡ false
-    → valuesOf (netOf g direction place internal) ≡ map (λ v. less v internal) (valuesOf (outsideOf g direction place))
+    → valuesOf (netOf g direction place internal) ≡ map (λ v. net v internal) (valuesOf (outsideOf g direction place))
 unfolding netOf
 net-coefficients g direction place internal ok = go (outsideOf g direction place)
   where
-    go : (r : Answer) → valuesOf (then r (cond (tooGreat internal) (Refused 3 0) (minus r internal))) ≡ map (λ v. less v internal) (valuesOf r)
+    go : (r : Answer) → valuesOf (then r (cond (tooGreat internal) (Refused 3 0) (minus r internal))) ≡ map (λ v. net v internal) (valuesOf r)
     go (One v) = rw ok
     go (Two v w) = rw ok
     go (Refused number line) = refl

@@ -15,7 +15,8 @@ use Rattle.entry.specs.declared.Face.{Face}
 use Rattle.worst.specs.Best.{Within, at}
 use Rattle.worst.specs.Cases.{Case, numbers, worst}
 use Rattle.job.specs.Carried.{noWind}
-use Rattle.worst.specs.Forces.{Given, acts, alternatives, outsides, net, pressure, area, force, windAt, internalAt, loads}
+use Rattle.book.specs.Question.{net}
+use Rattle.worst.specs.Forces.{Given, acts, alternatives, outsides, pressure, area, force, windAt, internalAt, loads}
 use Rattle.worst.proofs.Lists.{numbers-member, member-numbers, getD-member, member-getD}
 use Rattle.worst.proofs.Scale.{Raised}
 use Rattle.worst.proofs.Growth.{worst-more, worst-faster}

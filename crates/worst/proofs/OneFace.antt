@@ -13,7 +13,8 @@ use Rattle.worst.specs.declared.Axis.the-variants.{X, Y, Z}
 use Rattle.worst.specs.declared.surface.Surface.{Surface}
 use Rattle.worst.specs.Best.{short, Best, none, at, better, best}
 use Rattle.worst.specs.Cases.{numbers}
-use Rattle.worst.specs.Forces.{acts, net, area}
+use Rattle.book.specs.Question.{net}
+use Rattle.worst.specs.Forces.{acts, area}
 use Rattle.worst.specs.Engine.{noSurface, surfaceWith, surfaceOf, areaOf, further, which, reach, pick}
 use Rattle.worst.proofs.Sides.{within-refl, within-long}
 use Rattle.worst.proofs.Scaled.{further-scaled, which-scaled}

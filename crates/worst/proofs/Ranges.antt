@@ -15,7 +15,8 @@ use Rattle.entry.specs.declared.Wind.{Wind}
 use Rattle.entry.specs.declared.Face.{Face}
 use Rattle.worst.specs.Cases.{Case, total, caseTotal}
 use Rattle.job.specs.Carried.{noWind}
-use Rattle.worst.specs.Forces.{Given, acts, outsides, net, pressure, area, force, windAt, internalAt, loads}
+use Rattle.book.specs.Question.{net}
+use Rattle.worst.specs.Forces.{Given, acts, outsides, pressure, area, force, windAt, internalAt, loads}
 use Rattle.worst.specs.Engine.{Small, noSurface, surfaceWith, surfaceOf}
 use Rattle.worst.proofs.Lists.{getD-all}
 

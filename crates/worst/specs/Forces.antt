@@ -3,10 +3,11 @@ use mathlib.Core.Bool.{Bool, cond, _||_}
 use mathlib.Core.List.{List, [], _∷_}
 use Prim.Native.Nat.{ℕ, _-_, _*_}
 use lib.Dec.{eqb}
-use lib.IntN.{ℤ, pos, _-ℤ_, _*ℤ_}
+use lib.IntN.{ℤ, pos, _*ℤ_}
 use lib.ListN.{length, getD}
 use Rattle.worst.specs.declared.Axis.{Axis}
 use Rattle.worst.specs.declared.Axis.the-variants.{X, Y, Z}
+use Rattle.book.specs.Question.{net}
 use Rattle.entry.specs.declared.Wind.{Wind}
 use Rattle.entry.specs.declared.Face.{Face}
 use Rattle.job.specs.Carried.{noWind}
@@ -33,10 +34,6 @@ outsides g w f = g .outside (w .direction) (f .zone)
 -- the numbers of its alternatives: as many as it has outside coefficients, and one where it adds nothing
 abbrev pub alternatives : Given → Wind → Face → List ℕ
 alternatives g w f = cond (acts f (w .direction)) (numbers (length (outsides g w f)) 1) (1 ∷ [])
-
--- outside minus internal, which is in hundredths
-abbrev pub net : ℤ → ℤ → ℤ
-net outside internal = outside -ℤ internal *ℤ pos 10
 
 -- P = density × V²
 abbrev pub pressure : ℤ → Wind → ℤ

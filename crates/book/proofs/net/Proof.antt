@@ -10,7 +10,7 @@ use borrow.Author.Needs.{needs}
 use Rattle.whole.proofs.Size.{returned, said}
 use Rattle.book.specs.declared.Answer.the-variants.{One, Two}
 use Rattle.building.specs.Test.{beyond}
-use Rattle.book.specs.Question.{outsideOf, less}
+use Rattle.book.specs.Question.{outsideOf, net}
 use Rattle.book.proofs.Answers.{Small, answer-small}
 use Rattle.book.proofs.Nets.{internal-small, net-refused, net-one, net-two, net-bad-one, net-bad-two}
 use Rattle.book.proofs.net.Statement.{statement}
@@ -25,7 +25,7 @@ asked c =
 small : (c : tie.After-outside) → Small (c .outside .result)
 small c = let a = c .before .args in subst Small (sym (asked c)) (answer-small (a .g) (a .direction) (a .place))
 
--- a test of the internal coefficient, and an argument of `less`, said of the numbers
+-- a test of the internal coefficient, and an argument of `net`, said of the numbers
 tested : (z : ℤ) {r t : Bool} → r ≡ beyond (negℤ (pos 100)) (pos 100) (toZ w64 (ofZ w64 z)) → mag z < 2 ^ 63 → r ≡ t → beyond (negℤ (pos 100)) (pos 100) z ≡ t
 tested z e h f = sym (said (beyond (negℤ (pos 100)) (pos 100)) z e h) ∙ f
 
@@ -33,8 +33,8 @@ fine : (v z : ℤ) → mag v < 2 ^ 31 → mag z < 2 ^ 63 → natAbs v ≤ 2500 �
 fine v z f h k e =
     (subst (λ (y : ℤ). natAbs y ≤ 2500) (sym (returned w32 v f .same)) k, subst (λ (y : ℤ). natAbs y ≤ 100) (sym (returned w64 z h .same)) (internal-small z e))
 
-taken-off : (v z r : ℤ) → mag v < 2 ^ 31 → mag z < 2 ^ 63 → mag r < 2 ^ 31 → r ≡ less (toZ w32 (ofZ w32 v)) (toZ w64 (ofZ w64 z)) → toZ w32 (ofZ w32 r) ≡ less v z
-taken-off v z r f h g e = returned w32 r g .same ∙ e ∙ ap₂ less (returned w32 v f .same) (returned w64 z h .same)
+taken-off : (v z r : ℤ) → mag v < 2 ^ 31 → mag z < 2 ^ 63 → mag r < 2 ^ 31 → r ≡ net (toZ w32 (ofZ w32 v)) (toZ w64 (ofZ w64 z)) → toZ w32 (ofZ w32 r) ≡ net v z
+taken-off v z r f h g e = returned w32 r g .same ∙ e ∙ ap₂ net (returned w32 v f .same) (returned w64 z h .same)
 
 outside-requires : tie.Need-outside-requires
 outside-requires c κs = search needs
