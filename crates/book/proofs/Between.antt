@@ -69,3 +69,19 @@ module _ (v w : ℤ) (part whole : ℕ) (within : part ≤ whole) (some : 0 < wh
       size-between (lineAt v w part whole) (k * 10)
       (subst (λ (z : ℤ). z ≤ℤ lineAt v w part whole) (tenfold k) (line-above (negℤ (pos k)) (size-low v k h) (size-low w k g)))
       (line-below (pos k) (size-high v k h) (size-high w k g))
+
+-- at either end of the way it is that end's
+module _ (v w : ℤ) (n : ℕ) (some : 0 < n) where
+  weighed : (p q : ℕ) (z : ℤ) → n - q ≡ p → (v *ℤ pos p +ℤ w *ℤ pos q) *ℤ pos 10 ≡ (z *ℤ pos 10) *ℤ pos n → lineAt v w q n ≡ z *ℤ pos 10
+  unfolding lineAt
+  weighed p q z e f = rw (e, f) (roundAway-exact (z *ℤ pos 10) n some)
+
+  pub line-first : lineAt v w 0 n ≡ v *ℤ pos 10
+  line-first =
+      weighed n 0 v (omega arith)
+      (eq-by _ _ (simp (up-scale, down-scale) (omega (arith, simp (up-scale, down-scale) at (add-law (v *ℤ pos n) (w *ℤ pos 0))))))
+
+  pub line-last : lineAt v w n n ≡ w *ℤ pos 10
+  line-last =
+      weighed 0 n w (omega arith)
+      (eq-by _ _ (simp (up-scale, down-scale) (omega (arith, simp (up-scale, down-scale) at (add-law (v *ℤ pos 0) (w *ℤ pos n))))))

@@ -1,5 +1,7 @@
 -- The laws of the tables and of the answers.
 pub mod Between
+pub mod Neighbours
+pub mod Interpolated
 pub mod Spot
 pub mod Tables
 pub mod Rows
