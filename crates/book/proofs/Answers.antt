@@ -24,7 +24,7 @@ use Rattle.building.specs.Question.{askedOf}
 use Rattle.building.proofs.Places.{needs-roof, must-be-E}
 use Rattle.building.proofs.Judged.{Told, told, in-question}
 use Rattle.book.specs.Question.{wallColumn, gableColumn, flatColumn, bothSigns, coefficientOf, answer, outsideOf}
-use Rattle.book.proofs.Between.{line-on, line-small}
+use Rattle.book.proofs.Between.{value-on, line-small}
 use Rattle.book.proofs.Tables.{wall-small}
 use Rattle.building.proofs.Accepted.{in-order}
 use Rattle.book.proofs.Roofed.{roofValue-small, flatValue-small, gableValue-small}
@@ -52,7 +52,7 @@ module _ (s : Sizes) (wind place : ℕ) where
 
 -- a wall's value is its row's
 pub wall-on : (h a b col : ℕ) → wallValue h a b col ≡ cellIn wallCells (wallRow h a b) col *ℤ pos 10
-wall-on h a b col = let c = cellIn wallCells (wallRow h a b) col in line-on c c 0 1 (lit≤ tt) (lit< tt) refl
+wall-on h a b col = value-on wallCells (wallRow h a b) col
 
 wallValue-small : (h a b col : ℕ) → natAbs (wallValue h a b col) ≤ 1200
 wallValue-small h a b col =

@@ -1,12 +1,11 @@
 -- The value of a column between the rows of a table: there is one only, and it lies between its rows.
 use mathlib.Core.Path.{_≡_, sym, ap, ap₂, _∙_}
-use mathlib.Core.Logic.{_⊎_, inl, inr}
-use mathlib.Core.List.{List, [], _∷_}
-use Prim.Native.Nat.{ℕ, _-_, _*_, _≤_, _<_}
+use mathlib.Core.Logic.{inl, inr}
+use mathlib.Core.List.{List}
+use Prim.Native.Nat.{ℕ, _-_, _*_, _<_}
 use native.Mathlib.Nat.{mul-lt-mul-of-pos-right}
 use native.Mathlib.Omega.{arith}
 use lib.IntN.{ℤ, pos, _*ℤ_}
-use Rattle.whole.specs.Round.{Nearest}
 use Rattle.whole.proofs.Nearest.{roundAway-nearest, nearest-unique}
 use Rattle.book.specs.Line.{Row, lineAt, Between}
 use Rattle.book.specs.Interpolated.{Rising, LiesBetween, hundredths, NearLine, Interpolated, between, alone}
@@ -36,10 +35,12 @@ module _ (rows : List Row) (rises : Rising rows) (col x d : ℕ) (some : 0 < d) 
     near-line {v} n = nearest-unique _ _ (omega (arith, apart b)) v (onLine lower upper col x d) n line-near
 
   -- on a row itself both pairs of neighbours give that row's
-  on-upper : (lower upper : Row) → LiesBetween rows x d lower upper → x ≡ upper .at * d → onLine lower upper col x d ≡ hundredths upper col *ℤ pos 10
+  on-upper : (lower upper : Row) → LiesBetween rows x d lower upper → x ≡ upper .at * d
+      → onLine lower upper col x d ≡ hundredths upper col *ℤ pos 10
   on-upper lower upper b e = rw e (line-last (hundredths lower col) (hundredths upper col) _ (omega (arith, apart b)))
 
-  on-lower : (lower upper : Row) → LiesBetween rows x d lower upper → lower .at * d ≡ x → onLine lower upper col x d ≡ hundredths lower col *ℤ pos 10
+  on-lower : (lower upper : Row) → LiesBetween rows x d lower upper → lower .at * d ≡ x
+      → onLine lower upper col x d ≡ hundredths lower col *ℤ pos 10
   on-lower lower upper b e =
       let none : x - lower .at * d ≡ 0 = omega arith in
       rw none (line-first (hundredths lower col) (hundredths upper col) _ (omega (arith, apart b)))
@@ -51,7 +52,8 @@ module _ (rows : List Row) (rises : Rising rows) (col x d : ℕ) (some : 0 < d) 
         on-upper l u b (omega arith) ∙ ap (λ (r : Row). hundredths r col *ℤ pos 10) e ∙ sym (on-lower l′ u′ c (omega arith))
     one-before (inr h) = absurd (omega (arith, mul-lt-mul-of-pos-right h some))
 
-  same-line : {l u l′ u′ : Row} → LiesBetween rows x d l u → LiesBetween rows x d l′ u′ → onLine l u col x d ≡ onLine l′ u′ col x d
+  same-line : {l u l′ u′ : Row} → LiesBetween rows x d l u → LiesBetween rows x d l′ u′
+      → onLine l u col x d ≡ onLine l′ u′ col x d
   same-line {l} {u} {l′} {u′} b c = go (meet rows rises (b .next) (c .next))
     where
       go : Met l u l′ u′ → onLine l u col x d ≡ onLine l′ u′ col x d
@@ -68,7 +70,8 @@ module _ (rows : List Row) (rises : Rising rows) (col x d : ℕ) (some : 0 < d) 
       f ∙ ap (λ (q : Row). hundredths q col *ℤ pos 10) same ∙ sym h
 
   -- "It therefore lies between the neighbouring rows, ends included."
-  pub interpolated-between : {v : ℤ} {lower upper : Row} → Interpolated rows col x d v → LiesBetween rows x d lower upper → Between (hundredths lower col *ℤ pos 10) (hundredths upper col *ℤ pos 10) v
+  pub interpolated-between : {v : ℤ} {lower upper : Row} → Interpolated rows col x d v → LiesBetween rows x d lower upper
+      → Between (hundredths lower col *ℤ pos 10) (hundredths upper col *ℤ pos 10) v
   interpolated-between {v} {lower} {upper} i b =
       rw (interpolated-unique i (between b (line-near lower upper b)))
       (line-between (hundredths lower col) (hundredths upper col) _ _ (omega arith) (omega (arith, apart b)))

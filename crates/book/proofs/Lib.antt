@@ -3,9 +3,11 @@ pub mod Between
 pub mod Neighbours
 pub mod Interpolated
 pub mod Spot
+pub mod Walked
 pub mod Tables
 pub mod Rows
 pub mod Roofed
 pub mod Columns
 pub mod Answers
+pub mod Coefficients
 pub mod Nets

@@ -7,10 +7,12 @@ use native.Mathlib.Omega.{arith}
 use Rattle.book.specs.Line.{Row}
 use Rattle.book.specs.Interpolated.{Neighbours, first, later, Rising}
 
+-- a table's only row has no neighbour
 pub two-rows : {lower upper r : Row} {rows : List Row} → Neighbours rows lower upper → rows ≡ r ∷ [] → ⊥
 two-rows first e = let z : _≡_ {A = ℕ} 0 1 = cc in omega arith
 two-rows (later n) e = let z : _≡_ {A = ℕ} 0 1 = cc in omega arith
 
+-- of neighbours the upper stands at the larger number
 pub neighbours-rise : {lower upper : Row} (rows : List Row) → Rising rows → Neighbours rows lower upper → lower .at < upper .at
 neighbours-rise (r ∷ s ∷ rows) h first = h .0
 neighbours-rise (r ∷ s ∷ rows) h (later n) = neighbours-rise (s ∷ rows) (h .1) n

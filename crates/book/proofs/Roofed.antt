@@ -13,9 +13,11 @@ use Rattle.book.specs.Line.{cellIn, Between}
 use Rattle.book.specs.Gable.{blockOf}
 use Rattle.building.specs.Roof.{roofOf}
 use Rattle.building.specs.Order.{InOrder}
-use Rattle.book.specs.Roofs.{partAts, firstRow, partOf, spotIn, roofCells, roofValue}
+use Rattle.book.specs.Roofs.{partRows, partAts, firstRow, partOf, spotIn, roofCells, roofValue}
 use Rattle.book.proofs.Spot.{Good, spot-good}
-use Rattle.book.proofs.Tables.{part, roof-small, gable-small, flat-small}
+use Rattle.book.specs.Interpolated.{Rising, Interpolated}
+use Rattle.book.proofs.Walked.{lastAt, rows-rise, walked-interpolated}
+use Rattle.book.proofs.Tables.{part-printed, part, roof-small, gable-small, flat-small}
 use Rattle.book.proofs.Rows.{blockOf-most}
 use Rattle.book.proofs.Between.{line-between, line-small}
 
@@ -29,6 +31,16 @@ unfolding partAts roofOf
 flat-begins =
     each-at (λ (kind : ℕ). getD (partAts (kind + 1)) 0 0 ≡ roofOf kind .least) 6 (refl, (refl, (refl, (refl, (refl, (refl, tt))))))
 
+-- and its last at the greatest
+gable-ends : (k : ℕ) → k < 3 → lastAt (partRows k) ≡ roofOf 1 .greatest
+unfolding roofOf
+gable-ends = each-at (λ (k : ℕ). lastAt (partRows k) ≡ roofOf 1 .greatest) 3 (refl, (refl, (refl, tt)))
+
+flat-ends : (kind : ℕ) → kind < 6 → 2 ≤ kind → lastAt (partRows (kind + 1)) ≡ roofOf kind .greatest
+unfolding roofOf
+flat-ends =
+    each-at (λ (kind : ℕ). 2 ≤ kind → lastAt (partRows (kind + 1)) ≡ roofOf kind .greatest) 6 (λ h. refl, (λ h. refl, (λ h. refl, (λ h. refl, (λ h. absurd (omega arith), (λ h. absurd (omega arith), tt))))))
+
 gable-end : (k : ℕ) → k < 4 → firstRow k ≤ 22
 unfolding firstRow
 gable-end = each-at (λ (k : ℕ). firstRow k ≤ 22) 4 (lit≤ tt, (lit≤ tt, (lit≤ tt, (lit≤ tt, tt))))
@@ -37,6 +49,7 @@ gable-end = each-at (λ (k : ℕ). firstRow k ≤ 22) 4 (lit≤ tt, (lit≤ tt, 
 pub record Covered (s : Sizes) (k : ℕ) : Type 0 where
   pub below : k < 7
   pub begins : getD (partAts k) 0 0 ≡ roofOf (s .kind) .least
+  pub ends : lastAt (partRows k) ≡ roofOf (s .kind) .greatest
   pub gable : s .kind ≡ 1 → k < 3
 
 module _ (s : Sizes) (o : InOrder s) (roofed : 0 < s .kind) where
@@ -47,11 +60,11 @@ module _ (s : Sizes) (o : InOrder s) (roofed : 0 < s .kind) where
       go true e =
           let q = eqb-true (s .kind) 1 e in
           let block = blockOf-most (s .h) (s .b) (o .h-over-b) in
-          record { below = omega arith; begins = gable-begins (blockOf (s .h) (s .b)) (omega arith) ∙ ap (λ (n : ℕ). roofOf n .least) (sym q); gable = λ p. omega arith }
+          record { below = omega arith; begins = gable-begins (blockOf (s .h) (s .b)) (omega arith) ∙ ap (λ (n : ℕ). roofOf n .least) (sym q); ends = gable-ends (blockOf (s .h) (s .b)) (omega arith) ∙ ap (λ (n : ℕ). roofOf n .greatest) (sym q); gable = λ p. omega arith }
       go false e =
           let q = eqb-false (s .kind) 1 e in
           let most = o .ranged .kind-most in
-          record { below = omega arith; begins = flat-begins (s .kind) (omega arith); gable = λ p. absurd (q p) }
+          record { below = omega arith; begins = flat-begins (s .kind) (omega arith); ends = flat-ends (s .kind) (omega arith) (omega arith); gable = λ p. absurd (q p) }
 
   -- x is not before the part's first row
   pub reached : getD (partAts (partOf s)) 0 0 * s .across ≤ s .along
@@ -72,6 +85,18 @@ module _ (s : Sizes) (o : InOrder s) (roofed : 0 < s .kind) where
       let e = part (partOf s) (covered .below) .end in
       let f = found in
       record { from = omega arith; lower = omega arith; upper = omega arith; within = f .within; some = f .some; small = f .small }
+
+  pub roof-rises : Rising (partRows (partOf s))
+  unfolding partAts
+  roof-rises = rows-rise 900 (partRows (partOf s)) (part (partOf s) (covered .below) .rises)
+
+  -- the value of a column is the one between the rows of the part
+  pub roof-interpolated : (col : ℕ) → Interpolated (partRows (partOf s)) col (s .along) (s .across) (roofValue s col)
+  unfolding roofValue spotIn partAts
+  roof-interpolated col =
+      let p = part (partOf s) (covered .below) in
+      walked-interpolated roofCells _ col (s .along) (s .across) (o .ranged .across-least) 900 (firstRow (partOf s)) (partRows (partOf s)) (part-printed (partOf s) (covered .below)) (p .rises) reached
+      (subst (λ (n : ℕ). s .along ≤ n * s .across) (sym (covered .ends)) (o .x-to))
 
   -- the value lies between its two rows, ends included
   pub roof-between : (col : ℕ) → let r = spotIn (partOf s) (s .along) (s .across) in Between (cellIn roofCells (r .lower) col *ℤ pos 10) (cellIn roofCells (r .upper) col *ℤ pos 10) (roofValue s col)

@@ -1,7 +1,7 @@
 -- What holds of every entry of the printed tables, each by one test over the whole of them.
 use mathlib.Core.Path.{_≡_, refl, subst}
 use mathlib.Core.Bool.{Bool}
-use mathlib.Core.List.{List, [], _∷_, map}
+use mathlib.Core.List.{List, [], _∷_, _++_, map}
 use Prim.Native.Nat.{ℕ, zero-le, _+_, _-_, _≤_, _<_}
 use lib.Dec.{T, leb, leb→le, le→leb, lit≤}
 use lib.IntN.{ℤ, pos, natAbs}
@@ -10,8 +10,9 @@ use lib.Seq.{getD-take}
 use Rattle.whole.proofs.Table.{all, all-at, each-at}
 use Rattle.book.specs.Line.{Row, cellIn}
 use Rattle.book.specs.Walls.{wallCells}
-use Rattle.book.specs.Roofs.{parts, joined, roofCells, partAts, firstRow}
+use Rattle.book.specs.Roofs.{parts, joined, roofCells, partRows, partAts, firstRow}
 use Rattle.book.proofs.Spot.{rising}
+use Rattle.book.proofs.Walked.{printed}
 
 -- ---- how large the hundredths are
 
@@ -44,6 +45,12 @@ flat-small i col h =
     (all-at (small 120) (take 2 (getD roofCells i [])) (pos 0) tt (all-at (λ (l : List ℤ). all (small 120) (take 2 l)) roofCells [] tt tt i) col))
 
 -- ---- the parts of the roofs' tables
+
+-- their rows are printed one after the other
+pub part-printed : (k : ℕ) → k < 7 → drop (firstRow k) roofCells ≡ printed (partRows k) ++ printed (joined (drop (k + 1) parts))
+unfolding firstRow roofCells
+part-printed =
+    each-at (λ (k : ℕ). drop (firstRow k) roofCells ≡ printed (partRows k) ++ printed (joined (drop (k + 1) parts))) 7 (refl, (refl, (refl, (refl, (refl, (refl, (refl, tt)))))))
 
 -- the numbers at which all rows stand
 abbrev pub ats : List ℕ

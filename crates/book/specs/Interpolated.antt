@@ -1,4 +1,4 @@
--- What the value of a column between the rows of a table is, said of the printed rows. Nothing here says how it is found.
+-- What the value of a column between the rows of a table is, said of the printed rows and not of how it is found.
 use mathlib.Core.Path.{_≡_}
 use mathlib.Core.List.{List, [], _∷_}
 use Prim.Native.Nat.{ℕ, _-_, _*_, _≤_, _<_}
@@ -10,7 +10,8 @@ use Rattle.book.specs.Line.{Row}
 -- two rows that follow each other
 pub data Neighbours : List Row → Row → Row → Type 0 where
   first : {lower upper : Row} {rows : List Row} → Neighbours (lower ∷ upper ∷ rows) lower upper
-  later : {lower upper r s : Row} {rows : List Row} → Neighbours (s ∷ rows) lower upper → Neighbours (r ∷ s ∷ rows) lower upper
+  later : {lower upper r s : Row} {rows : List Row} → Neighbours (s ∷ rows) lower upper
+      → Neighbours (r ∷ s ∷ rows) lower upper
 
 -- each row stands at a larger number than the one before it
 abbrev pub Rising : List Row → Type 0
@@ -28,14 +29,15 @@ pub record LiesBetween (rows : List Row) (x d : ℕ) (lower upper : Row) : Type 
 abbrev pub hundredths : Row → ℕ → ℤ
 hundredths r col = getD (r .cells) col (pos 0)
 
--- v, in thousandths, is nearest to what column col has at x/d on the straight line from one row to another, a half going away from zero
+-- v, in thousandths, is nearest to what column col has at x/d on the straight line from row to row, a half going away from zero
 abbrev pub NearLine : Row → Row → ℕ → ℕ → ℕ → ℤ → Type 0
 NearLine lower upper col x d v =
     let s = lower .at * d in
     let t = upper .at * d in
     Nearest ((hundredths lower col *ℤ pos (t - x) +ℤ hundredths upper col *ℤ pos (x - s)) *ℤ pos 10) (t - s) v
 
--- v, in thousandths, is the value of column col at x/d: between two neighbouring rows it is nearest to the straight line, and where there is one row only it is that row's
+-- v, in thousandths, is the value of column col at x/d: nearest to the straight line between two neighbouring rows,
+-- or, where the table has one row only, that row's
 pub data Interpolated (rows : List Row) (col x d : ℕ) (v : ℤ) : Type 0 where
   between : {lower upper : Row} → LiesBetween rows x d lower upper → NearLine lower upper col x d v → Interpolated rows col x d v
   alone : {r : Row} → rows ≡ r ∷ [] → v ≡ hundredths r col *ℤ pos 10 → Interpolated rows col x d v

@@ -8,3 +8,4 @@ pub mod Flat
 pub mod Roofs
 pub mod Answer
 pub mod Question
+pub mod Coefficient

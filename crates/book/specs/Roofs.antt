@@ -22,9 +22,12 @@ joined (l ∷ ls) = l ++ joined ls
 unfoldable pub roofCells : List (List ℤ)
 roofCells = map (λ (r : Row). r .cells) (joined parts)
 
--- part k: the numbers at which its rows stand, and how many rows stand before it
+-- part k: its rows, the numbers at which they stand, and how many rows stand before it
+abbrev pub partRows : ℕ → List Row
+partRows k = getD parts k []
+
 unfoldable pub partAts : ℕ → List ℕ
-partAts k = map (λ (r : Row). r .at) (getD parts k [])
+partAts k = map (λ (r : Row). r .at) (partRows k)
 
 unfoldable pub firstRow : ℕ → ℕ
 firstRow k = length (joined (take k parts))
