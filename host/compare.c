@@ -3,6 +3,7 @@
 #include "aralimogga.h"
 #include "plain.h"
 #include "sheets.h"
+#include "step.h"
 #include "walk.h"
 #include <inttypes.h>
 #include <math.h>
@@ -235,7 +236,7 @@ static int right_doubles(int64_t n, const aral_double *d)
 {
     long double low = d->low, high = d->high, exact = (long double)n;
     if (d->exact) return d->exact == 1 && low == exact && high == exact && !(n == 0 && signbit(d->low));
-    return low < exact && exact < high && nextafter(d->low, INFINITY) == d->high;
+    return low < exact && exact < high && next_above(d->low) == d->high;
 }
 
 static void compare_digits(int64_t n, size_t room)

@@ -2,7 +2,7 @@
    shares no code and no table with the proved crates, so that where the two differ one of them misread the paper.
    With -DSTAND_IN its functions carry the library's own names, and tests can be tried without the library. */
 #include "plain.h"
-#include <math.h>
+#include "step.h"
 #include <string.h>
 
 #ifdef STAND_IN
@@ -516,8 +516,8 @@ aral_double ENTRY(panel)(int64_t total)
     const double top = 9223372036854775808.0; /* 2^63, where a total just below it rounds to */
     double near = (double)total;
     if (near < top && (int64_t)near == total) return (aral_double){1, near, near};
-    if (near < top && (int64_t)near < total) return (aral_double){0, near, nextafter(near, INFINITY)};
-    return (aral_double){0, nextafter(near, -INFINITY), near};
+    if (near < top && (int64_t)near < total) return (aral_double){0, near, next_above(near)};
+    return (aral_double){0, next_below(near), near};
 }
 
 aral_point ENTRY(chart)(int64_t x, int64_t y, int64_t z)
