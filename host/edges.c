@@ -1,9 +1,10 @@
 /* Lends the library buffers that lie against pages which can't be touched: edges SEED CASES. A byte read or written
-   outside a buffer ends the program. Refused calls leave every byte, and accepted ones every byte after the text. */
+   outside a buffer fails. Refused calls leave every byte, and accepted ones every byte after the text. */
 #define _DEFAULT_SOURCE
 #include "aralimogga.h"
 #include "plain.h"
 #include "sheets.h"
+#include <signal.h>
 #include <stdio.h>
 #include <stdlib.h>
 #include <string.h>
@@ -23,8 +24,29 @@ static void fail(const char *what)
 static fence make_fence(size_t size)
 {
     uint8_t *all = mmap(NULL, size + 2 * PAGE, PROT_NONE, MAP_PRIVATE | MAP_ANONYMOUS, -1, 0);
-    if (all == MAP_FAILED || mprotect(all + PAGE, size, PROT_READ | PROT_WRITE)) fail("no memory to be had");
+    if (all == MAP_FAILED || mprotect(all + PAGE, size, PROT_READ | PROT_WRITE)) {
+        fprintf(stderr, "no memory to be had\n");
+        exit(2);
+    }
     return (fence){all + PAGE, all + PAGE + size};
+}
+
+static int around(fence f, const uint8_t *at) { return f.start - PAGE <= at && at < f.end + PAGE; }
+
+/* Says what was touched. The load or store that brings us here is one of a call and none of printf's: it may print. */
+static void touched(int number, siginfo_t *info, void *context)
+{
+    (void)number;
+    (void)context;
+    if (around(output, info->si_addr)) fail("a page beside the buffer was touched");
+    if (around(input, info->si_addr)) fail("a page beside the sheet was touched, or the sheet written to");
+    fail("memory was touched that was not lent");
+}
+
+static void watch_pages(void)
+{
+    struct sigaction watch = {.sa_sigaction = touched, .sa_flags = SA_SIGINFO};
+    sigaction(SIGSEGV, &watch, NULL);
 }
 
 /* A copy of the text that can only be read, against the page after it or the page before it. */
@@ -186,12 +208,13 @@ int main(int argc, char **argv)
     dice die = {strtoull(argv[1], NULL, 10)};
     input = make_fence(TEXT_ROOM);
     output = make_fence(PAGE);
+    watch_pages();
     printf("seed %s\n", argv[1]);
     longest(&t);
-    no_pointers(&t);
     very_long(&t);
     every_length(&t);
     every_digit();
+    no_pointers(&t);
     for (unsigned long i = 0, cases = strtoul(argv[2], NULL, 10); i < cases; i++) {
         make_sample(&die, &s);
         write_sample(&s, &t);
