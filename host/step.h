@@ -1,4 +1,4 @@
-/* The doubles next to a finite one, by its bits: without the C mathematics library, which Debian's cross compilers can't
+/* The doubles next to a finite one, by its bits: without the C library's mathematics, which Debian's cross compiler can't
    link statically. */
 #ifndef STEP_H
 #define STEP_H
