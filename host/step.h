@@ -1,5 +1,5 @@
-/* The doubles next to a finite one, by its bits: without the C library's mathematics, which Debian's cross compiler can't
-   link statically. */
+/* The doubles next to a finite one, by its bits: libm is not asked, since Debian's cross compiler can't link it
+   statically. */
 #ifndef STEP_H
 #define STEP_H
 
