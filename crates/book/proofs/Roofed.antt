@@ -1,7 +1,7 @@
 -- The roof of a building in order: where its part of the tables begins, and the spot that is found there.
-use mathlib.Core.Path.{_≡_, refl, sym, ap, _∙_, subst}
+use mathlib.Core.Path.{_≡_, refl, sym, subst}
 use mathlib.Core.Bool.{Bool, true, false, cond}
-use Prim.Native.Nat.{ℕ, _+_, _*_, _≤_, _<_}
+use Prim.Native.Nat.{ℕ, _+_, _-_, _*_, _≤_, _<_}
 use native.Mathlib.Omega.{arith}
 use lib.Dec.{eqb, lit≤}
 use lib.IntN.{pos, natAbs, _*ℤ_}
@@ -10,12 +10,12 @@ use borrow.Author.Tests.{eqb-true, eqb-false}
 use Rattle.whole.proofs.Table.{each-at}
 use Rattle.building.specs.declared.Sizes.{Sizes}
 use Rattle.book.specs.Line.{cellIn, Between}
+use Rattle.book.specs.Interpolated.{Rising, Interpolated}
 use Rattle.book.specs.Gable.{blockOf}
 use Rattle.building.specs.Roof.{roofOf}
 use Rattle.building.specs.Order.{InOrder}
 use Rattle.book.specs.Roofs.{partRows, partAts, firstRow, partOf, spotIn, roofCells, roofValue}
 use Rattle.book.proofs.Spot.{Good, spot-good}
-use Rattle.book.specs.Interpolated.{Rising, Interpolated}
 use Rattle.book.proofs.Walked.{lastAt, rows-rise, walked-interpolated}
 use Rattle.book.proofs.Tables.{part-printed, part, roof-small, gable-small, flat-small}
 use Rattle.book.proofs.Rows.{blockOf-most}
@@ -36,10 +36,9 @@ gable-ends : (k : ℕ) → k < 3 → lastAt (partRows k) ≡ roofOf 1 .greatest
 unfolding roofOf
 gable-ends = each-at (λ (k : ℕ). lastAt (partRows k) ≡ roofOf 1 .greatest) 3 (refl, (refl, (refl, tt)))
 
-flat-ends : (kind : ℕ) → kind < 6 → 2 ≤ kind → lastAt (partRows (kind + 1)) ≡ roofOf kind .greatest
+flat-ends : (n : ℕ) → n < 4 → lastAt (partRows (n + 3)) ≡ roofOf (n + 2) .greatest
 unfolding roofOf
-flat-ends =
-    each-at (λ (kind : ℕ). 2 ≤ kind → lastAt (partRows (kind + 1)) ≡ roofOf kind .greatest) 6 (λ h. refl, (λ h. refl, (λ h. refl, (λ h. refl, (λ h. absurd (omega arith), (λ h. absurd (omega arith), tt))))))
+flat-ends = each-at (λ (n : ℕ). lastAt (partRows (n + 3)) ≡ roofOf (n + 2) .greatest) 4 (refl, (refl, (refl, (refl, tt))))
 
 gable-end : (k : ℕ) → k < 4 → firstRow k ≤ 22
 unfolding firstRow
@@ -60,11 +59,23 @@ module _ (s : Sizes) (o : InOrder s) (roofed : 0 < s .kind) where
       go true e =
           let q = eqb-true (s .kind) 1 e in
           let block = blockOf-most (s .h) (s .b) (o .h-over-b) in
-          record { below = omega arith; begins = gable-begins (blockOf (s .h) (s .b)) (omega arith) ∙ ap (λ (n : ℕ). roofOf n .least) (sym q); ends = gable-ends (blockOf (s .h) (s .b)) (omega arith) ∙ ap (λ (n : ℕ). roofOf n .greatest) (sym q); gable = λ p. omega arith }
+          record {
+            below = omega arith;
+            begins = rw q (gable-begins (blockOf (s .h) (s .b)) (omega arith));
+            ends = rw q (gable-ends (blockOf (s .h) (s .b)) (omega arith));
+            gable = λ p. omega arith;
+          }
       go false e =
           let q = eqb-false (s .kind) 1 e in
           let most = o .ranged .kind-most in
-          record { below = omega arith; begins = flat-begins (s .kind) (omega arith); ends = flat-ends (s .kind) (omega arith) (omega arith); gable = λ p. absurd (q p) }
+          let two : s .kind - 2 + 2 ≡ s .kind = omega arith in
+          let three : s .kind - 2 + 3 ≡ s .kind + 1 = omega arith in
+          record {
+            below = omega arith;
+            begins = flat-begins (s .kind) (omega arith);
+            ends = rw (two, three) at (flat-ends (s .kind - 2) (omega arith));
+            gable = λ p. absurd (q p);
+          }
 
   -- x is not before the part's first row
   pub reached : getD (partAts (partOf s)) 0 0 * s .across ≤ s .along
@@ -86,6 +97,7 @@ module _ (s : Sizes) (o : InOrder s) (roofed : 0 < s .kind) where
       let f = found in
       record { from = omega arith; lower = omega arith; upper = omega arith; within = f .within; some = f .some; small = f .small }
 
+  -- the part rises
   pub roof-rises : Rising (partRows (partOf s))
   unfolding partAts
   roof-rises = rows-rise 900 (partRows (partOf s)) (part (partOf s) (covered .below) .rises)
@@ -94,8 +106,10 @@ module _ (s : Sizes) (o : InOrder s) (roofed : 0 < s .kind) where
   pub roof-interpolated : (col : ℕ) → Interpolated (partRows (partOf s)) col (s .along) (s .across) (roofValue s col)
   unfolding roofValue spotIn partAts
   roof-interpolated col =
-      let p = part (partOf s) (covered .below) in
-      walked-interpolated roofCells _ col (s .along) (s .across) (o .ranged .across-least) 900 (firstRow (partOf s)) (partRows (partOf s)) (part-printed (partOf s) (covered .below)) (p .rises) reached
+      let k = partOf s in
+      let rises = part k (covered .below) .rises in
+      walked-interpolated roofCells _ col (s .along) (s .across) (o .ranged .across-least) 900 (firstRow k) (partRows k)
+      (part-printed k (covered .below)) rises reached
       (subst (λ (n : ℕ). s .along ≤ n * s .across) (sym (covered .ends)) (o .x-to))
 
   -- the value lies between its two rows, ends included

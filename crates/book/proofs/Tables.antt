@@ -47,10 +47,12 @@ flat-small i col h =
 -- ---- the parts of the roofs' tables
 
 -- their rows are printed one after the other
-pub part-printed : (k : ℕ) → k < 7 → drop (firstRow k) roofCells ≡ printed (partRows k) ++ printed (joined (drop (k + 1) parts))
+abbrev PrintedFrom : ℕ → Type 0
+PrintedFrom k = drop (firstRow k) roofCells ≡ printed (partRows k) ++ printed (joined (drop (k + 1) parts))
+
+pub part-printed : (k : ℕ) → k < 7 → PrintedFrom k
 unfolding firstRow roofCells
-part-printed =
-    each-at (λ (k : ℕ). drop (firstRow k) roofCells ≡ printed (partRows k) ++ printed (joined (drop (k + 1) parts))) 7 (refl, (refl, (refl, (refl, (refl, (refl, (refl, tt)))))))
+part-printed = each-at PrintedFrom 7 (refl, (refl, (refl, (refl, (refl, (refl, (refl, tt)))))))
 
 -- the numbers at which all rows stand
 abbrev pub ats : List ℕ
