@@ -1,4 +1,5 @@
--- What an accepted job carries is in order, and its six extremes are what the definition of the worst cases says of one axis and one side.
+-- What an accepted job carries is in order, and its six extremes are what the definition of the worst cases says of
+-- one axis and one side.
 use mathlib.Core.Path.{_≡_, refl, ap}
 use mathlib.Core.List.{List}
 use Prim.Native.Nat.{ℕ}

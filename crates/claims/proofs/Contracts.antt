@@ -1,5 +1,7 @@
--- Every public function, by the contract that the checker reads off its source: `Asked` is what a caller must show, `Post` what the call may come to.
--- tools/determined holds this list, and the three that cite it (NothingAsked, Determined, Unchanged), against the sources.
+-- Every public function, by the contract that the checker reads off its source: `Asked` is what a caller must show,
+-- `Post` what the call may come to.
+-- tools/determined holds this list, and the three that cite it (NothingAsked, Determined, Unchanged), against the
+-- sources.
 pub use Rattle.whole.proofs.magnitude.Reads as magnitude
 pub use Rattle.page.proofs.put_byte.Reads as put-byte
 pub use Rattle.page.proofs.put_bytes.Reads as put-bytes

@@ -1,20 +1,28 @@
--- Demand 1: every input gets an answer, a bad one its first fault and no other result, and a refused call changes no byte.
-use mathlib.Core.Path.{_≡_, ap, _∙_}
+-- Demand 1: every input gets an answer, a bad one its first fault and no other result, and a refused call changes no
+-- byte.
+use mathlib.Core.Path.{_≡_, refl, ap, _∙_}
+use mathlib.Core.Bool.{false}
 use mathlib.Core.Logic.{_⊎_}
 use mathlib.Core.List.{List}
-use Prim.Native.Nat.{ℕ}
+use Prim.Native.Nat.{ℕ, _≤_}
 use denote.Ref.{now}
+use lib.Dec.{eqb, lit≤}
+use lib.IntN.{ℤ, pos, negsuc}
+use borrow.Author.Tests.{ne-eqb}
 use Rattle.form.specs.declared.Field.{Field}
 use Rattle.lines.specs.Lines.{rows}
 use Rattle.page.specs.declared.Writing.the-variants as written
 use Rattle.page.specs.Writing.{writing}
-use Rattle.job.specs.Carried.{nothing, carried, recorded}
+use Rattle.job.specs.declared.Job.{Job}
+use Rattle.job.specs.Carried.{Carried, nothing, carried, recorded}
 use Rattle.job.specs.Lines.{linesOf}
-use Rattle.job.specs.Walk.{verdict}
-use Rattle.sheet.specs.Sheet.{answer, sheetText, jobWriting}
-use Rattle.worst.specs.Worst.{noSix, reckoned, worstOf}
+use Rattle.job.specs.Walk.{Accepted, verdict, judged}
+use Rattle.sheet.specs.Sheet.{reading, answer, sheetText, jobWriting}
+use Rattle.worst.specs.declared.Six.{Six}
+use Rattle.worst.specs.Worst.{noSix, sixExtremes, reckoned, worstOf}
 use Rattle.report.specs.Report.{refusedText, reportText, totalsText}
-use Rattle.answers.specs.Answers.{noText, noExtreme, answerOf, textOf, totalOf}
+use Rattle.answers.specs.Answers.{noText, noExtreme, answerOf, textOf, onLine, lineOf, totalOf}
+use Rattle.claims.specs.Contract.{Always}
 use Rattle.claims.specs.Fault.{Faulty, Faultless, GetsFault, GetsAccepted}
 use Rattle.claims.proofs.Contracts as of
 use Rattle.claims.proofs.Fault as fault
@@ -22,34 +30,51 @@ use Rattle.claims.proofs.Fault as fault
 -- ---- the statements
 
 -- "Every input gets an answer; no entry point relies on its caller having checked anything."
--- What each contract asks of its caller is nothing (NothingAsked): whatever the arguments are, the function ends with what its contract says.
+-- What each contract asks of its caller is nothing (NothingAsked): whatever the arguments are, the function ends with
+-- what its contract says.
 
 -- "A bad sheet or job gets the number and line of the first fault in paper 01's order and no other result."
 pub record BadGetsFirstFault : Type 0 where
   -- a sheet
-  pub read_sheet : GetsFault of.read-sheet.Post (λ κ a. rows (now (a .0))) (λ κ a n l. record { number = n; line = l; job = recorded nothing })
-  pub write_totals : GetsFault of.write-totals.Post (λ κ a. rows (now (a .0))) (λ κ a n l. writing (refusedText n l) (now (a .1 .0)))
-  pub aral_read : GetsFault of.aral-read.Post (λ κ a. rows (now (a .0))) (λ κ a n l. record { number = n; line = l })
-  pub aral_rewrite : GetsFault of.aral-rewrite.Post (λ κ a. rows (now (a .0))) (λ κ a n l. noText n l)
-  pub aral_report : GetsFault of.aral-report.Post (λ κ a. rows (now (a .0))) (λ κ a n l. noText n l)
-  pub aral_total : GetsFault of.aral-total.Post (λ κ a. rows (now (a .0))) (λ κ a n l. noExtreme n l)
+  pub read-sheet : GetsFault of.read-sheet.Post (λ κ a. rows (now (a .0)))
+      (λ κ a n l. record { number = n; line = l; job = recorded nothing })
+  pub write-totals : GetsFault of.write-totals.Post (λ κ a. rows (now (a .0)))
+      (λ κ a n l. writing (refusedText n l) (now (a .1 .0)))
+  pub aral-read : GetsFault of.aral-read.Post (λ κ a. rows (now (a .0))) (λ κ a n l. record { number = n; line = l })
+  pub aral-rewrite : GetsFault of.aral-rewrite.Post (λ κ a. rows (now (a .0))) (λ κ a n l. noText n l)
+  pub aral-report : GetsFault of.aral-report.Post (λ κ a. rows (now (a .0))) (λ κ a n l. noText n l)
+  pub aral-total : GetsFault of.aral-total.Post (λ κ a. rows (now (a .0))) (λ κ a n l. noExtreme n l)
   -- a job
   pub judge : GetsFault of.judge.Post (λ κ a. linesOf (carried (a .0))) (λ κ a n l. record { number = n; line = l })
-  pub worst_cases : GetsFault of.worst-cases.Post (λ κ a. linesOf (carried (a .0))) (λ κ a n l. record { number = n; line = l; six = noSix })
-  pub write_sheet : GetsFault of.write-sheet.Post (λ κ a. linesOf (carried (a .0))) (λ κ a n l. written.Refused n l)
-  pub write_report : GetsFault of.write-report.Post (λ κ a. linesOf (carried (a .0))) (λ κ a n l. written.Refused n l)
+  pub worst-cases : GetsFault of.worst-cases.Post (λ κ a. linesOf (carried (a .0)))
+      (λ κ a n l. record { number = n; line = l; six = noSix })
+  pub write-sheet : GetsFault of.write-sheet.Post (λ κ a. linesOf (carried (a .0))) (λ κ a n l. written.Refused n l)
+  pub write-report : GetsFault of.write-report.Post (λ κ a. linesOf (carried (a .0))) (λ κ a n l. written.Refused n l)
 
--- Where there is no fault, the number and the line are 0. What is then written, and what is shown, say demands 2 and 3.
+-- Where there is no fault, the number and the line are 0. What is then written and shown is said by demands 2 and 3.
 pub record GoodIsAccepted : Type 0 where
-  pub read_sheet : GetsAccepted of.read-sheet.Post (λ κ a. rows (now (a .0))) (λ κ r. (r .number ≡ 0) × (r .line ≡ 0))
-  pub aral_read : GetsAccepted of.aral-read.Post (λ κ a. rows (now (a .0))) (λ κ r. (r .number ≡ 0) × (r .line ≡ 0))
+  pub read-sheet : GetsAccepted of.read-sheet.Post (λ κ a. rows (now (a .0))) (λ κ r. (r .number ≡ 0) × (r .line ≡ 0))
+  pub aral-read : GetsAccepted of.aral-read.Post (λ κ a. rows (now (a .0))) (λ κ r. (r .number ≡ 0) × (r .line ≡ 0))
   pub judge : GetsAccepted of.judge.Post (λ κ a. linesOf (carried (a .0))) (λ κ r. (r .number ≡ 0) × (r .line ≡ 0))
-  pub worst_cases : GetsAccepted of.worst-cases.Post (λ κ a. linesOf (carried (a .0))) (λ κ r. (r .number ≡ 0) × (r .line ≡ 0))
+  pub worst-cases : GetsAccepted of.worst-cases.Post (λ κ a. linesOf (carried (a .0)))
+      (λ κ r. (r .number ≡ 0) × (r .line ≡ 0))
 
 -- Lines of fields have no fault, or one first fault and no other.
 abbrev pub FaultsAreOne : Type 0
-FaultsAreOne = (xs : List (List Field))
-    → (Faultless xs ⊎ ((n : ℕ) × (l : ℕ) × Faulty xs n l)) × ((n l m k : ℕ) → Faulty xs n l → Faulty xs m k → (n ≡ m) × (l ≡ k))
+FaultsAreOne = (xs : List (List Field)) → (Faultless xs ⊎ ((n : ℕ) × (l : ℕ) × Faulty xs n l))
+    × ((n l m k : ℕ) → Faulty xs n l → Faulty xs m k → (n ≡ m) × (l ≡ k))
+
+-- A sheet or a job is accepted, with what its lines carry, exactly where they have no fault.
+pub record AcceptedIsFaultless : Type 0 where
+  pub sheet : (s : List ℕ) → (Faultless (rows s) → (c : Carried) × (reading s ≡ Accepted c))
+      × ((c : Carried) → reading s ≡ Accepted c → Faultless (rows s) × (linesOf c ≡ rows s))
+  pub job : (j : Job) → (Faultless (linesOf (carried j)) → judged j ≡ Accepted (carried j))
+      × ((c : Carried) → judged j ≡ Accepted c → Faultless (linesOf (carried j)) × (c ≡ carried j))
+
+-- A line of the report other than 1 to 6 is 3 with line 0, after the sheet's own fault.
+abbrev pub OtherLineIsThree : Type 0
+OtherLineIsThree = Always of.aral-total.Post (λ κ a r s. Faultless (rows (now (a .0)))
+    → ((n : ℕ) → 1 ≤ n → n ≤ 6 → a .1 .0 ≡ pos n → ⊥) → r ≡ noExtreme 3 0)
 
 -- "A refused call changes no byte of any buffer."
 -- So by the contract of each function that is lent a buffer and may refuse (Unchanged).
@@ -60,27 +85,58 @@ pub bad-gets-first-fault : BadGetsFirstFault
 unfolding worstOf
 bad-gets-first-fault =
     record {
-      read_sheet = λ κ a r s p n l f. p ∙ ap answer (fault.sheet-faulty (now (a .0)) f);
-      write_totals = λ κ a r s p n l f. p .0 ∙ ap (λ x. writing (totalsText x) (now (a .1 .0))) (fault.sheet-faulty (now (a .0)) f);
-      aral_read = λ κ a r s p n l f. p ∙ ap answerOf (fault.sheet-faulty (now (a .0)) f);
-      aral_rewrite = λ κ a r s p n l f. p .0 ∙ ap (λ x. textOf (jobWriting sheetText x (now (a .1 .0)))) (fault.sheet-faulty (now (a .0)) f);
-      aral_report = λ κ a r s p n l f. p .0 ∙ ap (λ x. textOf (jobWriting reportText x (now (a .1 .0)))) (fault.sheet-faulty (now (a .0)) f);
-      aral_total = λ κ a r s p n l f. p ∙ ap (λ x. totalOf x (a .1 .0)) (fault.sheet-faulty (now (a .0)) f);
+      read-sheet = λ κ a r s p n l f. p ∙ ap answer (fault.sheet-faulty (now (a .0)) f);
+      write-totals = λ κ a r s p n l f.
+          p .0 ∙ ap (λ x. writing (totalsText x) (now (a .1 .0))) (fault.sheet-faulty (now (a .0)) f);
+      aral-read = λ κ a r s p n l f. p ∙ ap answerOf (fault.sheet-faulty (now (a .0)) f);
+      aral-rewrite = λ κ a r s p n l f.
+          p .0 ∙ ap (λ x. textOf (jobWriting sheetText x (now (a .1 .0)))) (fault.sheet-faulty (now (a .0)) f);
+      aral-report = λ κ a r s p n l f.
+          p .0 ∙ ap (λ x. textOf (jobWriting reportText x (now (a .1 .0)))) (fault.sheet-faulty (now (a .0)) f);
+      aral-total = λ κ a r s p n l f. p ∙ ap (λ x. totalOf x (a .1 .0)) (fault.sheet-faulty (now (a .0)) f);
       judge = λ κ a r s p n l f. p ∙ ap verdict (fault.job-faulty (a .0) f);
-      worst_cases = λ κ a r s p n l f. p ∙ ap reckoned (fault.job-faulty (a .0) f);
-      write_sheet = λ κ a r s p n l f. p .0 ∙ ap (λ x. jobWriting sheetText x (now (a .1 .0))) (fault.job-faulty (a .0) f);
-      write_report = λ κ a r s p n l f. p .0 ∙ ap (λ x. jobWriting reportText x (now (a .1 .0))) (fault.job-faulty (a .0) f);
+      worst-cases = λ κ a r s p n l f. p ∙ ap reckoned (fault.job-faulty (a .0) f);
+      write-sheet = λ κ a r s p n l f.
+          p .0 ∙ ap (λ x. jobWriting sheetText x (now (a .1 .0))) (fault.job-faulty (a .0) f);
+      write-report = λ κ a r s p n l f.
+          p .0 ∙ ap (λ x. jobWriting reportText x (now (a .1 .0))) (fault.job-faulty (a .0) f);
     }
 
 pub good-is-accepted : GoodIsAccepted
 unfolding worstOf
 good-is-accepted =
     record {
-      read_sheet = λ κ a r s p f. let e = p ∙ ap answer (fault.sheet-faultless (now (a .0)) f .1) in (ap (λ x. x .number) e, ap (λ x. x .line) e);
-      aral_read = λ κ a r s p f. let e = p ∙ ap answerOf (fault.sheet-faultless (now (a .0)) f .1) in (ap (λ x. x .number) e, ap (λ x. x .line) e);
-      judge = λ κ a r s p f. let e = p ∙ ap verdict (fault.job-faultless (a .0) f) in (ap (λ x. x .number) e, ap (λ x. x .line) e);
-      worst_cases = λ κ a r s p f. let e = p ∙ ap reckoned (fault.job-faultless (a .0) f) in (ap (λ x. x .number) e, ap (λ x. x .line) e);
+      read-sheet = λ κ a r s p f.
+          let e =
+          p ∙ ap answer (fault.sheet-faultless (now (a .0)) f .1) in (ap (λ x. x .number) e, ap (λ x. x .line) e);
+      aral-read = λ κ a r s p f.
+          let e =
+          p ∙ ap answerOf (fault.sheet-faultless (now (a .0)) f .1) in (ap (λ x. x .number) e, ap (λ x. x .line) e);
+      judge = λ κ a r s p f.
+          let e = p ∙ ap verdict (fault.job-faultless (a .0) f) in (ap (λ x. x .number) e, ap (λ x. x .line) e);
+      worst-cases = λ κ a r s p f.
+          let e = p ∙ ap reckoned (fault.job-faultless (a .0) f) in (ap (λ x. x .number) e, ap (λ x. x .line) e);
     }
 
 pub faults-are-one : FaultsAreOne
 faults-are-one xs = (fault.faultless-or-faulty xs, λ n l m k f g. fault.faulty-unique xs f g)
+
+pub accepted-is-faultless : AcceptedIsFaultless
+accepted-is-faultless =
+    record {
+      sheet = λ s. (fault.sheet-faultless s, fault.sheet-accepted s);
+      job = λ j. (fault.job-faultless j, fault.job-accepted j);
+    }
+
+no-line : (six : Six) (l : ℤ) → ((n : ℕ) → 1 ≤ n → n ≤ 6 → l ≡ pos n → ⊥) → lineOf six l ≡ noExtreme 3 0
+unfolding onLine
+no-line six (negsuc n) h = refl
+no-line six (pos n) h =
+    let other : (k : ℕ) → 1 ≤ k → k ≤ 6 → eqb n k ≡ false = λ k p q. ne-eqb n k (λ e. h k p q (ap pos e)) in
+    rw (other 1 (lit≤ tt) (lit≤ tt), other 2 (lit≤ tt) (lit≤ tt), other 3 (lit≤ tt) (lit≤ tt))
+    (rw (other 4 (lit≤ tt) (lit≤ tt), other 5 (lit≤ tt) (lit≤ tt), other 6 (lit≤ tt) (lit≤ tt)))
+
+pub other-line-is-three : OtherLineIsThree
+other-line-is-three κ a r s p f h =
+    let c = fault.sheet-faultless (now (a .0)) f in
+    p ∙ ap (λ x. totalOf x (a .1 .0)) (c .1) ∙ no-line (sixExtremes (c .0)) (a .1 .0) h

@@ -1,16 +1,14 @@
--- Demand 3: what is shown is the greatest and the least over every permitted case; more winds and internals show no less; faster winds show no less on their side of zero.
+-- Demand 3: what is shown is the greatest and the least over every permitted case; more winds and internals show no
+-- less; faster winds show no less on their side of zero.
 use mathlib.Core.Path.{_≡_, refl, sym, ap, subst, _∙_}
-use mathlib.Core.List.{List, List·Memᴰ}
-use Prim.Native.Nat.{ℕ}
+use mathlib.Core.List.{List·Memᴰ}
 use denote.Ref.{now}
-use lib.IntN.{ℤ, pos}
+use lib.IntN.{pos}
 use Rattle.page.specs.declared.Writing.{Writing}
-use Rattle.page.specs.Writing.{writing, bufferAfter}
 use Rattle.job.specs.declared.Job.{Job}
 use Rattle.job.specs.Carried.{Carried}
-use Rattle.job.specs.InOrder.{InOrder}
-use Rattle.job.specs.Walk.{Reading, Accepted, judged}
-use Rattle.sheet.specs.Sheet.{reading, jobWriting, jobBuffer}
+use Rattle.job.specs.Walk.{Accepted, judged}
+use Rattle.sheet.specs.Sheet.{reading, jobWriting}
 use Rattle.worst.specs.declared.Side.{Side}
 use Rattle.worst.specs.declared.Side.the-variants.{Greatest, Least}
 use Rattle.worst.specs.declared.Axis.{Axis}
@@ -20,7 +18,7 @@ use Rattle.worst.specs.declared.Reckoning.{Reckoning}
 use Rattle.worst.specs.Best.{Within}
 use Rattle.worst.specs.Cases.{Loads, Case, cases}
 use Rattle.worst.specs.Worst.{extreme, sixExtremes, worstOf}
-use Rattle.report.specs.Report.{reportText, totalsText}
+use Rattle.report.specs.Report.{reportText}
 use Rattle.answers.specs.Answers.{textOf, extremeOf, onLine, lineOf, totalOf}
 use Rattle.claims.specs.Contract.{Always}
 use Rattle.claims.specs.Shown.{Shows, ShowsSix, shownIn, lineNumber, Reported, Permitted, More, Faster}
@@ -30,37 +28,45 @@ use Rattle.claims.proofs.Shown as shown
 
 -- ---- the statements
 
--- "For an accepted job and each axis, the greatest and least shown are those over every permitted case .., each with the first case that reaches it."
+-- "For an accepted job and each axis, the greatest and least shown are those over every permitted case .., each with
+-- the first case that reaches it."
 abbrev pub ShowsWorst : Type 0
 ShowsWorst = Always of.worst-cases.Post (λ κ a r s. (c : Carried) → judged (a .0) ≡ Accepted c → ShowsSix c (r .six))
 
 -- and so in the six lines, of a record or of a sheet, for the program `totals` and for a host in C
 pub record ReportsWorst : Type 0 where
-  pub write_report : Always of.write-report.Post (λ κ a r s. (c : Carried) → judged (a .0) ≡ Accepted c
+  pub write-report : Always of.write-report.Post (λ κ a r s. (c : Carried) → judged (a .0) ≡ Accepted c
       → Reported c (now (a .1 .0)) (now (s .1 .0)) r)
-  pub write_totals : Always of.write-totals.Post (λ κ a r s. (c : Carried) → reading (now (a .0)) ≡ Accepted c
+  pub write-totals : Always of.write-totals.Post (λ κ a r s. (c : Carried) → reading (now (a .0)) ≡ Accepted c
       → Reported c (now (a .1 .0)) (now (s .1 .0)) r)
-  pub aral_report : Always of.aral-report.Post (λ κ a r s. (c : Carried) → reading (now (a .0)) ≡ Accepted c
+  pub aral-report : Always of.aral-report.Post (λ κ a r s. (c : Carried) → reading (now (a .0)) ≡ Accepted c
       → (w : Writing) × Reported c (now (a .1 .0)) (now (s .1 .0)) w × (r ≡ textOf w))
-  pub aral_total : Always of.aral-total.Post (λ κ a r s. (c : Carried) → reading (now (a .0)) ≡ Accepted c
-      → (axis : Axis) (side : Side) → a .1 .0 ≡ pos (lineNumber axis side) → (e : Extreme) × Shows c axis side e × (r ≡ extremeOf e))
+  pub aral-total : Always of.aral-total.Post (λ κ a r s. (c : Carried) → reading (now (a .0)) ≡ Accepted c
+      → (axis : Axis) (side : Side) → a .1 .0 ≡ pos (lineNumber axis side)
+      → (e : Extreme) × Shows c axis side e × (r ≡ extremeOf e))
 
--- What may be shown leaves no choice: a program that pretends, or invents the numbers of a case, shows something else.
+-- What may be shown leaves no choice: a program that pretends, or invents the numbers of a case, shows something
+-- else.
 abbrev pub ShowsOne : Type 0
-ShowsOne = (c : Carried) (axis : Axis) (side : Side) (e e′ : Extreme) → Shows c axis side e → Shows c axis side e′ → e ≡ e′
+ShowsOne = (c : Carried) (axis : Axis) (side : Side) (e e′ : Extreme) → Shows c axis side e → Shows c axis side e′
+    → e ≡ e′
 
--- ".. each wind, each internal coefficient and, separately at each face, each alternative": the cases are these and no others
+-- ".. each wind, each internal coefficient and, separately at each face, each alternative": the cases are these and
+-- no others
 abbrev pub CasesArePermitted : Type 1
 CasesArePermitted = (W I F A : Type 0) (l : Loads W I F A) (c : Case W I A)
     → (List·Memᴰ c (cases l) → Permitted l c) × (Permitted l c → List·Memᴰ c (cases l))
 
--- "A job whose winds and internals include another's (same building and faces) shows no smaller greatest and no larger least."
+-- "A job whose winds and internals include another's (same building and faces) shows no smaller greatest and no
+-- larger least."
 abbrev pub MoreShowsNoLess : Type 0
 MoreShowsNoLess = Always of.worst-cases.Post (λ κ a r s. Always of.worst-cases.Post (λ κ′ b q t.
     (c d : Carried) → judged (a .0) ≡ Accepted c → judged (b .0) ≡ Accepted d → More c d
-    → (axis : Axis) (side : Side) → Within side (shownIn (r .six) axis side .total) (shownIn (q .six) axis side .total)))
+    → (axis : Axis) (side : Side)
+    → Within side (shownIn (r .six) axis side .total) (shownIn (q .six) axis side .total)))
 
--- "If only speeds change and none is lowered, a greatest that was zero or more does not fall, and a least that was zero or less does not rise."
+-- "If only speeds change and none is lowered, a greatest that was zero or more does not fall, and a least that was
+-- zero or less does not rise."
 abbrev pub FasterShowsNoLess : Type 0
 FasterShowsNoLess = Always of.worst-cases.Post (λ κ a r s. Always of.worst-cases.Post (λ κ′ b q t.
     (c d : Carried) → judged (a .0) ≡ Accepted c → judged (b .0) ≡ Accepted d → Faster c d
@@ -75,16 +81,16 @@ module _ (j : Job) {r : Reckoning} (p : r ≡ worstOf j) (c : Carried) (a : judg
   six-of = ap (λ (q : Reckoning). q .six) p ∙ six-is j c a
 
   total-of : (axis : Axis) (side : Side) → shownIn (r .six) axis side .total ≡ extreme axis side c .total
-  total-of axis side = ap (λ six. shownIn six axis side .total) six-of ∙ ap (λ (e : Extreme). e .total) (one-is c axis side)
-
-reported : (c : Carried) → InOrder c → {before after : List ℕ} {w : Writing} → w ≡ writing (reportText c) before → after ≡ bufferAfter (reportText c) before → Reported c before after w
-reported c o {before} p q = rw (p, q) (shown.report-written c o before)
+  total-of axis side =
+      ap (λ six. shownIn six axis side .total) six-of ∙ ap (λ (e : Extreme). e .total) (one-is c axis side)
 
 pub shows-worst : ShowsWorst
-shows-worst κ a r s p c e = subst (ShowsSix c) (sym (six-of (a .0) p c e)) (shown.six-shown c (job-in-order (a .0) c e))
+shows-worst κ a r s p c e =
+    subst (ShowsSix c) (sym (six-of (a .0) p c e)) (shown.six-shown c (job-in-order (a .0) c e))
 
 -- a line of the report is its extreme
-line-is : (c : Carried) (axis : Axis) (side : Side) → onLine (sixExtremes c) (lineNumber axis side) ≡ extremeOf (shownIn (sixExtremes c) axis side)
+line-is : (c : Carried) (axis : Axis) (side : Side)
+    → onLine (sixExtremes c) (lineNumber axis side) ≡ extremeOf (shownIn (sixExtremes c) axis side)
 unfolding onLine
 line-is c X Greatest = refl
 line-is c X Least = refl
@@ -96,14 +102,17 @@ line-is c Z Least = refl
 pub reports-worst : ReportsWorst
 reports-worst =
     record {
-      write_report = λ κ a r s p c e.
-          reported c (job-in-order (a .0) c e) (p .0 ∙ ap (λ x. jobWriting reportText x (now (a .1 .0))) e) (p .1 ∙ ap (λ x. jobBuffer reportText x (now (a .1 .0))) e);
-      write_totals = λ κ a r s p c e.
-          reported c (sheet-in-order (now (a .0)) c e) (p .0 ∙ ap (λ x. writing (totalsText x) (now (a .1 .0))) e) (p .1 ∙ ap (λ x. bufferAfter (totalsText x) (now (a .1 .0))) e);
-      aral_report = λ κ a r s p c e.
-          (writing (reportText c) (now (a .1 .0)), reported c (sheet-in-order (now (a .0)) c e) refl (p .1 ∙ ap (λ x. jobBuffer reportText x (now (a .1 .0))) e), p .0 ∙ ap (λ x. textOf (jobWriting reportText x (now (a .1 .0)))) e);
-      aral_total = λ κ a r s p c e axis side n.
-          (shownIn (sixExtremes c) axis side, shown.six-shown c (sheet-in-order (now (a .0)) c e) axis side, p ∙ ap (λ x. totalOf x (a .1 .0)) e ∙ ap (lineOf (sixExtremes c)) n ∙ line-is c axis side);
+      write-report = λ κ a r s p c e. shown.reported (job-in-order (a .0) c e) e (now (a .1 .0)) p;
+      write-totals = λ κ a r s p c e.
+          shown.reported-totals (sheet-in-order (now (a .0)) c e) e (now (a .1 .0)) p;
+      aral-report = λ κ a r s p c e.
+          let out = now (a .1 .0) in
+          let told = shown.reported (sheet-in-order (now (a .0)) c e) e out (refl, p .1) in
+          (jobWriting reportText (reading (now (a .0))) out, told, p .0);
+      aral-total = λ κ a r s p c e axis side n.
+          let six = sixExtremes c in
+          let told = shown.six-shown c (sheet-in-order (now (a .0)) c e) axis side in
+          (shownIn six axis side, told, p ∙ ap (λ x. totalOf x (a .1 .0)) e ∙ ap (lineOf six) n ∙ line-is c axis side);
     }
 
 pub shows-one : ShowsOne
@@ -120,4 +129,5 @@ more-shows-no-less κ a r s p κ′ b q t p′ c d e f m axis side =
 pub faster-shows-no-less : FasterShowsNoLess
 faster-shows-no-less κ a r s p κ′ b q t p′ c d e f m axis side h =
     rw (total-of (a .0) p c e axis side, total-of (b .0) p′ d f axis side)
-    (shown.faster-no-less (job-in-order (a .0) c e) (job-in-order (b .0) d f) axis side m (rw (total-of (a .0) p c e axis side) at h))
+    (shown.faster-no-less (job-in-order (a .0) c e) (job-in-order (b .0) d f) axis side m
+    (rw (total-of (a .0) p c e axis side) at h))

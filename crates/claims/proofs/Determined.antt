@@ -1,4 +1,5 @@
--- One line for each public function: its contract leaves no choice of the result, nor of what a lent buffer then holds.
+-- One line for each public function: its contract leaves no choice of the result, nor of what a lent buffer then
+-- holds.
 use mathlib.Core.Path.{_≡_, sym, _∙_}
 use mathlib.Core.List.{List}
 use Prim.Native.Nat.{ℕ}
@@ -121,7 +122,8 @@ face-line-determined κ a r r′ s s′ p q = same p q
 -- ---- rules
 
 limits-of-determined : OneAnswer of.limits-of.Post
-limits-of-determined κ a r r′ s s′ p q = λ k. record { letter = same (p .0) (q .0) k; least = same (p .1) (q .1) k; most = same (p .2) (q .2) k }
+limits-of-determined κ a r r′ s s′ p q =
+    λ k. record { letter = same (p .0) (q .0) k; least = same (p .1) (q .1) k; most = same (p .2) (q .2) k }
 
 count-line-determined : OneAnswer of.count-line.Post
 count-line-determined κ a r r′ s s′ p q = same p q

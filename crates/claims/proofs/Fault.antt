@@ -1,4 +1,5 @@
--- Lines with a first fault are read as refused with it, lines without one are accepted, and no lines have two first faults.
+-- Lines with a first fault are read as refused with it, lines without one are accepted, and no lines have two first
+-- faults.
 use mathlib.Core.Path.{_≡_, refl, ap, _∙_}
 use mathlib.Core.Logic.{_⊎_, inl, inr}
 use mathlib.Core.List.{List}
@@ -12,7 +13,7 @@ use Rattle.job.specs.Lines.{linesOf}
 use Rattle.job.specs.FirstFault.{Answers, in-order, faulty}
 use Rattle.job.specs.Walk.{Reading, Accepted, Refused, sheet, readLines, judged}
 use Rattle.job.proofs.FirstFault.{lines-answer, first-unique}
-use Rattle.job.proofs.RoundTrip.{judged-carried}
+use Rattle.job.proofs.RoundTrip.{accepted-lines, judged-carried}
 use Rattle.sheet.specs.Sheet.{reading}
 use Rattle.claims.specs.Fault.{Faulty, at, Faultless}
 
@@ -49,9 +50,10 @@ pub sheet-faultless : (s : List ℕ) → Faultless (rows s) → (c : Carried) ×
 unfolding reading
 sheet-faultless s f = faultless-answer (rows s) (readLines (rows s)) (lines-answer (rows s)) f
 
-pub sheet-accepted : (s : List ℕ) (c : Carried) → reading s ≡ Accepted c → Faultless (rows s)
+pub sheet-accepted : (s : List ℕ) (c : Carried) → reading s ≡ Accepted c → Faultless (rows s) × (linesOf c ≡ rows s)
 unfolding reading
-sheet-accepted s c e = accepted-answer (rows s) (readLines (rows s)) (lines-answer (rows s)) c e
+sheet-accepted s c e =
+    (accepted-answer (rows s) (readLines (rows s)) (lines-answer (rows s)) c e, accepted-lines (rows s) c e)
 
 module _ (j : Job) where
   pub job-faulty : {n l : ℕ} → Faulty (linesOf (carried j)) n l → judged j ≡ Refused n l

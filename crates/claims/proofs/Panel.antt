@@ -18,16 +18,18 @@ use Rattle.claims.proofs.Contracts as of
 
 -- ---- the statements
 
--- "For any signed 64-bit total the panel gets either the one double equal to it, or, if there is none, the nearest double below and the nearest above. Zero is positive zero."
+-- "For any signed 64-bit total the panel gets either the one double equal to it, or, if there is none, the nearest
+-- double below and the nearest above. Zero is positive zero."
 pub record PanelIsRight : Type 0 where
-  pub panel_of : Always of.panel-of.Post (λ κ a r s. Signed64 (a .0) → Right (a .0) r)
-  pub aral_panel : Always of.aral-panel.Post (λ κ a r s. Signed64 (a .0) → (p : Panel) × Right (a .0) p × (r ≡ doubleOf p))
+  pub panel-of : Always of.panel-of.Post (λ κ a r s. Signed64 (a .0) → Right (a .0) r)
+  pub aral-panel : Always of.aral-panel.Post
+      (λ κ a r s. Signed64 (a .0) → (p : Panel) × Right (a .0) p × (r ≡ doubleOf p))
 
 -- "A chart point is a record of low and high doubles for the three axes; where exact, low and high are the same."
 pub record ChartIsRight : Type 0 where
   pub chart : Always of.chart.Post (λ κ a r s. Signed64 (a .0) → Signed64 (a .1 .0) → Signed64 (a .1 .1 .0)
       → RightPoint (a .0) (a .1 .0) (a .1 .1 .0) r)
-  pub aral_chart : Always of.aral-chart.Post (λ κ a r s. Signed64 (a .0) → Signed64 (a .1 .0) → Signed64 (a .1 .1 .0)
+  pub aral-chart : Always of.aral-chart.Post (λ κ a r s. Signed64 (a .0) → Signed64 (a .1 .0) → Signed64 (a .1 .1 .0)
       → RightPoint (a .0) (a .1 .0) (a .1 .1 .0) r)
 
 -- What is right leaves no choice.
@@ -35,7 +37,8 @@ abbrev pub RightOne : Type 0
 RightOne = (total : ℤ) (p q : Panel) → Signed64 total → Right total p → Right total q → p ≡ q
 
 abbrev pub ChartOne : Type 0
-ChartOne = (x y z : ℤ) (p q : Point) → Signed64 x → Signed64 y → Signed64 z → RightPoint x y z p → RightPoint x y z q → p ≡ q
+ChartOne = (x y z : ℤ) (p q : Point) → Signed64 x → Signed64 y → Signed64 z → RightPoint x y z p → RightPoint x y z q
+    → p ≡ q
 
 -- ---- the proofs
 
@@ -48,8 +51,8 @@ right total h = panel-right total (below total h)
 pub panel-is-right : PanelIsRight
 panel-is-right =
     record {
-      panel_of = λ κ a r s p h. subst (Right (a .0)) (sym p) (right (a .0) h);
-      aral_panel = λ κ a r s p h. (panelOf (a .0), right (a .0) h, p);
+      panel-of = λ κ a r s p h. subst (Right (a .0)) (sym p) (right (a .0) h);
+      aral-panel = λ κ a r s p h. (panelOf (a .0), right (a .0) h, p);
     }
 
 on-axis : (total : ℤ) → Signed64 total → LowAndHigh total (lowOf (panelOf total)) (highOf (panelOf total))
@@ -61,14 +64,17 @@ point x y z h k l = record { on-x = on-axis x h; on-y = on-axis y k; on-z = on-a
 pub chart-is-right : ChartIsRight
 chart-is-right =
     record {
-      chart = λ κ a r s p h k l. subst (RightPoint (a .0) (a .1 .0) (a .1 .1 .0)) (sym p) (point (a .0) (a .1 .0) (a .1 .1 .0) h k l);
-      aral_chart = λ κ a r s p h k l. subst (RightPoint (a .0) (a .1 .0) (a .1 .1 .0)) (sym p) (point (a .0) (a .1 .0) (a .1 .1 .0) h k l);
+      chart = λ κ a r s p h k l.
+          subst (RightPoint (a .0) (a .1 .0) (a .1 .1 .0)) (sym p) (point (a .0) (a .1 .0) (a .1 .1 .0) h k l);
+      aral-chart = λ κ a r s p h k l.
+          subst (RightPoint (a .0) (a .1 .0) (a .1 .1 .0)) (sym p) (point (a .0) (a .1 .0) (a .1 .1 .0) h k l);
     }
 
 pub right-one : RightOne
 right-one total p q h = right-unique total p q (below total h)
 
-module _ (total : ℤ) {low high low′ high′ : Float} (h : Signed64 total) (p : LowAndHigh total low high) (q : LowAndHigh total low′ high′) where
+module _ (total : ℤ) {low high low′ high′ : Float} (h : Signed64 total) (p : LowAndHigh total low high)
+    (q : LowAndHigh total low′ high′) where
   same : p .panel ≡ q .panel
   same = right-one total (p .panel) (q .panel) h (p .right) (q .right)
 

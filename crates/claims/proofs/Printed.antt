@@ -1,4 +1,5 @@
--- The printed cases of paper 01, P1 to P12 and the two sheets under them: one table, and one claim about the definitions.
+-- The printed cases of paper 01, P1 to P12 and the two sheets under them: one table, and one claim about the
+-- definitions.
 use Prim.Native.Char.{code}
 use Prim.Native.String.{String, [] as none, _∷_ as _then_}
 use Prim.Native.Nat.{ℕ}
@@ -33,7 +34,8 @@ use Rattle.worst.specs.Forces.{force}
 
 -- ---- what a row says
 
--- a coefficient's alternatives, in thousandths; the number that a building gets; a face's force in units and in whole newtons; the number and line that a text gets
+-- a coefficient's alternatives, in thousandths; the number that a building gets; a face's force in units and in whole
+-- newtons; the number and line that a text gets
 pub data Row : Type 0 where
   gives : Building → (direction place : ℕ) → List ℤ → Row
   gets : Building → (number : ℕ) → Row
@@ -43,8 +45,10 @@ pub data Row : Type 0 where
 -- a building of that density and one face with that net coefficient: outside, where the internal coefficient is 0
 abbrev pub alone : ℕ → ℕ → ℤ → ℤ → ℤ
 alone density speed net area =
-    force X (record { density = pos density; outside = λ direction zone. net ∷ []; winds = []; internals = []; faces = [] })
-    (record { direction = 0; speed = speed }) (pos 0) (record { zone = 65; mark = both; x = area; y = pos 0; z = pos 0 }) 1
+    force X
+    (record { density = pos density; outside = λ direction zone. net ∷ []; winds = []; internals = []; faces = [] })
+    (record { direction = 0; speed = speed }) (pos 0)
+    (record { zone = 65; mark = both; x = area; y = pos 0; z = pos 0 }) 1
 
 -- the bytes of a quoted text
 abbrev pub bytes : String → List ℕ

@@ -1,4 +1,5 @@
--- The worked sheet of paper 01 and the six lines that `totals` writes for it, from bytes to bytes: the definitions compute them over every case.
+-- The worked sheet of paper 01 and the six lines that `totals` writes for it, from bytes to bytes: the definitions
+-- compute them over every case.
 use Prim.Native.Nat.{ℕ}
 use Prim.Native.Char.{code}
 use Prim.Native.String.{String, [] as none, _∷_ as _then_, _++_ as _&_}

@@ -1,7 +1,9 @@
--- The six extremes of an accepted job are what may be shown for it, and nothing else is; and the cases are those that are permitted.
+-- The six extremes of an accepted job are what may be shown for it, and nothing else is; and the cases are those that
+-- are permitted.
 use mathlib.Core.Path.{_≡_, refl, sym, ap, subst, _∙_}
 use mathlib.Core.Logic.{⊎-elim}
-use mathlib.Core.List.{List, [], _∷_, map, List·Memᴰ, List·Memᴰ·head, List·Memᴰ·tail, List·Memᴰ·not-nil, List·Memᴰ·cases-cons, Memᴰ·map}
+use mathlib.Core.List.{List, [], _∷_, map, List·Memᴰ, List·Memᴰ·head, List·Memᴰ·tail, List·Memᴰ·not-nil}
+use mathlib.Core.List.{List·Memᴰ·cases-cons, Memᴰ·map}
 use native.Mathlib.Omega.{arith}
 use Prim.Native.Nat.{ℕ}
 use lib.IntN.{pos}
@@ -12,6 +14,8 @@ use Rattle.page.specs.Writing.{writing, bufferAfter}
 use Rattle.entry.specs.declared.Wind.{Wind}
 use Rattle.job.specs.Carried.{Carried}
 use Rattle.job.specs.InOrder.{InOrder, WindInOrder}
+use Rattle.job.specs.Walk.{Reading, Accepted}
+use Rattle.sheet.specs.Sheet.{jobWriting, jobBuffer}
 use Rattle.worst.specs.declared.Side.{Side}
 use Rattle.worst.specs.declared.Side.the-variants.{Greatest, Least}
 use Rattle.worst.specs.declared.Axis.{Axis}
@@ -28,12 +32,13 @@ use Rattle.worst.proofs.Members.{member-each, each-member, map-member, cases-on
 use Rattle.worst.proofs.Demand.{AllIn, Faster}
 use Rattle.worst.proofs.Promises.{extreme-shows, extreme-more, extreme-faster}
 use Rattle.report.specs.Lines.{sixText}
-use Rattle.report.specs.Report.{reportText}
+use Rattle.report.specs.Report.{reportText, totalsText}
 use Rattle.claims.specs.Shown.{Shows, ShowsSix, Reported, Chosen, Permitted, Includes, More, Raised}
 use Rattle.claims.specs.Shown as faster
 use Rattle.claims.specs.Written.{Written}
 use Rattle.claims.proofs.Accepted.{one-is}
-use Rattle.claims.proofs.Written.{writing-written, written-unique}
+use Rattle.claims.proofs.Written.{text-written, written-unique}
+use Rattle.claims.proofs.Again.{job-written}
 
 -- ---- one extreme
 
@@ -54,7 +59,8 @@ module _ (c : Carried) (axis : Axis) (side : Side) where
   pub shows-unique : {e e′ : Extreme} → Shows c axis side e → Shows c axis side e′ → e ≡ e′
   shows-unique {e} {e′} h k =
       let l = loads axis (given c) in
-      let u = isBest-unique side (caseTotal l) (cases l) (e .total) (e′ .total) (h .case) (k .case) (h .best) (k .best) in
+      let u =
+      isBest-unique side (caseTotal l) (cases l) (e .total) (e′ .total) (h .case) (k .case) (h .best) (k .best) in
       let same : h .case ≡ k .case = u .1 in
       let wind = h .wind ∙ ap (λ x. x .wind) same ∙ sym (k .wind) in
       let internal = h .internal ∙ ap (λ x. x .internal) same ∙ sym (k .internal) in
@@ -73,10 +79,26 @@ module _ (c : Carried) (axis : Axis) (side : Side) where
 pub six-shown : (c : Carried) → InOrder c → ShowsSix c (sixExtremes c)
 six-shown c o axis side = subst (Shows c axis side) (sym (one-is c axis side)) (extreme-is-shown c axis side o)
 
-pub report-written : (c : Carried) → InOrder c → (before : List ℕ) → Reported c before (bufferAfter (reportText c) before) (writing (reportText c) before)
-unfolding reportText
-report-written c o before =
-    record { six = sixExtremes c; shows = six-shown c o; written = writing-written (sixText (sixExtremes c)) before }
+-- the report of a job in order, written
+module _ {x : Reading} {c : Carried} (o : InOrder c) (a : x ≡ Accepted c) (before : List ℕ) {after : List ℕ}
+    {w : Writing} where
+  pub reported : (w ≡ jobWriting reportText x before) × (after ≡ jobBuffer reportText x before)
+      → Reported c before after w
+  unfolding reportText
+  reported p = record { six = sixExtremes c; shows = six-shown c o; written = job-written reportText a before p }
+
+  pub reported-totals : (w ≡ writing (totalsText x) before) × (after ≡ bufferAfter (totalsText x) before)
+      → Reported c before after w
+  unfolding reportText
+  reported-totals p =
+      let text = ap totalsText a in
+      record {
+        six = sixExtremes c;
+        shows = six-shown c o;
+        written =
+            text-written (reportText c) before
+            (p .0 ∙ ap (λ t. writing t before) text, p .1 ∙ ap (λ t. bufferAfter t before) text);
+      }
 
 pub six-unique : (c : Carried) {six six′ : Six} → ShowsSix c six → ShowsSix c six′ → six ≡ six′
 six-unique c h k =
@@ -102,7 +124,8 @@ module _ {F A : Type 0} (alternatives : F → List A) where
   unfolding choices
   choices-only [] [] m = tt
   choices-only [] (k ∷ ks) m =
-      ⊎-elim (λ e. absurd (let z = ap length e in omega arith)) (λ n. absurd (List·Memᴰ·not-nil n)) (List·Memᴰ·cases-cons m)
+      ⊎-elim (λ e. absurd (let z = ap length e in omega arith)) (λ n. absurd (List·Memᴰ·not-nil n))
+      (List·Memᴰ·cases-cons m)
   choices-only (f ∷ fs) ks m =
       let r = each-member (alternatives f) _ m in
       let q = map-member _ (choices alternatives fs) (r .2) in
@@ -114,18 +137,20 @@ module _ {F A : Type 0} (alternatives : F → List A) where
   choices-all [] (k ∷ ks) h = absurd h
   choices-all (f ∷ fs) [] h = absurd h
   choices-all (f ∷ fs) (k ∷ ks) h =
-      member-each (λ k. map (λ ks. k ∷ ks) (choices alternatives fs)) (h .0) (Memᴰ·map (λ ks. k ∷ ks) (choices-all fs ks (h .1)))
+      member-each (λ k. map (λ ks. k ∷ ks) (choices alternatives fs)) (h .0)
+      (Memᴰ·map (λ ks. k ∷ ks) (choices-all fs ks (h .1)))
 
 module _ {W I F A : Type 0} (l : Loads W I F A) (c : Case W I A) where
   pub case-permitted : List·Memᴰ c (cases l) → Permitted l c
   case-permitted m =
       let h = cases-only l c m in
-      record { wind = h .wind; internal = h .internal; chosen = choices-only (l .alternatives (c .wind)) (l .faces) (c .chosen) (h .chosen) }
+      let chosen = choices-only (l .alternatives (c .wind)) (l .faces) (c .chosen) (h .chosen) in
+      record { wind = h .wind; internal = h .internal; chosen = chosen }
 
   pub permitted-case : Permitted l c → List·Memᴰ c (cases l)
   permitted-case h =
-      cases-all l c
-      (record { wind = h .wind; internal = h .internal; chosen = choices-all (l .alternatives (c .wind)) (l .faces) (c .chosen) (h .chosen) })
+      let chosen = choices-all (l .alternatives (c .wind)) (l .faces) (c .chosen) (h .chosen) in
+      cases-all l c (record { wind = h .wind; internal = h .internal; chosen = chosen })
 
 -- ---- two jobs
 
@@ -139,13 +164,15 @@ raised [] (v ∷ vs) o r x m = absurd r
 raised (w ∷ ws) [] o r x m = absurd r
 raised (w ∷ ws) (v ∷ vs) o r x m =
     ⊎-elim
-    (λ e. (v, List·Memᴰ·head refl, subst (λ (u : Wind). Faster u v) (sym e) (record { direction = r .0; some = omega (arith, o .0 .speed .low); risen = r .1 })))
+    (λ e. let f : Faster w v = record { direction = r .0; some = omega (arith, o .0 .speed .low); risen = r .1 } in
+    (v, List·Memᴰ·head refl, subst (λ (u : Wind). Faster u v) (sym e) f))
     (λ n. let t = raised ws vs (o .1) (r .2) x n in (t .0, List·Memᴰ·tail (t .1), t .2))
     (List·Memᴰ·cases-cons m)
 
 module _ {c d : Carried} (o : InOrder c) (p : InOrder d) (axis : Axis) (side : Side) where
   pub more-no-less : More c d → Within side (extreme axis side c .total) (extreme axis side d .total)
-  more-no-less m = extreme-more c d (m .building) (m .faces) o p (included (m .winds)) (included (m .internals)) axis side
+  more-no-less m =
+      extreme-more c d (m .building) (m .faces) o p (included (m .winds)) (included (m .internals)) axis side
 
   pub faster-no-less : faster.Faster c d → Within side (pos 0) (extreme axis side c .total)
       → Within side (extreme axis side c .total) (extreme axis side d .total)

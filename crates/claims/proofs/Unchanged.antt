@@ -1,4 +1,5 @@
--- One line for each public function that is lent a buffer and may refuse: "A refused call changes no byte of any buffer."
+-- One line for each public function that is lent a buffer and may refuse: "A refused call changes no byte of any
+-- buffer."
 use mathlib.Core.Path.{_≡_, refl, ap, subst, _∙_}
 use mathlib.Core.Bool.{Bool, true, false, cond}
 use mathlib.Core.List.{List, _++_}
@@ -25,11 +26,13 @@ module _ (text buf : List ℕ) where
   put-kept : IsRefused (writing text buf) → bufferAfter text buf ≡ buf
   put-kept = go (leb (length text) (length buf))
     where
-      go : (t : Bool) → IsRefused (cond t (written.Length (length text)) (written.Refused 7 0)) → cond t (text ++ drop (length text) buf) buf ≡ buf
+      go : (t : Bool) → IsRefused (cond t (written.Length (length text)) (written.Refused 7 0))
+          → cond t (text ++ drop (length text) buf) buf ≡ buf
       go true h = absurd h
       go false h = refl
 
-  text-kept : {r : Writing} {after : List ℕ} → (r ≡ writing text buf) × (after ≡ bufferAfter text buf) → IsRefused r → after ≡ buf
+  text-kept : {r : Writing} {after : List ℕ} → (r ≡ writing text buf) × (after ≡ bufferAfter text buf) → IsRefused r
+      → after ≡ buf
   text-kept p h = p .1 ∙ put-kept (subst IsRefused (p .0) h)
 
 module _ (text : Carried → List ℕ) (x : Reading) (buf : List ℕ) where
@@ -37,7 +40,8 @@ module _ (text : Carried → List ℕ) (x : Reading) (buf : List ℕ) where
   put-job-kept (Accepted c) h = put-kept (text c) buf h
   put-job-kept (Refused n l) h = refl
 
-  job-kept : {r : Writing} {after : List ℕ} → (r ≡ jobWriting text x buf) × (after ≡ jobBuffer text x buf) → IsRefused r → after ≡ buf
+  job-kept : {r : Writing} {after : List ℕ} → (r ≡ jobWriting text x buf) × (after ≡ jobBuffer text x buf)
+      → IsRefused r → after ≡ buf
   job-kept p h = p .1 ∙ put-job-kept x (subst IsRefused (p .0) h)
 
 -- from C a refusal is a number other than 0
@@ -47,32 +51,40 @@ host-refused (written.Refused number line) e h = tt
 
 -- ---- the list
 
-emit-unchanged : RefusedUnchanged of.emit.Post (λ κ r. IsRefused r) (λ κ a. now (a .1 .1 .0)) (λ κ s. now (s .1 .1 .0))
+emit-unchanged : RefusedUnchanged of.emit.Post (λ κ r. IsRefused r) (λ κ a. now (a .1 .1 .0))
+    (λ κ s. now (s .1 .1 .0))
 emit-unchanged κ a r s p h = text-kept (take (a .1 .0) (now (a .0))) (now (a .1 .1 .0)) p h
 
-write-decimal-unchanged : RefusedUnchanged of.write-decimal.Post (λ κ r. IsRefused r) (λ κ a. now (a .1 .0)) (λ κ s. now (s .1 .0))
+write-decimal-unchanged : RefusedUnchanged of.write-decimal.Post (λ κ r. IsRefused r) (λ κ a. now (a .1 .0))
+    (λ κ s. now (s .1 .0))
 write-decimal-unchanged κ a r s p h = text-kept (decimal (a .0)) (now (a .1 .0)) p h
 
-write-sheet-unchanged : RefusedUnchanged of.write-sheet.Post (λ κ r. IsRefused r) (λ κ a. now (a .1 .0)) (λ κ s. now (s .1 .0))
+write-sheet-unchanged : RefusedUnchanged of.write-sheet.Post (λ κ r. IsRefused r) (λ κ a. now (a .1 .0))
+    (λ κ s. now (s .1 .0))
 write-sheet-unchanged κ a r s p h = job-kept sheetText (judged (a .0)) (now (a .1 .0)) p h
 
-write-report-unchanged : RefusedUnchanged of.write-report.Post (λ κ r. IsRefused r) (λ κ a. now (a .1 .0)) (λ κ s. now (s .1 .0))
+write-report-unchanged : RefusedUnchanged of.write-report.Post (λ κ r. IsRefused r) (λ κ a. now (a .1 .0))
+    (λ κ s. now (s .1 .0))
 write-report-unchanged κ a r s p h = job-kept reportText (judged (a .0)) (now (a .1 .0)) p h
 
-write-totals-unchanged : RefusedUnchanged of.write-totals.Post (λ κ r. IsRefused r) (λ κ a. now (a .1 .0)) (λ κ s. now (s .1 .0))
+write-totals-unchanged : RefusedUnchanged of.write-totals.Post (λ κ r. IsRefused r) (λ κ a. now (a .1 .0))
+    (λ κ s. now (s .1 .0))
 write-totals-unchanged κ a r s p h = text-kept (totalsText (reading (now (a .0)))) (now (a .1 .0)) p h
 
-aral-rewrite-unchanged : RefusedUnchanged of.aral-rewrite.Post (λ κ r. r .number ≡ 0 → ⊥) (λ κ a. now (a .1 .0)) (λ κ s. now (s .1 .0))
+aral-rewrite-unchanged : RefusedUnchanged of.aral-rewrite.Post (λ κ r. r .number ≡ 0 → ⊥) (λ κ a. now (a .1 .0))
+    (λ κ s. now (s .1 .0))
 aral-rewrite-unchanged κ a r s p h =
     let w = jobWriting sheetText (reading (now (a .0))) (now (a .1 .0)) in
     job-kept sheetText (reading (now (a .0))) (now (a .1 .0)) (refl, p .1) (host-refused w (p .0) h)
 
-aral-report-unchanged : RefusedUnchanged of.aral-report.Post (λ κ r. r .number ≡ 0 → ⊥) (λ κ a. now (a .1 .0)) (λ κ s. now (s .1 .0))
+aral-report-unchanged : RefusedUnchanged of.aral-report.Post (λ κ r. r .number ≡ 0 → ⊥) (λ κ a. now (a .1 .0))
+    (λ κ s. now (s .1 .0))
 aral-report-unchanged κ a r s p h =
     let w = jobWriting reportText (reading (now (a .0))) (now (a .1 .0)) in
     job-kept reportText (reading (now (a .0))) (now (a .1 .0)) (refl, p .1) (host-refused w (p .0) h)
 
-aral-digits-unchanged : RefusedUnchanged of.aral-digits.Post (λ κ r. r .number ≡ 0 → ⊥) (λ κ a. now (a .1 .0)) (λ κ s. now (s .1 .0))
+aral-digits-unchanged : RefusedUnchanged of.aral-digits.Post (λ κ r. r .number ≡ 0 → ⊥) (λ κ a. now (a .1 .0))
+    (λ κ s. now (s .1 .0))
 aral-digits-unchanged κ a r s p h =
     let w = writing (decimal (a .0)) (now (a .1 .0)) in
     text-kept (decimal (a .0)) (now (a .1 .0)) (refl, p .1) (host-refused w (p .0) h)

@@ -21,7 +21,12 @@ module _ (text before : List ℕ) where
       go true e = put (leb-true (length text) (length before) e) refl
       go false e = longer (leb-false (length text) (length before) e) refl
 
-  pub written-unique : {after after′ : List ℕ} {w w′ : Writing} → Written text before after w → Written text before after′ w′
+  pub text-written : {after : List ℕ} {w : Writing} → (w ≡ writing text before) × (after ≡ bufferAfter text before)
+      → Written text before after w
+  text-written p = rw (p .0, p .1) writing-written
+
+  pub written-unique : {after after′ : List ℕ} {w w′ : Writing} → Written text before after w
+      → Written text before after′ w′
       → (w ≡ w′) × (after ≡ after′)
   written-unique (put h e) (put k f) = (refl, e ∙ sym f)
   written-unique (put h e) (longer k f) = absurd (omega arith)

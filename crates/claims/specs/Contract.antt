@@ -1,15 +1,18 @@
--- What is asked of a contract: that it asks nothing of its caller, that it leaves no choice, that a refused call changes nothing, and what whatever it allows must be.
+-- What is asked of a contract: that it asks nothing of its caller, that it leaves no choice, that a refused call
+-- changes nothing, and what whatever it allows must be.
 use mathlib.Core.Path.{_≡_}
 use mathlib.Core.List.{List}
 use Prim.Native.Nat.{ℕ}
 use Rattle.page.specs.declared.Writing.{Writing}
 use Rattle.page.specs.declared.Writing.the-variants.{Length, Refused}
 
--- Asked κ a is what a caller would have to show, as the checker reads it off the source, at the lifetimes κ and the arguments a
+-- Asked κ a is what a caller would have to show, as the checker reads it off the source, at the lifetimes κ and the
+-- arguments a
 abbrev pub AsksNothing : {L : Type 0} {A : L → Type 0} → ((κ : L) → A κ → Type 0) → Type 0
 AsksNothing {L} {A} Asked = (κ : L) (a : A κ) → Asked κ a
 
--- Post κ a r s is the contract, read so: at the lifetimes κ, the arguments a, the result r and the parameters at exit s.
+-- Post κ a r s is the contract, read so: at the lifetimes κ, the arguments a, the result r and the parameters at exit
+-- s.
 -- The first argument is a .0, the second a .1 .0, the third a .1 .1 .0; what a lent buffer holds is `now` of it.
 module _ {L : Type 0} {A R S : L → Type 0} (Post : (κ : L) → A κ → R κ → S κ → Type 0) where
   -- whatever the contract allows is so
@@ -24,8 +27,10 @@ module _ {L : Type 0} {A R S : L → Type 0} (Post : (κ : L) → A κ → R κ 
   OneAnswerAndBuffer buffer = (κ : L) (a : A κ) (r r′ : R κ) (s s′ : S κ)
       → Post κ a r s → Post κ a r′ s′ → (r ≡ r′) × (buffer κ s ≡ buffer κ s′)
 
-  -- where a call is refused, what the lent buffer holds after it is what it held before; `refused` tells it by the result
-  abbrev pub RefusedUnchanged : ((κ : L) → R κ → Type 0) → ((κ : L) → A κ → List ℕ) → ((κ : L) → S κ → List ℕ) → Type 0
+  -- where a call is refused, what the lent buffer holds after it is what it held before; `refused` tells it by the
+  -- result
+  abbrev pub RefusedUnchanged : ((κ : L) → R κ → Type 0) → ((κ : L) → A κ → List ℕ) → ((κ : L) → S κ → List ℕ)
+      → Type 0
   RefusedUnchanged refused before after = Always (λ κ a r s. refused κ r → after κ s ≡ before κ a)
 
 abbrev pub IsRefused : Writing → Type 0

@@ -1,4 +1,5 @@
--- What a bad sheet or job gets, and what one without a fault gets. Its lines of fields are those of the text, or those that the record's sheet would have.
+-- What a bad sheet or job gets, and what one without a fault gets. Its lines of fields are those of the text, or
+-- those that the record's sheet would have.
 use mathlib.Core.Path.{_≡_}
 use mathlib.Core.List.{List}
 use Prim.Native.Nat.{ℕ, _+_}
@@ -15,7 +16,8 @@ pub data Faulty (xs : List (List Field)) : (number line : ℕ) → Type 0 where
 abbrev pub Faultless : List (List Field) → Type 0
 Faultless xs = NoFault sheet nothing xs
 
-module _ {L : Type 0} {A R S : L → Type 0} (Post : (κ : L) → A κ → R κ → S κ → Type 0) (lines : (κ : L) → A κ → List (List Field)) where
+module _ {L : Type 0} {A R S : L → Type 0} (Post : (κ : L) → A κ → R κ → S κ → Type 0)
+    (lines : (κ : L) → A κ → List (List Field)) where
   -- the result is what `refusal` makes of that number and line, and nothing else
   abbrev pub GetsFault : ((κ : L) → A κ → ℕ → ℕ → R κ) → Type 0
   GetsFault refusal = Always Post (λ κ a r s. (n l : ℕ) → Faulty (lines κ a) n l → r ≡ refusal κ a n l)

@@ -2,5 +2,7 @@
 pub mod Contract
 pub mod Written
 pub mod Fault
+pub mod Question
+pub mod Total
 pub mod Shown
 pub mod Doubles

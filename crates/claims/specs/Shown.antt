@@ -23,7 +23,8 @@ use Rattle.claims.specs.Written.{Written}
 
 -- ---- one extreme
 
--- `case` is the one whose numbers are shown; its total is shown, bounds that of every case, and is reached by no earlier case
+-- `case` is the one whose numbers are shown; its total is shown, bounds that of every case, and is reached by no
+-- earlier case
 pub record Shows (c : Carried) (axis : Axis) (side : Side) (e : Extreme) : Type 0 where
   pub case : Case ℕ ℕ ℕ
   pub best : IsBest side (caseTotal (loads axis (given c))) (cases (loads axis (given c))) (e .total) case

@@ -1,4 +1,4 @@
-// What a signed number is without its sign: the only code that every crate above shares.
+// The size of a signed number: what it is without its sign.
 ghost use mathlib.Core.Path.{_≡_};
 ghost use lib.IntN.{natAbs};
 

@@ -1,0 +1,82 @@
+-- Sentences of paper 01 beside the three demands.
+use mathlib.Core.Path.{_≡_, refl, sym, ap, _∙_}
+use mathlib.Core.List.{List}
+use Prim.Native.Nat.{ℕ, _≤_, _<_}
+use denote.Ref.{now}
+use lib.IntN.{ℤ, pos, natAbs, _*ℤ_}
+use lib.ListN.{take}
+use Rattle.whole.specs.Lists.{Every}
+use Rattle.whole.proofs.Lists.{every-by}
+use Rattle.lines.specs.Lines.{LinesInForm}
+use Rattle.book.specs.Line.{Row, Between}
+use Rattle.book.specs.Interpolated.{Rising, hundredths, LiesBetween, Interpolated}
+use Rattle.book.proofs.Interpolated.{interpolated-between}
+use Rattle.job.specs.declared.Job.{Job}
+use Rattle.job.specs.Carried.{Carried, carried}
+use Rattle.job.specs.Lines.{linesOf}
+use Rattle.job.specs.InOrder.{FaceInOrder, Within}
+use Rattle.job.specs.Walk.{Reading, Accepted, Refused, verdict, judged}
+use Rattle.sheet.specs.Sheet.{reading, answer, sheetText}
+use Rattle.sheet.proofs.RoundTrip.{judge-is-reader}
+use Rattle.sheet.proofs.Part.{part-decides}
+use Rattle.worst.specs.declared.Axis.{Axis}
+use Rattle.worst.specs.Cases.{Case, caseTotal}
+use Rattle.worst.specs.Forces.{loads}
+use Rattle.worst.specs.Worst.{given}
+use Rattle.worst.proofs.Accepted.{given-in-range}
+use Rattle.worst.proofs.Ranges.{caseTotal-small}
+use Rattle.claims.specs.Contract.{Always}
+use Rattle.claims.proofs.Contracts as of
+use Rattle.claims.proofs.Accepted.{job-in-order}
+
+-- ---- the statements
+
+-- "It therefore lies between the neighbouring rows, ends included": once for all tables.
+abbrev pub LiesBetweenRows : Type 0
+LiesBetweenRows = (rows : List Row) (col x d : ℕ) (v : ℤ) (lower upper : Row) → Rising rows → 0 < d
+    → Interpolated rows col x d v → LiesBetween rows x d lower upper
+    → Between (hundredths lower col *ℤ pos 10) (hundredths upper col *ℤ pos 10) v
+
+-- "With these ranges no total exceeds 7.92 × 10^18 in size."
+abbrev pub TotalsAreSmall : Type 0
+TotalsAreSmall = (j : Job) (c : Carried) → judged j ≡ Accepted c → (axis : Axis) (k : Case ℕ ℕ ℕ)
+    → natAbs (caseTotal (loads axis (given c)) k) ≤ 7_920_000_000_000_000_000
+
+-- "Local coefficients .. never enter a total": every face of an accepted job is of a zone, A to H.
+abbrev pub NoLocals : Type 0
+NoLocals = (j : Job) (c : Carried) → judged j ≡ Accepted c → Every (λ f. Within 65 72 (f .zone)) (c .faces)
+
+-- "Jobs given as records get the number and line that their sheet would get", wherever the entries can be written.
+abbrev pub JobAsSheet : Type 0
+JobAsSheet = Always of.judge.Post (λ κ a r s. Always of.read-sheet.Post (λ κ′ b q t.
+    LinesInForm (linesOf (carried (a .0))) → now (b .0) ≡ sheetText
+    (carried (a .0)) → (r .number ≡ q .number) × (r .line ≡ q .line)))
+
+-- A program that reads the first 881 bytes, or more, of its input answers for all of it.
+abbrev pub PartAnswers : Type 0
+PartAnswers = (s : List ℕ) (n : ℕ) → 881 ≤ n → reading (take n s) ≡ reading s
+
+-- ---- the proofs
+
+pub lies-between-rows : LiesBetweenRows
+lies-between-rows rows col x d v lower upper rises some = interpolated-between rows rises col x d some
+
+pub totals-are-small : TotalsAreSmall
+totals-are-small j c a axis k = caseTotal-small (given c) (given-in-range c (job-in-order j c a)) axis k
+
+pub no-locals : NoLocals
+no-locals j c a = every-by (λ f (h : FaceInOrder (c .building) f). h .zone) (c .faces) (job-in-order j c a .faces)
+
+-- the number and line of a reading are those of its verdict
+same-number : (x : Reading) → (answer x .number ≡ verdict x .number) × (answer x .line ≡ verdict x .line)
+same-number (Accepted c) = (refl, refl)
+same-number (Refused n l) = (refl, refl)
+
+pub job-as-sheet : JobAsSheet
+job-as-sheet κ a r s p κ′ b q t p′ f same =
+    let x = judged (a .0) in
+    let e : q ≡ answer x = p′ ∙ ap (λ s. answer (reading s)) same ∙ ap answer (judge-is-reader (a .0) f) in
+    (ap (λ v. v .number) p ∙ sym (ap (λ v. v .number) e ∙ same-number x .0), ap (λ v. v .line) p ∙ sym (ap (λ v. v .line) e ∙ same-number x .1))
+
+pub part-answers : PartAnswers
+part-answers = part-decides

@@ -1,0 +1,86 @@
+-- What a question about one zone or local gets: the first refusal in paper 01's order, or the coefficient.
+use mathlib.Core.Path.{_≡_}
+use mathlib.Core.Bool.{true, false, _||_}
+use mathlib.Core.List.{map}
+use Prim.Native.Nat.{ℕ, _<_}
+use lib.IntN.{ℤ, natAbs}
+use Rattle.building.specs.declared.Building.{Building}
+use Rattle.building.specs.declared.Question as asked
+use Rattle.building.specs.declared.Question.the-variants as judged
+use Rattle.building.specs.Building.{sizes}
+use Rattle.building.specs.Places.{zoneOn, localOn, knows}
+use Rattle.rules.specs.declared.Section.the-variants.{B}
+use Rattle.rules.specs.declared.Kind.the-variants.{Entry}
+use Rattle.rules.specs.Sections.{lineFault}
+use Rattle.fields.specs.Fields.{buildingFields}
+use Rattle.book.specs.declared.Answer as book
+use Rattle.book.specs.declared.Answer.the-variants.{Refused}
+use Rattle.book.specs.Answer.{numberOf, lineOf, valuesOf}
+use Rattle.book.specs.Coefficient.{IsCoefficient}
+use Rattle.book.specs.Question.{net, tooGreat}
+
+-- the number that the building's line would get in its sheet, where it stands on line 2
+abbrev pub sheetFault : Building → ℕ
+sheetFault g = lineFault (Entry B) g (buildingFields g)
+
+module _ (g : Building) (direction : ℤ) (place : ℕ) where
+  -- "the building, with the number and line that its sheet would get; then the direction, 3 with line 0, for locals
+  -- too; then the zone or local, 6 with line 0"
+  pub data Refusal : (number line : ℕ) → Type 0 where
+    bad-building : {n : ℕ} → 0 < n → sheetFault g ≡ n → Refusal n 2
+    bad-direction : sheetFault g ≡ 0 → knows (g .kind) direction ≡ false → Refusal 3 0
+    bad-place : sheetFault g ≡ 0 → knows (g .kind) direction ≡ true
+        → (zoneOn (g .kind) place || localOn (g .kind) place) ≡ false → Refusal 6 0
+
+  -- none of these
+  pub record InQuestion : Type 0 where
+    pub in-order : sheetFault g ≡ 0
+    pub known : knows (g .kind) direction ≡ true
+    pub there : (zoneOn (g .kind) place || localOn (g .kind) place) ≡ true
+
+  -- the question judged: what the tables are asked for are the building's sizes
+  pub data Judged : asked.Question → Type 0 where
+    not-asked : {n l : ℕ} → Refusal n l → Judged (judged.Refused n l)
+    asked-of : InQuestion → Judged (judged.Of (sizes g))
+
+  -- an answer is number 0, line 0, and the alternatives
+  pub data Outside : book.Answer → Type 0 where
+    refused : {n l : ℕ} → Refusal n l → Outside (Refused n l)
+    told : {r : book.Answer} → InQuestion → numberOf r ≡ 0 → lineOf r ≡ 0
+        → IsCoefficient (sizes g) (natAbs direction) place (valuesOf r) → Outside r
+
+  -- "then, where the net is asked, the internal coefficient, 3 with line 0"; else outside minus internal, alternative
+  -- by alternative
+  pub data Net (internal : ℤ) : book.Answer → Type 0 where
+    as-outside : {n l : ℕ} → Refusal n l → Net internal (Refused n l)
+    bad-internal : InQuestion → tooGreat internal ≡ true → Net internal (Refused 3 0)
+    less-internal : {outside r : book.Answer} → InQuestion → tooGreat internal ≡ false → Outside outside
+        → numberOf r ≡ 0 → lineOf r ≡ 0
+        → valuesOf r ≡ map (λ v. net v internal) (valuesOf outside) → Net internal r
+
+-- ---- from C
+
+-- the arguments: h, a, b, density, kind, x, direction, place, and then the rest
+abbrev pub HostQuestion : Type 0 → Type 0
+HostQuestion Rest = ℤ × (ℤ × (ℤ × (ℤ × (ℤ × (ℤ × (ℤ × (ℕ × Rest)))))))
+
+module _ {Rest : Type 0} where
+  abbrev pub buildingIn : HostQuestion Rest → Building
+  buildingIn a =
+      record {
+        h = a .0;
+        a = a .1 .0;
+        b = a .1 .1 .0;
+        density = a .1 .1 .1 .0;
+        kind = a .1 .1 .1 .1 .0;
+        x = a .1 .1 .1 .1 .1 .0;
+      }
+
+  abbrev pub directionIn : HostQuestion Rest → ℤ
+  directionIn a = a .1 .1 .1 .1 .1 .1 .0
+
+  abbrev pub placeIn : HostQuestion Rest → ℕ
+  placeIn a = a .1 .1 .1 .1 .1 .1 .1 .0
+
+  abbrev pub restIn : HostQuestion Rest → Rest
+  restIn a = a .1 .1 .1 .1 .1 .1 .1 .1
