@@ -1,9 +1,9 @@
 // Where a number lies between the rows of a table, and the value there.
 ghost use mathlib.Core.Path.{_≡_};
-ghost use Prim.Native.Nat.{ℕ, _+_, _*_, _<_, _≤_};
+ghost use Prim.Native.Nat.{ℕ, _+_, _*_, _/_, _<_, _≤_};
 ghost use lib.ListN.{length, getD};
 ghost use lib.IntN.{natAbs};
-ghost use Rattle.whole.specs.Round.{halfUp, roundAway};
+ghost use Rattle.whole.specs.Round.{roundAway};
 ghost use Rattle.book.specs.Line.{spotFrom, lineAt};
 
 // From row `lower` to row `upper`, `part` / `whole` of the way.
@@ -42,9 +42,10 @@ pub(crate) fn spot_from(first: usize, at: &[u64], x: u64, d: u64) -> Spot
     }
 }
 
+// n / d to the nearest whole number, a half going up.
 fn half_up(n: u64, d: u64) -> u64
     requires { ⌜ (n < 10000000000000) × (0 < d) × (d < 100000000) ⌝ }
-    ensures { λ r. ⌜ r ≡ halfUp n d ⌝ }
+    ensures { λ r. ⌜ r ≡ (2 * n + d) / (2 * d) ⌝ }
 {
     (2 * n + d) / (2 * d)
 }
