@@ -1,17 +1,12 @@
 -- The numbers of a case, one after the other.
 use mathlib.Core.Path.{_≡_, refl, sym, ap, _∙_}
 use mathlib.Core.List.{List, [], _∷_, _++_, append-assoc}
-use Prim.Native.Nat.{ℕ, suc, _+_, _*_, _^_, _≤_, _<_}
+use Prim.Native.Nat.{ℕ, _+_, _<_}
 use native.Mathlib.Numerals.{add-one}
-use native.Mathlib.Omega.{arith}
-use lib.Signed.{mag}
-use lib.ListN.{length, take, getD, length-append}
-use mir.Syntax.{w8, w32}
-use mir.Val.{Fits}
+use lib.ListN.{length, take, getD}
 use lib.Seq.{take-suc}
 use Rattle.text.specs.Digits.{digits, decimal}
 use Rattle.page.specs.Writing.{Put}
-use Rattle.text.proofs.Digits.{digits-length, decimal-length}
 use Rattle.page.proofs.Put.{then}
 use Rattle.worst.specs.declared.Extreme.{Extreme}
 use Rattle.worst.specs.declared.Extremes.{Extremes}
@@ -59,27 +54,3 @@ pub numbers-more : {l m n : List ℕ} {at r r′ : ℕ} (ns : List ℕ) (i : ℕ
     → Put l at (spaced (take i ns)) m r → Put m r (spaced (getD ns i 0 ∷ [])) n r′ → Put l at (spaced (take (i + 1) ns)) n r′
 numbers-more ns i h p q =
     rw (ap (λ (k : ℕ). spaced (take k ns)) (add-one i) ∙ ap spaced (take-suc ns i 0 h) ∙ spaced-append (take i ns) (getD ns i 0 ∷ [])) (then p q)
-
--- ---- how long
-
--- a text of bounded length, and then another
-pub then≤ : {l m n : List ℕ} {at r r′ a b : ℕ} {s t : List ℕ} → Put l at s m r × (length s ≤ a) → Put m r t n r′ × (length t ≤ b)
-    → Put l at (s ++ t) n r′ × (length (s ++ t) ≤ a + b)
-then≤ {s = s} {t} p q = (then (p .0) (q .0), omega (arith, length-append s t, p .1, q .1))
-
-spaced-size : (k : ℕ) (n : ℕ) → n < 10 ^ suc k → (ns : List ℕ) → length (spaced (n ∷ ns)) ≤ suc (suc k) + length (spaced ns)
-unfolding spaced
-spaced-size k n h ns = omega (arith, length-append (digits n) (spaced ns), digits-length k n h)
-
-pub spaced-u32 : (n : ℕ) → Fits w32 n → length (spaced (n ∷ [])) ≤ 11
-spaced-u32 n f = omega (arith, spaced-size 9 n (omega (arith, f .fits)) [], ap length spaced-none)
-
-pub spaced-bytes : (ns : List ℕ) → ((k : ℕ) → Fits w8 (getD ns k 0)) → length (spaced ns) ≤ 4 * length ns
-spaced-bytes [] f = omega (arith, ap length spaced-none)
-spaced-bytes (n ∷ ns) f =
-    omega (arith, spaced-size 2 n (omega (arith, f 0 .fits)) ns, spaced-bytes ns (λ k. f (suc k)))
-
-pub line-length : (axis : ℕ) (word : List ℕ) (e : Extreme) → length word ≡ 5 → mag (e .total) < 2 ^ 63 → length (spaced (caseNumbers e)) ≤ 118
-    → length (lineText axis word e) ≤ 145
-line-length axis word e h t k =
-    rw line-parts (simp length-append (omega (arith, h, k, decimal-length (e .total) t)))

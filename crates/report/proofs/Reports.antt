@@ -3,11 +3,11 @@ use Prim.Native.Nat.{ℕ}
 use mathlib.Core.Path.{_≡_, refl, ap, _∙_}
 use mathlib.Core.List.{List, [], _∷_, _++_, append-assoc}
 use Rattle.page.specs.declared.Writing.the-variants as written
-use Rattle.page.specs.Writing.{writing, bufferAfter}
 use Rattle.lines.specs.Lines.{rows}
 use Rattle.job.specs.declared.Job.{Job}
 use Rattle.job.specs.declared.Verdict.{Verdict}
 use Rattle.job.specs.Carried.{Carried, carried, recorded}
+use Rattle.job.specs.InOrder.{InOrder}
 use Rattle.job.specs.Walk.{Reading, Accepted, Refused, verdict, judged}
 use Rattle.job.proofs.Records.{recorded-accepted}
 use Rattle.job.proofs.Verdicts.{lines-refused, lines-accepted, judged-refused, judged-accepted}
@@ -15,6 +15,7 @@ use Rattle.sheet.specs.declared.read.Read.{Read}
 use Rattle.sheet.specs.Sheet.{reading, answer, jobWriting, jobBuffer}
 use Rattle.worst.specs.declared.Reckoning.{Reckoning}
 use Rattle.worst.specs.Worst.{reckoned, worstOf}
+use Rattle.worst.proofs.Reckoned.{taken-is}
 use Rattle.report.specs.Lines.{spaced, sixText}
 use Rattle.report.specs.Report.{reportText, refused, refusedText, totalsText}
 use Rattle.report.proofs.Lines.{spaced-append}
@@ -29,7 +30,7 @@ reckoned-verdict : (r : Reading) → record { number = reckoned r .number; line 
 reckoned-verdict (Accepted c) = refl
 reckoned-verdict (Refused number line) = refl
 
-module _ (j : Job) (w : Reckoning) (e : w ≡ worstOf j) (buf : List ℕ) where
+module _ (j : Job) (w : Reckoning) (e : w ≡ worstOf j) where
   verdict-of : Verdict
   verdict-of = record { number = w .number; line = w .line }
 
@@ -37,18 +38,22 @@ module _ (j : Job) (w : Reckoning) (e : w ≡ worstOf j) (buf : List ℕ) where
   unfolding worstOf verdict-of
   judges = ap (λ (v : Reckoning). record { number = v .number; line = v .line }) e ∙ reckoned-verdict (judged j)
 
-  pub report-refused : (w .number ≡ 0 → ⊥)
+  pub report-refused : (buf : List ℕ) → (w .number ≡ 0 → ⊥)
       → (written.Refused (w .number) (w .line) ≡ jobWriting reportText (judged j) buf) × (buf ≡ jobBuffer reportText (judged j) buf)
   unfolding verdict-of
-  report-refused h = rw (judged-refused j verdict-of judges h) (refl, refl)
+  report-refused buf h = rw (judged-refused j verdict-of judges h) (refl, refl)
 
-  pub report-accepted : w .number ≡ 0
-      → (writing (sixText (w .six)) buf ≡ jobWriting reportText (judged j) buf) × (bufferAfter (sixText (w .six)) buf ≡ jobBuffer reportText (judged j) buf)
+  -- 0 accepts what is carried, in order, and the six lines are its report
+  pub record Reported : Type 0 where
+    pub order : InOrder (carried j)
+    pub accepted : judged j ≡ Accepted (carried j)
+    pub text : sixText (w .six) ≡ reportText (carried j)
+
+  pub report-accepted : w .number ≡ 0 → Reported
   unfolding worstOf reportText verdict-of
   report-accepted z =
       let a = judged-accepted j verdict-of judges z in
-      let s : w ≡ reckoned (Accepted (carried j)) = e ∙ ap reckoned a in
-      rw (s, a) (refl, refl)
+      record { order = taken-is j verdict-of judges z .order; accepted = a; text = ap (λ (v : Reckoning). sixText (v .six)) (e ∙ ap reckoned a) }
 
 -- ---- a text that is read
 

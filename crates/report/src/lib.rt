@@ -10,7 +10,7 @@ ghost use Rattle.report.specs.Report.{reportText, totalsText};
 mod refusal;
 mod six;
 
-// The report of j at the start of `buf`.
+// The report of j at the start of `buf`. None is longer than 474 bytes.
 pub fn write_report(j: Job, buf: &mut [u8]) -> Writing
     ensures { λ r. ⌜ (r ≡ jobWriting reportText (judged j) (now (buf .entry))) × (now (buf .exit) ≡ jobBuffer reportText (judged j) (now (buf .entry))) ⌝ }
 {
@@ -18,7 +18,9 @@ pub fn write_report(j: Job, buf: &mut [u8]) -> Writing
     if w.number != 0 {
         return Writing::Refused(w.number, w.line);
     }
-    six::write_six(w.six, buf)
+    let mut text = [0u8; 474];
+    let n = six::put_six(&mut text, 0, w.six);
+    page::emit(&text, n, buf)
 }
 
 // What the program `totals` writes for the sheet s: its report, or one line that refuses it.

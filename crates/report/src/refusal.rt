@@ -1,13 +1,11 @@
 // One line in place of a report: `refused`, number and line with single spaces.
 use page::Writing;
 ghost use mathlib.Core.Path.{_≡_};
-ghost use Prim.Native.Nat.{_≤_};
-ghost use lib.ListN.{length};
 ghost use Rattle.page.specs.Writing.{Put, writing, bufferAfter};
 ghost use Rattle.report.specs.Report.{refusedText};
 
 fn put_refused(buf: &mut [u8], number: u32, line: u32) -> usize
-    ensures { λ r. ⌜ Put (now (buf .entry)) 0 (refusedText number line) (now (buf .exit)) r × (length (refusedText number line) ≤ 30) ⌝ }
+    ensures { λ r. ⌜ Put (now (buf .entry)) 0 (refusedText number line) (now (buf .exit)) r ⌝ }
 {
     let word = page::put_bytes(buf, 0, b"refused");
     let told = crate::six::put_spaced(buf, word, number);

@@ -1,13 +1,11 @@
-// The text of the six lines, put after one another. Each writer also says how long its text can be.
-use page::Writing;
+// The text of the six lines, put after one another.
 use worst::Extreme;
 use worst::Extremes;
 use worst::Six;
-ghost use Prim.Native.Nat.{_*_, _≤_};
-ghost use lib.ListN.{length, take};
+ghost use lib.ListN.{take};
 ghost use mathlib.Core.Path.{_≡_};
 ghost use mathlib.Core.List.{[], _∷_};
-ghost use Rattle.page.specs.Writing.{Put, writing, bufferAfter};
+ghost use Rattle.page.specs.Writing.{Put};
 ghost use Rattle.report.specs.Lines.{spaced, caseNumbers, lineText, axisText, sixText};
 
 fn wide(n: u8) -> u32
@@ -18,7 +16,7 @@ fn wide(n: u8) -> u32
 
 // A space and a number.
 pub(crate) fn put_spaced(buf: &mut [u8], at: usize, n: u32) -> usize
-    ensures { λ r. ⌜ Put (now (buf .entry)) at (spaced (n ∷ [])) (now (buf .exit)) r × (length (spaced (n ∷ [])) ≤ 11) ⌝ }
+    ensures { λ r. ⌜ Put (now (buf .entry)) at (spaced (n ∷ [])) (now (buf .exit)) r ⌝ }
 {
     let next = page::put_byte(buf, at, b' ');
     text::put_natural(buf, next, n as u64)
@@ -26,7 +24,7 @@ pub(crate) fn put_spaced(buf: &mut [u8], at: usize, n: u32) -> usize
 
 // Each number after a space.
 fn put_numbers(buf: &mut [u8], at: usize, ns: &[u8]) -> usize
-    ensures { λ r. ⌜ Put (now (buf .entry)) at (spaced (now (ns .entry))) (now (buf .exit)) r × (length (spaced (now (ns .entry))) ≤ 4 * length (now (ns .entry))) ⌝ }
+    ensures { λ r. ⌜ Put (now (buf .entry)) at (spaced (now (ns .entry))) (now (buf .exit)) r ⌝ }
 {
     if buf.len() < at {
         return buf.len();
@@ -42,7 +40,7 @@ fn put_numbers(buf: &mut [u8], at: usize, ns: &[u8]) -> usize
 
 // The alternatives of the faces, of which an array holds 24 at most.
 fn put_alternatives(buf: &mut [u8], at: usize, alternative: [u8; 24], faces: usize) -> usize
-    ensures { λ r. ⌜ Put (now (buf .entry)) at (spaced (take faces alternative)) (now (buf .exit)) r × (length (spaced (take faces alternative)) ≤ 96) ⌝ }
+    ensures { λ r. ⌜ Put (now (buf .entry)) at (spaced (take faces alternative)) (now (buf .exit)) r ⌝ }
 {
     if faces < 24 {
         return put_numbers(buf, at, &alternative[..faces]);
@@ -52,7 +50,7 @@ fn put_alternatives(buf: &mut [u8], at: usize, alternative: [u8; 24], faces: usi
 
 // The numbers of a case.
 fn put_case(buf: &mut [u8], at: usize, e: Extreme) -> usize
-    ensures { λ r. ⌜ Put (now (buf .entry)) at (spaced (caseNumbers e)) (now (buf .exit)) r × (length (spaced (caseNumbers e)) ≤ 118) ⌝ }
+    ensures { λ r. ⌜ Put (now (buf .entry)) at (spaced (caseNumbers e)) (now (buf .exit)) r ⌝ }
 {
     let winded = put_spaced(buf, at, e.wind);
     let inside = put_spaced(buf, winded, e.internal);
@@ -62,7 +60,7 @@ fn put_case(buf: &mut [u8], at: usize, e: Extreme) -> usize
 
 // One line: the axis, the word, the total and the numbers of its case.
 fn put_line(buf: &mut [u8], at: usize, axis: u8, word: &[u8; 5], e: Extreme) -> usize
-    ensures { λ r. ⌜ Put (now (buf .entry)) at (lineText axis (now (word .entry)) e) (now (buf .exit)) r × (length (lineText axis (now (word .entry)) e) ≤ 145) ⌝ }
+    ensures { λ r. ⌜ Put (now (buf .entry)) at (lineText axis (now (word .entry)) e) (now (buf .exit)) r ⌝ }
 {
     let named = page::put_byte(buf, at, axis);
     let worded = page::put_bytes(buf, named, word);
@@ -72,26 +70,17 @@ fn put_line(buf: &mut [u8], at: usize, axis: u8, word: &[u8; 5], e: Extreme) -> 
 }
 
 fn put_axis(buf: &mut [u8], at: usize, axis: u8, e: Extremes) -> usize
-    ensures { λ r. ⌜ Put (now (buf .entry)) at (axisText axis e) (now (buf .exit)) r × (length (axisText axis e) ≤ 290) ⌝ }
+    ensures { λ r. ⌜ Put (now (buf .entry)) at (axisText axis e) (now (buf .exit)) r ⌝ }
 {
     let next = put_line(buf, at, axis, b" max ", e.greatest);
     put_line(buf, next, axis, b" min ", e.least)
 }
 
 // All six.
-fn put_six(buf: &mut [u8], at: usize, s: Six) -> usize
-    ensures { λ r. ⌜ Put (now (buf .entry)) at (sixText s) (now (buf .exit)) r × (length (sixText s) ≤ 870) ⌝ }
+pub(crate) fn put_six(buf: &mut [u8], at: usize, s: Six) -> usize
+    ensures { λ r. ⌜ Put (now (buf .entry)) at (sixText s) (now (buf .exit)) r ⌝ }
 {
     let x = put_axis(buf, at, b'x', s.x);
     let y = put_axis(buf, x, b'y', s.y);
     put_axis(buf, y, b'z', s.z)
-}
-
-// The six lines at the start of `buf`. No line is longer than 145 bytes.
-pub(crate) fn write_six(s: Six, buf: &mut [u8]) -> Writing
-    ensures { λ r. ⌜ (r ≡ writing (sixText s) (now (buf .entry))) × (now (buf .exit) ≡ bufferAfter (sixText s) (now (buf .entry))) ⌝ }
-{
-    let mut text = [0u8; 870];
-    let n = put_six(&mut text, 0, s);
-    page::emit(&text, n, buf)
 }

@@ -1,7 +1,9 @@
--- `write_report` meets its contract: a job's own refusal, or the six lines of its extremes.
-use mathlib.Core.Path.{_∙_}
+-- `write_report` meets its contract: a job's own refusal, or its report, which finds room and so is handed to `emit` whole.
 use denote.Ref.{now}
 use borrow.Author.Needs.{needs}
+use Rattle.page.proofs.Put.{emitted}
+use Rattle.job.specs.Carried.{carried}
+use Rattle.report.proofs.Lengths.{report-most}
 use Rattle.report.proofs.Reports.{report-refused, report-accepted}
 use Rattle.report.proofs.write_report.Statement.{statement}
 use Rattle.report.proofs.write_report.Tie as tie
@@ -15,20 +17,41 @@ returns c =
     let a = w .before .before .args in
     report-refused (a .j) (w .worst-cases .result) (w .worst-cases .ensures) (now (a .buf)) (c .if1 .taken)
 
-write-six-requires : tie.Need-write-six-requires
-write-six-requires c κs = search needs
+slice-aggregate-put-six : tie.Need-slice-aggregate-put-six
+slice-aggregate-put-six c = search needs
+
+put-six-requires : tie.Need-put-six-requires
+put-six-requires c κs = search needs
+
+slice-aggregate-emit : tie.Need-slice-aggregate-emit
+slice-aggregate-emit c = search needs
+
+emit-requires : tie.Need-emit-requires
+emit-requires c κs = search needs
 
 same-length : tie.Need-same-length
 same-length c = search needs
 
 returns-2 : tie.Need-returns-2
 returns-2 c =
-    let s = c .before .before in
-    let e = s .before .before in
-    let w = e .before .before in
+    let e = c .before .before in
+    let p = e .before .before .before .before in
+    let i = p .before .before in
+    let w = i .before .before in
     let a = w .before .before .args in
-    let t = report-accepted (a .j) (w .worst-cases .result) (w .worst-cases .ensures) (now (a .buf)) (e .if1 .left) in
-    (s .write-six .ensures .0 ∙ t .0, s .write-six .ensures .1 ∙ t .1)
+    let k = report-accepted (a .j) (w .worst-cases .result) (w .worst-cases .ensures) (i .if1 .left) in
+    rw (k .accepted)
+    (emitted (rw (k .text) at (p .put-six .ensures)) (report-most (carried (a .j)) (k .order)) (now (a .buf)) (e .emit .ensures))
 
 pub write-report-spec : {M : Type 1} → statement M
-write-report-spec = tie.close (tie.spec worst-cases-requires returns write-six-requires same-length returns-2)
+write-report-spec =
+    tie.close
+    (tie.spec
+    worst-cases-requires
+    returns
+    slice-aggregate-put-six
+    put-six-requires
+    slice-aggregate-emit
+    emit-requires
+    same-length
+    returns-2)

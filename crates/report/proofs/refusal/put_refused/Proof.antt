@@ -1,7 +1,6 @@
 -- `put_refused` meets its contract: the word and the two numbers, one after the other.
-use native.Mathlib.Nat.{le-refl}
 use borrow.Author.Needs.{needs}
-use Rattle.report.proofs.Lines.{then≤}
+use Rattle.page.proofs.Put.{then}
 use Rattle.report.proofs.Reports.{refused-parts}
 use Rattle.report.proofs.refusal.put_refused.Statement.{statement}
 use Rattle.report.proofs.refusal.put_refused.Tie as tie
@@ -31,7 +30,7 @@ returns c =
     let number = line .before .before .before .before in
     let word = number .before .before .before .before in
     rw refused-parts
-    (then≤ (then≤ (then≤ (word .put-bytes .ensures, le-refl 7) (number .put-spaced .ensures)) (line .put-spaced2 .ensures)) (end .put-byte .ensures, le-refl 1))
+    (then (then (then (word .put-bytes .ensures) (number .put-spaced .ensures)) (line .put-spaced2 .ensures)) (end .put-byte .ensures))
 
 pub put-refused-spec : {M : Type 1} → statement M
 put-refused-spec =

@@ -2,6 +2,7 @@
 use denote.Ref.{now}
 use Rattle.page.proofs.Put.{emitted}
 use borrow.Author.Needs.{needs}
+use Rattle.report.proofs.Lengths.{refused-most}
 use Rattle.report.proofs.refusal.write_refused.Statement.{statement}
 use Rattle.report.proofs.refusal.write_refused.Tie as tie
 
@@ -24,7 +25,8 @@ returns : tie.Need-returns
 returns c =
     let e = c .before .before in
     let p = e .before .before .before .before in
-    emitted (p .put-refused .ensures .0) (p .put-refused .ensures .1) (now (p .before .before .before .args .buf)) (e .emit .ensures)
+    let s = p .before .before .before in
+    emitted (p .put-refused .ensures) (refused-most (s .args .number) (s .args .line) (s .fits .number) (s .fits .line)) (now (s .args .buf)) (e .emit .ensures)
 
 pub write-refused-spec : {M : Type 1} → statement M
 write-refused-spec =

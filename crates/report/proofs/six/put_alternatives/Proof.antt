@@ -20,9 +20,7 @@ same-length c = search needs
 
 returns : tie.Need-returns
 returns c =
-    let g = c .before .before in
-    let a = g .before .before .before .before .before .args in
-    (g .put-numbers .ensures .0, omega (arith, g .put-numbers .ensures .1, length-take (a .faces) (a .t3)))
+    c .before .before .put-numbers .ensures
 
 slice-aggregate-put-numbers-2 : tie.Need-slice-aggregate-put-numbers-2
 slice-aggregate-put-numbers-2 c = search needs
@@ -37,7 +35,7 @@ returns-2 : tie.Need-returns-2
 returns-2 c =
     let g = c .before .before in
     let a = g .before .before .before .before .before .args in
-    rw (take-all (a .faces) (a .t3) (omega arith)) (g .put-numbers2 .ensures .0, omega (arith, g .put-numbers2 .ensures .1))
+    rw (take-all (a .faces) (a .t3) (omega arith)) (g .put-numbers2 .ensures)
 
 pub put-alternatives-spec : {M : Type 1} → statement M
 put-alternatives-spec =

@@ -1,6 +1,7 @@
 -- `put_axis` meets its contract: the greatest, then the least.
 use borrow.Author.Needs.{needs}
-use Rattle.report.proofs.Lines.{axis-parts, then≤}
+use Rattle.page.proofs.Put.{then}
+use Rattle.report.proofs.Lines.{axis-parts}
 use Rattle.report.proofs.six.put_axis.Statement.{statement}
 use Rattle.report.proofs.six.put_axis.Tie as tie
 
@@ -16,7 +17,7 @@ same-length c = search needs
 returns : tie.Need-returns
 returns c =
     let least = c .before .before in
-    rw axis-parts (then≤ (least .before .before .before .before .before .put-line .ensures) (least .put-line2 .ensures))
+    rw axis-parts (then (least .before .before .before .before .before .put-line .ensures) (least .put-line2 .ensures))
 
 pub put-axis-spec : {M : Type 1} → statement M
 put-axis-spec = tie.close (tie.spec put-line-requires put-line-requires-2 same-length returns)

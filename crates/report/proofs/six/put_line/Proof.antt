@@ -1,10 +1,9 @@
 -- `put_line` meets its contract: the parts of a line, one after the other.
 use borrow.Author.Needs.{needs}
-use denote.Ref.{now}
 use mir.Syntax.{w64}
 use mir.ValLaws.{toZ-ofZ}
 use Rattle.page.proofs.Put.{then}
-use Rattle.report.proofs.Lines.{line-parts, line-length}
+use Rattle.report.proofs.Lines.{line-parts}
 use Rattle.report.proofs.six.put_line.Statement.{statement}
 use Rattle.report.proofs.six.put_line.Tie as tie
 
@@ -35,13 +34,10 @@ returns c =
     let axis = word .before .before .before .before .before in
     let e = axis .before .before .before .args .e in
     let read = toZ-ofZ w64 (e .total) (record { sfits = total .before .struct-told .given .0 .1 }) in
-    let a = axis .before .before .before .args in (
-      rw line-parts
-          (then
-          (then (then (then (axis .put-byte .ensures) (word .put-bytes .ensures)) (rw read at (total .put-decimal .ensures))) (case .put-case .ensures .0))
-          (end .put-byte2 .ensures)),
-      line-length (a .axis) (now (a .word)) (a .e) (search needs) (total .before .struct-told .given .0 .1) (case .put-case .ensures .1),
-    )
+    rw line-parts
+    (then
+    (then (then (then (axis .put-byte .ensures) (word .put-bytes .ensures)) (rw read at (total .put-decimal .ensures))) (case .put-case .ensures))
+    (end .put-byte2 .ensures))
 
 pub put-line-spec : {M : Type 1} → statement M
 put-line-spec =

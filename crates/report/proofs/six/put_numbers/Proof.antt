@@ -7,7 +7,7 @@ use borrow.Author.Needs.{needs}
 use Rattle.page.specs.Writing.{Put}
 use Rattle.page.proofs.Put.{put-length, put-nothing, put-past}
 use Rattle.report.specs.Lines.{spaced}
-use Rattle.report.proofs.Lines.{spaced-none, spaced-bytes, numbers-more}
+use Rattle.report.proofs.Lines.{spaced-none, numbers-more}
 use Rattle.report.proofs.six.put_numbers.Statement.{statement}
 use Rattle.report.proofs.six.put_numbers.Tie as tie
 
@@ -20,7 +20,7 @@ abbrev μ-loop : tie.MeasureT-loop
 returns : tie.Need-returns Inv-loop μ-loop
 returns c =
     let a = c .before .before .before .args in
-    (put-past (now (a .buf)) (a .at) (spaced (now (a .ns))) (search needs), spaced-bytes (now (a .ns)) (c .before .shared-slice-known .given))
+    put-past (now (a .buf)) (a .at) (spaced (now (a .ns))) (search needs)
 
 loop-holds : tie.Need-loop-holds Inv-loop μ-loop
 loop-holds c =
@@ -48,7 +48,7 @@ loop-again c =
     let w = p .before in
     let l = w .before .before .before .before in
     let a = l .before .before .before .before .args in
-    (search needs, numbers-more (now (a .ns)) (l .loop .i) (search needs) (l .loop .inv .1) (rw (w .wide .ensures) at (p .put-spaced .ensures .0)))
+    (search needs, numbers-more (now (a .ns)) (l .loop .i) (search needs) (l .loop .inv .1) (rw (w .wide .ensures) at (p .put-spaced .ensures)))
 
 same-length : tie.Need-same-length Inv-loop μ-loop
 same-length c = put-length (c .before .loop .inv .1)
@@ -58,7 +58,7 @@ returns-2 c =
     let l = c .before in
     let s = l .before .before in
     let ns = now (s .before .before .args .ns) in
-    (rw (take-all (l .loop .i) ns (c .loop-test .left)) at (l .loop .inv .1), spaced-bytes ns (s .shared-slice-known .given))
+    rw (take-all (l .loop .i) ns (c .loop-test .left)) at (l .loop .inv .1)
 
 pub put-numbers-spec : {M : Type 1} → statement M
 put-numbers-spec =

@@ -1,0 +1,138 @@
+-- How long a text can be: the line that refuses a sheet, and the report of an accepted job.
+use mathlib.Core.Path.{_≡_, refl, sym, ap, _∙_, subst}
+use mathlib.Core.Bool.{Bool, true, false, cond}
+use mathlib.Core.List.{List, [], _∷_, List·Memᴰ, List·Memᴰ·head, List·Memᴰ·tail, List·Memᴰ·eq-of-singleton}
+use Prim.Native.Nat.{ℕ, suc, _+_, _-_, _*_, _^_, _≤_, _<_}
+use native.Mathlib.Omega.{arith}
+use lib.IntN.{ℤ, natAbs}
+use lib.ListN.{length, length-append}
+use lib.Seq.{take-at}
+use mir.Syntax.{w32}
+use mir.Val.{Fits}
+use Rattle.whole.specs.Lists.{Every}
+use Rattle.whole.proofs.Size.{mag-le}
+use Rattle.text.specs.Digits.{digits}
+use Rattle.text.proofs.Digits.{digits-length, decimal-length}
+use Rattle.job.specs.Carried.{Carried, noWind}
+use Rattle.job.specs.InOrder.{InOrder}
+use Rattle.worst.specs.declared.Axis.{Axis}
+use Rattle.worst.specs.declared.Axis.the-variants.{X, Y, Z}
+use Rattle.worst.specs.declared.Side.{Side}
+use Rattle.worst.specs.declared.Side.the-variants.{Greatest, Least}
+use Rattle.worst.specs.Cases.{Case, numbers, choices, cases}
+use Rattle.worst.specs.Forces.{acts, alternatives, windAt, loads}
+use Rattle.worst.specs.Shown.{padded, shown}
+use Rattle.worst.specs.Worst.{given, extreme, extremes, sixExtremes}
+use Rattle.worst.proofs.Lists.{Between, numbers-member, getD-member}
+use Rattle.worst.proofs.Members.{each-member, map-member, IsCase, cases-only}
+use Rattle.worst.proofs.Meaning.{isBest-member}
+use Rattle.worst.proofs.OneFace.{OneOrTwo, alone, pair}
+use Rattle.worst.proofs.Ranges.{caseTotal-small}
+use Rattle.worst.proofs.Accepted.{given-sound, given-in-range}
+use Rattle.worst.proofs.Promises.{extreme-shows}
+use Rattle.report.specs.Lines.{spaced, caseNumbers, lineText, axisText, x, y, z, max, min}
+use Rattle.report.specs.Report.{reportText, refusedText}
+use Rattle.report.proofs.Lines.{spaced-none, line-parts, axis-parts, six-parts}
+use Rattle.report.proofs.Reports.{refused-parts}
+
+-- ---- numbers after spaces
+
+spaced-size : (k : ℕ) (n : ℕ) → n < 10 ^ suc k → (ns : List ℕ) → length (spaced (n ∷ ns)) ≤ suc (suc k) + length (spaced ns)
+unfolding spaced
+spaced-size k n h ns = omega (arith, length-append (digits n) (spaced ns), digits-length k n h)
+
+spaced-u32 : (n : ℕ) → Fits w32 n → length (spaced (n ∷ [])) ≤ 11
+spaced-u32 n f = omega (arith, spaced-size 9 n (omega (arith, f .fits)) [], ap length spaced-none)
+
+pub refused-most : (number line : ℕ) → Fits w32 number → Fits w32 line → length (refusedText number line) ≤ 30
+refused-most number line f g =
+    rw refused-parts (simp length-append (omega (arith, spaced-u32 number f, spaced-u32 line g)))
+
+abbrev OneDigit : ℕ → Type 0
+OneDigit n = n < 10
+
+spaced-digits : (ns : List ℕ) → Every OneDigit ns → length (spaced ns) ≤ 2 * length ns
+spaced-digits [] h = omega (arith, ap length spaced-none)
+spaced-digits (n ∷ ns) h = omega (arith, spaced-size 0 n (h .0) ns, spaced-digits ns (h .1))
+
+-- ---- the numbers of a case of an accepted job
+
+-- a choice has one alternative for each face
+chosen-each : {F A : Type 0} (P : A → Type 0) (permitted : F → List A) (fs : List F) (ks : List A)
+    → ((f : F) → List·Memᴰ f fs → (k : A) → List·Memᴰ k (permitted f) → P k)
+    → List·Memᴰ ks (choices permitted fs) → (length ks ≡ length fs) × Every P ks
+unfolding choices
+chosen-each P permitted [] ks h m =
+    subst (λ l. (length l ≡ 0) × Every P l) (sym (List·Memᴰ·eq-of-singleton m)) (refl, tt)
+chosen-each P permitted (f ∷ fs) ks h m =
+    let k = each-member (permitted f) _ m in
+    let l = map-member _ (choices permitted fs) (k .2) in
+    let r = chosen-each P permitted fs (l .0) (λ g n. h g (List·Memᴰ·tail n)) (l .1) in
+    subst (λ l. (length l ≡ suc (length fs)) × Every P l) (sym (l .2)) (ap suc (r .0), (h f (List·Memᴰ·head refl) (k .0) (k .1), r .1))
+
+few : {outs : List ℤ} → OneOrTwo outs → length outs ≤ 2
+few (alone v) = omega arith
+few (pair v u) = omega arith
+
+alternative-digit : (t : Bool) (outs : List ℤ) → (t ≡ true → OneOrTwo outs) → (k : ℕ)
+    → List·Memᴰ k (cond t (numbers (length outs) 1) (1 ∷ [])) → OneDigit k
+alternative-digit true outs h k m = omega (arith, numbers-member (length outs) 1 m .high, few (h refl))
+alternative-digit false outs h k m = omega (arith, List·Memᴰ·eq-of-singleton m)
+
+module _ (axis : Axis) (s : Side) (c : Carried) (o : InOrder c) where
+  case : Case ℕ ℕ ℕ
+  case = extreme-shows axis s c o .case
+
+  is-case : IsCase (loads axis (given c)) case
+  unfolding case
+  is-case = cases-only (loads axis (given c)) case (isBest-member s _ (extreme-shows axis s c o .best))
+
+  wind : Between 1 (length (c .winds)) (case .wind)
+  wind = numbers-member (length (c .winds)) 1 (is-case .wind)
+
+  internal : Between 1 (length (c .internals)) (case .internal)
+  internal = numbers-member (length (c .internals)) 1 (is-case .internal)
+
+  chosen : (length (case .chosen) ≡ length (c .faces)) × Every OneDigit (case .chosen)
+  chosen =
+      let w = windAt (given c) (case .wind) in
+      let m = getD-member (c .winds) (case .wind - 1) noWind (omega (arith, wind .low, wind .high)) in
+      chosen-each OneDigit (alternatives (given c) w) (c .faces) (case .chosen)
+      (λ f n. alternative-digit (acts f (w .direction)) _ (given-sound c o .outside w f m n)) (is-case .chosen)
+
+  case-numbers : caseNumbers (extreme axis s c) ≡ case .wind ∷ case .internal ∷ case .chosen
+  unfolding case shown padded
+  case-numbers =
+      ap caseNumbers (extreme-shows axis s c o .named)
+      ∙ ap (λ (ks : List ℕ). case .wind ∷ case .internal ∷ ks) (take-at (case .chosen) _ (length (c .faces)) (chosen .0))
+
+  case-digits : Every OneDigit (case .wind ∷ case .internal ∷ case .chosen)
+  case-digits =
+      (omega (arith, wind .high, o .winds-counted .high), (omega (arith, internal .high, o .internals-counted .high), chosen .1))
+
+  -- a space and a digit for the wind, the internal coefficient and each of 24 faces
+  case-most : length (spaced (caseNumbers (extreme axis s c))) ≤ 52
+  case-most =
+      rw case-numbers (omega (arith, spaced-digits (case .wind ∷ case .internal ∷ case .chosen) case-digits, chosen .0, o .faces-counted .high))
+
+  total-small : natAbs (extreme axis s c .total) ≤ 7920000000000000000
+  total-small =
+      let h = extreme-shows axis s c o in
+      rw (h .best .reached) at (caseTotal-small (given c) (given-in-range c o) axis (h .case))
+
+  -- the letter, the word, a total of 20 bytes at most, the numbers and the end
+  line-most : (letter : ℕ) (word : List ℕ) → length word ≡ 5 → length (lineText letter word (extreme axis s c)) ≤ 79
+  line-most letter word h =
+      let z = extreme axis s c .total in
+      rw line-parts (simp length-append (omega (arith, h, case-most, decimal-length z (omega (arith, mag-le z, total-small)))))
+
+-- ---- the report
+
+axis-most : (axis : Axis) (letter : ℕ) (c : Carried) → InOrder c → length (axisText letter (extremes axis c)) ≤ 158
+axis-most axis letter c o =
+    rw axis-parts (simp length-append (omega (arith, line-most axis Greatest c o letter max refl, line-most axis Least c o letter min refl)))
+
+pub report-most : (c : Carried) → InOrder c → length (reportText c) ≤ 474
+unfolding reportText sixExtremes
+report-most c o =
+    rw six-parts (simp length-append (omega (arith, axis-most X x c o, axis-most Y y c o, axis-most Z z c o)))
