@@ -1,6 +1,6 @@
 -- Laws of digits: they are those of a tenth and one more, they are read back as the number, and how many there are.
 use mathlib.Core.Path.{_≡_, refl, sym, ap, _∙_}
-use mathlib.Core.Bool.{Bool, true, false, true≢false}
+use mathlib.Core.Bool.{true, false, true≢false}
 use mathlib.Core.List.{List, [], _∷_, _++_}
 use Prim.Native.Nat.{ℕ, zero, suc, _+_, _*_, _-_, _/_, _%_, _≤_, _<_, _^_}
 use native.Mathlib.Nat.{le-refl, pow-suc}
@@ -9,40 +9,47 @@ use lib.Dec.{ltb}
 use lib.IntN.{ℤ, pos, negsuc, negℤ, natAbs}
 use lib.ListN.{length, length-append}
 use lib.Signed.{mag, ltZ}
-use borrow.Author.Tests.{lt-ltb, le-ltb, le-leb, ltb-true, ltb-false, ne-eqb}
+use borrow.Author.Tests.{le-leb, ltb-true, ltb-false, ne-eqb}
 use Rattle.whole.proofs.Tests.{by-test, and-true}
 use Rattle.text.specs.Digits.{digitsWithin, digits, decimal, isDigit, allDigits, valueAfter, value, signedValue}
 
 -- ---- what they are
 
--- the bound on the recursion does not matter, where it is n or more
-within-agree : (f g : ℕ) (b : Bool) (n : ℕ) → (b ≡ false → 10 ≤ n) → n ≤ f → n ≤ g → digitsWithin f b n ≡ digitsWithin g b n
+within-none : (k d : ℕ) → digitsWithin k 0 d ≡ (48 + d) ∷ []
 unfolding digitsWithin
-within-agree zero zero b n s hf hg = refl
-within-agree zero (suc g) true n s hf hg = refl
-within-agree zero (suc g) false n s hf hg = absurd (omega (arith, s refl))
-within-agree (suc f) zero true n s hf hg = refl
-within-agree (suc f) zero false n s hf hg = absurd (omega (arith, s refl))
-within-agree (suc f) (suc g) true n s hf hg = refl
-within-agree (suc f) (suc g) false n s hf hg =
-    ap (λ (l : List ℕ). l ++ ((48 + n % 10) ∷ []))
-    (within-agree f g (ltb (n / 10) 10) (n / 10) (ltb-false (n / 10) 10) (omega (arith, s refl)) (omega (arith, s refl)))
+within-none zero d = refl
+within-none (suc k) d = refl
 
-within-small : (f n : ℕ) → digitsWithin f true n ≡ (48 + n) ∷ []
+within-some : (k t d : ℕ) → 0 < t → digitsWithin (suc k) t d ≡ digitsWithin k (t / 10) (t % 10) ++ ((48 + d) ∷ [])
 unfolding digitsWithin
-within-small zero n = refl
-within-small (suc f) n = refl
+within-some k zero d h = absurd (omega arith)
+within-some k (suc t) d h = refl
+
+-- how many places there are does not matter, where they are t or more
+within-agree : (j k t d : ℕ) → t ≤ j → t ≤ k → digitsWithin j t d ≡ digitsWithin k t d
+unfolding digitsWithin
+within-agree zero k zero d hj hk = sym (within-none k d)
+within-agree zero k (suc t) d hj hk = absurd (omega arith)
+within-agree (suc j) k zero d hj hk = sym (within-none k d)
+within-agree (suc j) zero (suc t) d hj hk = absurd (omega arith)
+within-agree (suc j) (suc k) (suc t) d hj hk =
+    within-some j (suc t) d (omega arith)
+    ∙ ap (λ (l : List ℕ). l ++ ((48 + d) ∷ [])) (within-agree j k (suc t / 10) (suc t % 10) (omega arith) (omega arith))
+    ∙ sym (within-some k (suc t) d (omega arith))
 
 pub digits-small : (n : ℕ) → n < 10 → digits n ≡ (48 + n) ∷ []
 unfolding digits
-digits-small n h = ap (λ (b : Bool). digitsWithin n b n) (lt-ltb n 10 h) ∙ within-small n n
+digits-small n h =
+    let t : n / 10 ≡ 0 = omega arith in
+    let d : n % 10 ≡ n = omega arith in
+    rw (t, d) (within-none n n)
 
 pub digits-more : (n : ℕ) → 10 ≤ n → digits n ≡ digits (n / 10) ++ ((48 + n % 10) ∷ [])
 unfolding digits
 digits-more zero h = absurd (omega arith)
 digits-more (suc k) h =
-    ap (λ (b : Bool). digitsWithin (suc k) b (suc k)) (le-ltb (suc k) 10 h)
-    ∙ ap (λ (l : List ℕ). l ++ ((48 + suc k % 10) ∷ [])) (within-agree k (suc k / 10) (ltb (suc k / 10) 10) (suc k / 10) (ltb-false (suc k / 10) 10) (omega arith) (omega arith))
+    within-some k (suc k / 10) (suc k % 10) (omega arith)
+    ∙ ap (λ (l : List ℕ). l ++ ((48 + suc k % 10) ∷ [])) (within-agree k (suc k / 10) (suc k / 10 / 10) (suc k / 10 % 10) (omega arith) (omega arith))
 
 -- what holds of each number below ten, and of each other if of its tenth, holds of every number
 pub by-tens : (P : ℕ → Type 0) → ((n : ℕ) → n < 10 → P n) → ((n : ℕ) → 10 ≤ n → P (n / 10) → P n) → (n : ℕ) → P n

@@ -1,25 +1,11 @@
--- Numbers in decimal, as bytes: the digits of a number, most significant first, and the number that digits stand for.
-use Prim.Native.Nat.{ℕ, zero, suc, _+_, _-_, _*_, _/_, _%_}
+-- Numbers in decimal, as bytes: the number that digits stand for, and the digits of a number, most significant first.
+use mathlib.Core.Path.{_≡_}
+use Prim.Native.Nat.{ℕ, zero, suc, _+_, _-_, _*_, _/_, _%_, _≤_}
 use mathlib.Core.Bool.{Bool, true, false, cond, _&&_}
 use mathlib.Core.List.{List, [], _∷_, _++_}
 use lib.Dec.{ltb, leb, eqb}
 use lib.IntN.{ℤ, pos, negsuc, negℤ}
-
--- the digits of a tenth of n and then the last, or the one digit of a number below ten; f is at least n, so the recursion is never cut short
-unfoldable pub digitsWithin : (f : ℕ) (belowTen : Bool) (n : ℕ) → List ℕ
-digitsWithin zero belowTen n = (48 + n) ∷ []
-digitsWithin (suc f) true n = (48 + n) ∷ []
-digitsWithin (suc f) false n = digitsWithin f (ltb (n / 10) 10) (n / 10) ++ ((48 + n % 10) ∷ [])
-
-unfoldable pub digits : ℕ → List ℕ
-unfolding digitsWithin
-digits n = digitsWithin n (ltb n 10) n
-
--- a minus sign before the digits of a negative number
-unfoldable pub decimal : ℤ → List ℕ
-unfolding digits
-decimal (pos n) = digits n
-decimal (negsuc n) = 45 ∷ digits (suc n)
+use lib.ListN.{length, getD}
 
 abbrev pub isDigit : ℕ → Bool
 isDigit b = leb 48 b && leb b 57
@@ -41,3 +27,32 @@ value ds = valueAfter 0 ds
 unfoldable pub signedValue : List ℕ → ℤ
 signedValue [] = pos 0
 signedValue (b ∷ s) = cond (eqb b 45) (negℤ (pos (value s))) (pos (value (b ∷ s)))
+
+-- ---- the digits of a number
+
+abbrev pub leadingZero : List ℕ → Bool
+leadingZero ds = ltb 1 (length ds) && eqb (getD ds 0 0) 48
+
+-- what they are: some, each a digit, with no leading zero, and they stand for it
+pub record AreDigits (n : ℕ) (ds : List ℕ) : Type 0 where
+  pub some : 1 ≤ length ds
+  pub each : allDigits ds ≡ true
+  pub plain : leadingZero ds ≡ false
+  pub stand : value ds ≡ n
+
+-- the last k + 1 digits of a number of t tens and d, or all where it has no more: those of t, where it is not 0, and then d
+unfoldable pub digitsWithin : (k t d : ℕ) → List ℕ
+digitsWithin zero t d = (48 + d) ∷ []
+digitsWithin (suc k) zero d = (48 + d) ∷ []
+digitsWithin (suc k) (suc t) d = digitsWithin k (suc t / 10) (suc t % 10) ++ ((48 + d) ∷ [])
+
+-- all of them: `digits-are` proves that these are n's digits, and `digits-only` that no others are
+unfoldable pub digits : ℕ → List ℕ
+unfolding digitsWithin
+digits n = digitsWithin n (n / 10) (n % 10)
+
+-- a minus sign before the digits of a negative number
+unfoldable pub decimal : ℤ → List ℕ
+unfolding digits
+decimal (pos n) = digits n
+decimal (negsuc n) = 45 ∷ digits (suc n)
