@@ -1,17 +1,16 @@
 -- How long a text can be: the line that refuses a sheet, and the report of an accepted job.
 use mathlib.Core.Path.{_≡_, refl, sym, ap, _∙_, subst}
 use mathlib.Core.Bool.{Bool, true, false, cond}
-use mathlib.Core.List.{List, [], _∷_, List·Memᴰ, List·Memᴰ·head, List·Memᴰ·tail, List·Memᴰ·eq-of-singleton}
+use mathlib.Core.List.{List, [], _∷_, List·Memᴰ, List·Memᴰ·head, List·Memᴰ·tail, List·Memᴰ·cases-cons, List·Memᴰ·not-nil, List·Memᴰ·eq-of-singleton}
+use mathlib.Core.Logic.{⊎-elim}
 use Prim.Native.Nat.{ℕ, suc, _+_, _-_, _*_, _^_, _≤_, _<_}
 use native.Mathlib.Omega.{arith}
-use lib.IntN.{ℤ, natAbs}
+use lib.IntN.{ℤ, pos, negsuc, natAbs}
 use lib.ListN.{length, length-append}
 use lib.Seq.{take-at}
 use mir.Syntax.{w32}
 use mir.Val.{Fits}
-use Rattle.whole.specs.Lists.{Every}
-use Rattle.whole.proofs.Size.{mag-le}
-use Rattle.text.specs.Digits.{digits}
+use Rattle.text.specs.Digits.{digits, decimal}
 use Rattle.text.proofs.Digits.{digits-length, decimal-length}
 use Rattle.job.specs.Carried.{Carried, noWind}
 use Rattle.job.specs.InOrder.{InOrder}
@@ -51,24 +50,35 @@ refused-most number line f g =
 abbrev OneDigit : ℕ → Type 0
 OneDigit n = n < 10
 
-spaced-digits : (ns : List ℕ) → Every OneDigit ns → length (spaced ns) ≤ 2 * length ns
+abbrev AllOf : {A : Type 0} → (A → Type 0) → List A → Type 0
+AllOf {A} P l = (a : A) → List·Memᴰ a l → P a
+
+spaced-digits : (ns : List ℕ) → AllOf OneDigit ns → length (spaced ns) ≤ 2 * length ns
 spaced-digits [] h = omega (arith, ap length spaced-none)
-spaced-digits (n ∷ ns) h = omega (arith, spaced-size 0 n (h .0) ns, spaced-digits ns (h .1))
+spaced-digits (n ∷ ns) h =
+    omega (arith, spaced-size 0 n (h n (List·Memᴰ·head refl)) ns, spaced-digits ns (λ a m. h a (List·Memᴰ·tail m)))
+
+all-cons : {A : Type 0} {P : A → Type 0} {a : A} {l : List A} → P a → AllOf P l → AllOf P (a ∷ l)
+all-cons {A} {P} {a} h k b m = ⊎-elim (λ e. subst P (sym e) h) (k b) (List·Memᴰ·cases-cons m)
+
+-- no total of an accepted job takes more than a minus sign and 19 digits
+total-length : (z : ℤ) → natAbs z ≤ 7920000000000000000 → length (decimal z) ≤ 20
+total-length (pos n) h = decimal-length (pos n) (omega arith)
+total-length (negsuc n) h = decimal-length (negsuc n) (omega arith)
 
 -- ---- the numbers of a case of an accepted job
 
 -- a choice has one alternative for each face
 chosen-each : {F A : Type 0} (P : A → Type 0) (permitted : F → List A) (fs : List F) (ks : List A)
-    → ((f : F) → List·Memᴰ f fs → (k : A) → List·Memᴰ k (permitted f) → P k)
-    → List·Memᴰ ks (choices permitted fs) → (length ks ≡ length fs) × Every P ks
+    → ((f : F) → List·Memᴰ f fs → AllOf P (permitted f)) → List·Memᴰ ks (choices permitted fs) → (length ks ≡ length fs) × AllOf P ks
 unfolding choices
 chosen-each P permitted [] ks h m =
-    subst (λ l. (length l ≡ 0) × Every P l) (sym (List·Memᴰ·eq-of-singleton m)) (refl, tt)
+    subst (λ l. (length l ≡ 0) × AllOf P l) (sym (List·Memᴰ·eq-of-singleton m)) (refl, λ a n. absurd (List·Memᴰ·not-nil n))
 chosen-each P permitted (f ∷ fs) ks h m =
     let k = each-member (permitted f) _ m in
     let l = map-member _ (choices permitted fs) (k .2) in
     let r = chosen-each P permitted fs (l .0) (λ g n. h g (List·Memᴰ·tail n)) (l .1) in
-    subst (λ l. (length l ≡ suc (length fs)) × Every P l) (sym (l .2)) (ap suc (r .0), (h f (List·Memᴰ·head refl) (k .0) (k .1), r .1))
+    subst (λ l. (length l ≡ suc (length fs)) × AllOf P l) (sym (l .2)) (ap suc (r .0), all-cons (h f (List·Memᴰ·head refl) (k .0) (k .1)) (r .1))
 
 few : {outs : List ℤ} → OneOrTwo outs → length outs ≤ 2
 few (alone v) = omega arith
@@ -93,7 +103,7 @@ module _ (axis : Axis) (s : Side) (c : Carried) (o : InOrder c) where
   internal : Between 1 (length (c .internals)) (case .internal)
   internal = numbers-member (length (c .internals)) 1 (is-case .internal)
 
-  chosen : (length (case .chosen) ≡ length (c .faces)) × Every OneDigit (case .chosen)
+  chosen : (length (case .chosen) ≡ length (c .faces)) × AllOf OneDigit (case .chosen)
   chosen =
       let w = windAt (given c) (case .wind) in
       let m = getD-member (c .winds) (case .wind - 1) noWind (omega (arith, wind .low, wind .high)) in
@@ -106,9 +116,9 @@ module _ (axis : Axis) (s : Side) (c : Carried) (o : InOrder c) where
       ap caseNumbers (extreme-shows axis s c o .named)
       ∙ ap (λ (ks : List ℕ). case .wind ∷ case .internal ∷ ks) (take-at (case .chosen) _ (length (c .faces)) (chosen .0))
 
-  case-digits : Every OneDigit (case .wind ∷ case .internal ∷ case .chosen)
+  case-digits : AllOf OneDigit (case .wind ∷ case .internal ∷ case .chosen)
   case-digits =
-      (omega (arith, wind .high, o .winds-counted .high), (omega (arith, internal .high, o .internals-counted .high), chosen .1))
+      all-cons (omega (arith, wind .high, o .winds-counted .high)) (all-cons (omega (arith, internal .high, o .internals-counted .high)) (chosen .1))
 
   -- a space and a digit for the wind, the internal coefficient and each of 24 faces
   case-most : length (spaced (caseNumbers (extreme axis s c))) ≤ 52
@@ -123,8 +133,7 @@ module _ (axis : Axis) (s : Side) (c : Carried) (o : InOrder c) where
   -- the letter, the word, a total of 20 bytes at most, the numbers and the end
   line-most : (letter : ℕ) (word : List ℕ) → length word ≡ 5 → length (lineText letter word (extreme axis s c)) ≤ 79
   line-most letter word h =
-      let z = extreme axis s c .total in
-      rw line-parts (simp length-append (omega (arith, h, case-most, decimal-length z (omega (arith, mag-le z, total-small)))))
+      rw line-parts (simp length-append (omega (arith, h, case-most, total-length (extreme axis s c .total) total-small)))
 
 -- ---- the report
 
