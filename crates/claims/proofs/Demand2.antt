@@ -19,18 +19,19 @@ use Rattle.job.specs.Carried.{Carried, carried, recorded, SameJob}
 use Rattle.job.specs.Walk.{Accepted, judged}
 use Rattle.sheet.specs.Sheet.{reading, answer, sheetText, jobWriting}
 use Rattle.worst.specs.declared.Axis.{Axis}
-use Rattle.worst.specs.Cases.{Case, caseTotal}
+use Rattle.worst.specs.Cases.{Permitted, Case, caseTotal}
 use Rattle.worst.specs.Forces.{windAt, internalAt, loads}
 use Rattle.worst.specs.Worst.{given}
 use Rattle.answers.specs.Answers.{coefficientOf, textOf}
 use Rattle.claims.specs.Contract.{Always}
 use Rattle.claims.specs.Question.{Judged, Outside, Net, buildingIn, directionIn, placeIn, restIn}
-use Rattle.claims.specs.Shown.{Permitted}
 use Rattle.claims.specs.Total.{Total}
+use Rattle.claims.specs.Decimal.{IsDecimal}
 use Rattle.claims.specs.Written.{Written}
 use Rattle.claims.proofs.Contracts as of
 use Rattle.claims.proofs.Accepted.{job-in-order}
-use Rattle.claims.proofs.Written.{text-written}
+use Rattle.claims.proofs.Written.{text-written, written-unique}
+use Rattle.claims.proofs.Decimal.{decimal-is, decimal-unique}
 use Rattle.claims.proofs.Again as again
 use Rattle.claims.proofs.Question as question
 use Rattle.claims.proofs.Total as total
@@ -86,10 +87,16 @@ JobAgain = Always of.write-sheet.Post (λ κ a r s. Always of.read-sheet.Post (�
 pub record WritesTheText : Type 0 where
   pub write-sheet : Always of.write-sheet.Post (λ κ a r s. (c : Carried) → judged (a .0) ≡ Accepted c
       → Written (sheetText c) (now (a .1 .0)) (now (s .1 .0)) r)
-  pub write-decimal : Always of.write-decimal.Post
-      (λ κ a r s. Written (decimal (a .0)) (now (a .1 .0)) (now (s .1 .0)) r)
-  pub aral-digits : Always of.aral-digits.Post (λ κ a r s. (w : Writing)
-      × Written (decimal (a .0)) (now (a .1 .0)) (now (s .1 .0)) w × (r ≡ textOf w))
+  pub write-decimal : Always of.write-decimal.Post (λ κ a r s. (text : List ℕ) × IsDecimal (a .0) text
+      × Written text (now (a .1 .0)) (now (s .1 .0)) r)
+  pub aral-digits : Always of.aral-digits.Post (λ κ a r s. (text : List ℕ) × IsDecimal (a .0) text
+      × (w : Writing) × Written text (now (a .1 .0)) (now (s .1 .0)) w × (r ≡ textOf w))
+
+-- A number is written in one way, and what comes of writing a text into a buffer is one thing.
+abbrev pub WritingIsOne : Type 0
+WritingIsOne = ((z : ℤ) (t u : List ℕ) → IsDecimal z t → IsDecimal z u → t ≡ u)
+    × ((text before after after′ : List ℕ) (w w′ : Writing) → Written text before after w
+    → Written text before after′ w′ → (w ≡ w′) × (after ≡ after′))
 
 -- ---- the proofs
 
@@ -138,7 +145,14 @@ pub writes-the-text : WritesTheText
 writes-the-text =
     record {
       write-sheet = λ κ a r s p c e. again.job-written sheetText e (now (a .1 .0)) p;
-      write-decimal = λ κ a r s p. text-written (decimal (a .0)) (now (a .1 .0)) p;
+      write-decimal = λ κ a r s p.
+          (decimal (a .0), decimal-is (a .0), text-written (decimal (a .0)) (now (a .1 .0)) p);
       aral-digits = λ κ a r s p.
-          (writing (decimal (a .0)) (now (a .1 .0)), text-written (decimal (a .0)) (now (a .1 .0)) (refl, p .1), p .0);
+          let text = decimal (a .0) in
+          let out = now (a .1 .0) in
+          (text, decimal-is (a .0), writing text out, text-written text out (refl, p .1), p .0);
     }
+
+pub writing-is-one : WritingIsOne
+writing-is-one =
+    (λ z t u. decimal-unique, λ text before after after′ w w′. written-unique text before)

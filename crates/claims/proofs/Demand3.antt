@@ -16,12 +16,13 @@ use Rattle.worst.specs.declared.Axis.the-variants.{X, Y, Z}
 use Rattle.worst.specs.declared.Extreme.{Extreme}
 use Rattle.worst.specs.declared.Reckoning.{Reckoning}
 use Rattle.worst.specs.Best.{Within}
-use Rattle.worst.specs.Cases.{Loads, Case, cases}
+use Rattle.worst.specs.Cases.{Permitted, Loads, Case, cases}
 use Rattle.worst.specs.Worst.{extreme, sixExtremes, worstOf}
+use Rattle.worst.proofs.Members.{case-permitted, permitted-case}
 use Rattle.report.specs.Report.{reportText}
 use Rattle.answers.specs.Answers.{textOf, extremeOf, onLine, lineOf, totalOf}
 use Rattle.claims.specs.Contract.{Always}
-use Rattle.claims.specs.Shown.{Shows, ShowsSix, shownIn, lineNumber, Reported, Permitted, More, Faster}
+use Rattle.claims.specs.Shown.{Shows, ShowsSix, shownIn, lineNumber, Reported, More, Faster}
 use Rattle.claims.proofs.Contracts as of
 use Rattle.claims.proofs.Accepted.{job-in-order, sheet-in-order, six-is, one-is}
 use Rattle.claims.proofs.Shown as shown
@@ -119,7 +120,7 @@ pub shows-one : ShowsOne
 shows-one c axis side e e′ h k = shown.shows-unique c axis side h k
 
 pub cases-permitted : CasesArePermitted
-cases-permitted W I F A l c = (shown.case-permitted l c, shown.permitted-case l c)
+cases-permitted W I F A l c = (case-permitted l c, permitted-case l c)
 
 pub more-shows-no-less : MoreShowsNoLess
 more-shows-no-less κ a r s p κ′ b q t p′ c d e f m axis side =

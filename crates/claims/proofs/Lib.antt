@@ -1,12 +1,5 @@
--- What the customer was promised, as theorems: the three demands, the printed cases, and that no contract leaves a
--- choice.
-pub mod Accepted
-pub mod Written
-pub mod Fault
-pub mod Again
-pub mod Question
-pub mod Total
-pub mod Shown
+-- What the customer was promised, as theorems.
+-- ---- the front door: the three demands, the panel, other sentences of paper 01, its printed cases and its sample
 pub mod Demand1
 pub mod Demand2
 pub mod Demand3
@@ -14,7 +7,17 @@ pub mod Panel
 pub mod Paper01
 pub mod Printed
 pub mod Sample
+-- ---- the lists, with a line for each public function
 pub mod Contracts
 pub mod NothingAsked
 pub mod Determined
 pub mod Unchanged
+-- ---- that what the definitions compute is what was promised, and that this leaves no choice
+pub mod Accepted
+pub mod Fault
+pub mod Question
+pub mod Total
+pub mod Written
+pub mod Decimal
+pub mod Again
+pub mod Shown

@@ -1,10 +1,13 @@
 -- Sentences of paper 01 beside the three demands.
 use mathlib.Core.Path.{_≡_, refl, sym, ap, _∙_}
+use mathlib.Core.Bool.{Bool, true, false, cond}
 use mathlib.Core.List.{List}
+use native.Mathlib.Omega.{arith}
 use Prim.Native.Nat.{ℕ, _≤_, _<_}
 use denote.Ref.{now}
 use lib.IntN.{ℤ, pos, natAbs, _*ℤ_}
-use lib.ListN.{take}
+use lib.Dec.{leb}
+use lib.ListN.{length, take}
 use Rattle.whole.specs.Lists.{Every}
 use Rattle.whole.proofs.Lists.{every-by}
 use Rattle.lines.specs.Lines.{LinesInForm}
@@ -16,18 +19,22 @@ use Rattle.job.specs.Carried.{Carried, carried}
 use Rattle.job.specs.Lines.{linesOf}
 use Rattle.job.specs.InOrder.{FaceInOrder, Within}
 use Rattle.job.specs.Walk.{Reading, Accepted, Refused, verdict, judged}
-use Rattle.sheet.specs.Sheet.{reading, answer, sheetText}
+use Rattle.sheet.specs.Sheet.{reading, answer, sheetText, jobWriting}
 use Rattle.sheet.proofs.RoundTrip.{judge-is-reader}
-use Rattle.sheet.proofs.Part.{part-decides}
+use Rattle.sheet.proofs.Part.{part-decides, longest-sheet}
 use Rattle.worst.specs.declared.Axis.{Axis}
 use Rattle.worst.specs.Cases.{Case, caseTotal}
 use Rattle.worst.specs.Forces.{loads}
 use Rattle.worst.specs.Worst.{given}
 use Rattle.worst.proofs.Accepted.{given-in-range}
 use Rattle.worst.proofs.Ranges.{caseTotal-small}
+use Rattle.report.specs.Report.{reportText}
+use Rattle.report.proofs.Lengths.{report-most}
+use Rattle.answers.specs.Answers.{textOf}
+use Rattle.page.specs.declared.Writing.the-variants as written
 use Rattle.claims.specs.Contract.{Always}
 use Rattle.claims.proofs.Contracts as of
-use Rattle.claims.proofs.Accepted.{job-in-order}
+use Rattle.claims.proofs.Accepted.{job-in-order, sheet-in-order}
 
 -- ---- the statements
 
@@ -51,6 +58,11 @@ abbrev pub JobAsSheet : Type 0
 JobAsSheet = Always of.judge.Post (λ κ a r s. Always of.read-sheet.Post (λ κ′ b q t.
     LinesInForm (linesOf (carried (a .0))) → now (b .0) ≡ sheetText
     (carried (a .0)) → (r .number ≡ q .number) × (r .line ≡ q .line)))
+
+-- No report is longer than 474 bytes, and no accepted sheet than 827.
+abbrev pub TextsAreShort : Type 0
+TextsAreShort = Always of.aral-report.Post (λ κ a r s. r .length ≤ 474)
+    × Always of.aral-read.Post (λ κ a r s. (c : Carried) → reading (now (a .0)) ≡ Accepted c → length (now (a .0)) ≤ 827)
 
 -- A program that reads the first 881 bytes, or more, of its input answers for all of it.
 abbrev pub PartAnswers : Type 0
@@ -77,6 +89,23 @@ job-as-sheet κ a r s p κ′ b q t p′ f same =
     let x = judged (a .0) in
     let e : q ≡ answer x = p′ ∙ ap (λ s. answer (reading s)) same ∙ ap answer (judge-is-reader (a .0) f) in
     (ap (λ v. v .number) p ∙ sym (ap (λ v. v .number) e ∙ same-number x .0), ap (λ v. v .line) p ∙ sym (ap (λ v. v .line) e ∙ same-number x .1))
+
+-- the length that a host is told of a report
+told-length : (x : Reading) (buf : List ℕ) → ((c : Carried) → x ≡ Accepted c → length (reportText c) ≤ 474)
+    → textOf (jobWriting reportText x buf) .length ≤ 474
+told-length (Accepted c) buf h = go (leb (length (reportText c)) (length buf))
+  where
+    go : (t : Bool) → textOf (cond t (written.Length (length (reportText c))) (written.Refused 7 0)) .length ≤ 474
+    go true = h c refl
+    go false = omega arith
+told-length (Refused n l) buf h = omega arith
+
+pub texts-are-short : TextsAreShort
+texts-are-short = (
+  λ κ a r s p. rw (p .0)
+      (told-length (reading (now (a .0))) (now (a .1 .0)) (λ c e. report-most c (sheet-in-order (now (a .0)) c e))),
+  λ κ a r s p c e. longest-sheet (now (a .0)) c e,
+)
 
 pub part-answers : PartAnswers
 part-answers = part-decides

@@ -1,13 +1,11 @@
--- The six extremes of an accepted job are what may be shown for it, and nothing else is; and the cases are those that
--- are permitted.
+-- The six extremes of an accepted job are what may be shown for it, and nothing else is.
 use mathlib.Core.Path.{_≡_, refl, sym, ap, subst, _∙_}
 use mathlib.Core.Logic.{⊎-elim}
-use mathlib.Core.List.{List, [], _∷_, map, List·Memᴰ, List·Memᴰ·head, List·Memᴰ·tail, List·Memᴰ·not-nil}
-use mathlib.Core.List.{List·Memᴰ·cases-cons, Memᴰ·map}
+use mathlib.Core.List.{List, [], _∷_, List·Memᴰ, List·Memᴰ·head, List·Memᴰ·tail, List·Memᴰ·not-nil}
+use mathlib.Core.List.{List·Memᴰ·cases-cons}
 use native.Mathlib.Omega.{arith}
 use Prim.Native.Nat.{ℕ}
 use lib.IntN.{pos}
-use lib.ListN.{length}
 use Rattle.whole.specs.Lists.{Every}
 use Rattle.page.specs.declared.Writing.{Writing}
 use Rattle.page.specs.Writing.{writing, bufferAfter}
@@ -23,17 +21,16 @@ use Rattle.worst.specs.declared.Axis.the-variants.{X, Y, Z}
 use Rattle.worst.specs.declared.Extreme.{Extreme}
 use Rattle.worst.specs.declared.Six.{Six}
 use Rattle.worst.specs.Best.{Within}
-use Rattle.worst.specs.Cases.{Case, Loads, choices, cases, caseTotal}
+use Rattle.worst.specs.Cases.{Case, cases, caseTotal}
 use Rattle.worst.specs.Forces.{loads}
 use Rattle.worst.specs.Shown.{padded, shown}
 use Rattle.worst.specs.Worst.{given, extreme, sixExtremes}
 use Rattle.worst.proofs.Meaning.{isBest-unique}
-use Rattle.worst.proofs.Members.{member-each, each-member, map-member, cases-only, cases-all}
 use Rattle.worst.proofs.Demand.{AllIn, Faster}
 use Rattle.worst.proofs.Promises.{extreme-shows, extreme-more, extreme-faster}
 use Rattle.report.specs.Lines.{sixText}
 use Rattle.report.specs.Report.{reportText, totalsText}
-use Rattle.claims.specs.Shown.{Shows, ShowsSix, Reported, Chosen, Permitted, Includes, More, Raised}
+use Rattle.claims.specs.Shown.{Shows, ShowsSix, Reported, Includes, More, Raised}
 use Rattle.claims.specs.Shown as faster
 use Rattle.claims.specs.Written.{Written}
 use Rattle.claims.proofs.Accepted.{one-is}
@@ -115,42 +112,6 @@ pub reported-unique : (c : Carried) (before : List ℕ) {after after′ : List �
 reported-unique c before {after′ = after′} {w′ = w′} h k =
     written-unique (sixText (h .six)) before (h .written)
     (subst (λ (six : Six). Written (sixText six) before after′ w′) (six-unique c (k .shows) (h .shows)) (k .written))
-
--- ---- permitted cases
-
--- a choice is in the list of choices exactly if it has an alternative of each face
-module _ {F A : Type 0} (alternatives : F → List A) where
-  choices-only : (fs : List F) (ks : List A) → List·Memᴰ ks (choices alternatives fs) → Chosen alternatives fs ks
-  unfolding choices
-  choices-only [] [] m = tt
-  choices-only [] (k ∷ ks) m =
-      ⊎-elim (λ e. absurd (let z = ap length e in omega arith)) (λ n. absurd (List·Memᴰ·not-nil n))
-      (List·Memᴰ·cases-cons m)
-  choices-only (f ∷ fs) ks m =
-      let r = each-member (alternatives f) _ m in
-      let q = map-member _ (choices alternatives fs) (r .2) in
-      subst (Chosen alternatives (f ∷ fs)) (sym (q .2)) (r .1, choices-only fs (q .0) (q .1))
-
-  choices-all : (fs : List F) (ks : List A) → Chosen alternatives fs ks → List·Memᴰ ks (choices alternatives fs)
-  unfolding choices
-  choices-all [] [] h = List·Memᴰ·head refl
-  choices-all [] (k ∷ ks) h = absurd h
-  choices-all (f ∷ fs) [] h = absurd h
-  choices-all (f ∷ fs) (k ∷ ks) h =
-      member-each (λ k. map (λ ks. k ∷ ks) (choices alternatives fs)) (h .0)
-      (Memᴰ·map (λ ks. k ∷ ks) (choices-all fs ks (h .1)))
-
-module _ {W I F A : Type 0} (l : Loads W I F A) (c : Case W I A) where
-  pub case-permitted : List·Memᴰ c (cases l) → Permitted l c
-  case-permitted m =
-      let h = cases-only l c m in
-      let chosen = choices-only (l .alternatives (c .wind)) (l .faces) (c .chosen) (h .chosen) in
-      record { wind = h .wind; internal = h .internal; chosen = chosen }
-
-  pub permitted-case : Permitted l c → List·Memᴰ c (cases l)
-  permitted-case h =
-      let chosen = choices-all (l .alternatives (c .wind)) (l .faces) (c .chosen) (h .chosen) in
-      cases-all l c (record { wind = h .wind; internal = h .internal; chosen = chosen })
 
 -- ---- two jobs
 

@@ -19,11 +19,10 @@ use Rattle.book.specs.declared.Answer.the-variants.{One, Two, Refused}
 use Rattle.book.specs.Answer.{valuesOf}
 use Rattle.book.specs.Question.{outsideOf, net, tooGreat, then, minus, netOf}
 use Rattle.worst.specs.declared.Axis.{Axis}
-use Rattle.worst.specs.Cases.{Case, total, caseTotal}
+use Rattle.worst.specs.Cases.{Permitted, Chosen, Case, total, caseTotal}
 use Rattle.worst.specs.Forces.{acts, alternatives, pressure, area, force, windAt, internalAt, loads}
 use Rattle.worst.specs.Worst.{given}
 use Rattle.worst.proofs.Lists.{numbers-member, getD-all}
-use Rattle.claims.specs.Shown.{Chosen, Permitted}
 use Rattle.claims.specs.Total.{Force, acting, idle, Total, none, face}
 use Rattle.claims.proofs.Question.{clash, net-got, net-unique}
 

@@ -1,4 +1,4 @@
--- What may be shown for a job on one axis and one side, which cases are permitted, and how two jobs compare.
+-- What may be shown for a job on one axis and one side, and how two jobs compare.
 use mathlib.Core.Path.{_≡_}
 use mathlib.Core.List.{List, [], _∷_, List·Memᴰ}
 use Prim.Native.Nat.{ℕ, _≤_}
@@ -14,7 +14,7 @@ use Rattle.worst.specs.declared.Extreme.{Extreme}
 use Rattle.worst.specs.declared.Extremes.{Extremes}
 use Rattle.worst.specs.declared.Six.{Six}
 use Rattle.worst.specs.Best.{IsBest}
-use Rattle.worst.specs.Cases.{Loads, Case, cases, caseTotal}
+use Rattle.worst.specs.Cases.{Case, cases, caseTotal}
 use Rattle.worst.specs.Forces.{loads}
 use Rattle.worst.specs.Shown.{padded}
 use Rattle.worst.specs.Worst.{given}
@@ -64,21 +64,6 @@ pub record Reported (c : Carried) (before after : List ℕ) (w : Writing) : Type
   pub six : Six
   pub shows : ShowsSix c six
   pub written : Written (sixText six) before after w
-
--- ---- permitted cases
-
--- separately at each face, one of its alternatives
-abbrev pub Chosen : {F A : Type 0} → (F → List A) → List F → List A → Type 0
-Chosen alternatives [] [] = Unit
-Chosen alternatives [] (k ∷ ks) = ⊥
-Chosen alternatives (f ∷ fs) [] = ⊥
-Chosen alternatives (f ∷ fs) (k ∷ ks) = List·Memᴰ k (alternatives f) × Chosen alternatives fs ks
-
--- one of the winds, one of the internal coefficients, and an alternative for each face under that wind
-pub record Permitted {W I F A : Type 0} (l : Loads W I F A) (c : Case W I A) : Type 0 where
-  pub wind : List·Memᴰ (c .wind) (l .winds)
-  pub internal : List·Memᴰ (c .internal) (l .internals)
-  pub chosen : Chosen (l .alternatives (c .wind)) (l .faces) (c .chosen)
 
 -- ---- two jobs
 

@@ -1,8 +1,8 @@
--- Laws of a field: what each way through the code finds, that a number of at most 7 digits, written, is read as itself, and that digits in form, read, are written as themselves.
-use Prim.Native.Nat.{ℕ, zero, suc, _+_, _-_, _*_, _/_, _%_, _^_, _≤_, _<_}
+-- Laws of a field: what each way through the code finds, and that a number of at most 7 digits, written, is read as itself.
+use Prim.Native.Nat.{ℕ, zero, suc, _+_, _-_, _*_, _^_, _≤_, _<_}
 use mathlib.Core.Path.{_≡_, refl, ap, _∙_, sym}
-use mathlib.Core.Bool.{true, false, true≢false, cond, not, _&&_}
-use mathlib.Core.List.{List, [], _∷_, _++_, append-assoc, append-nil}
+use mathlib.Core.Bool.{true, false, cond, not, _&&_}
+use mathlib.Core.List.{List, [], _∷_}
 use native.Mathlib.Nat.{pow-suc, pow-le-pow-right}
 use native.Mathlib.Numerals.{add-one}
 use native.Mathlib.Omega.{arith}
@@ -14,9 +14,9 @@ use borrow.Author.Tests.{le-leb, lt-leb, le-ltb, lt-ltb, eq-eqb, ne-eqb, leb-tru
 use Rattle.whole.proofs.Tests.{by-test, and-true}
 use Rattle.form.specs.declared.Field.{Field}
 use Rattle.form.specs.declared.Field.the-variants.{Bad, Plus, Minus, Letter, Dash}
-use Rattle.text.specs.Digits.{digits, decimal, isDigit, allDigits, valueAfter, value}
-use Rattle.form.specs.Field.{first, leadingZero, digitsInForm, unsigned, negative, number, field}
-use Rattle.text.proofs.Digits.{Begins, digits-small, digits-more, digits-all, digits-begin, digits-lead, digits-length, digits-read}
+use Rattle.text.specs.Digits.{digits, decimal, isDigit, allDigits, leadingZero, valueAfter, value}
+use Rattle.form.specs.Field.{first, digitsInForm, unsigned, negative, number, field}
+use Rattle.text.proofs.Digits.{Begins, digits-all, digits-begin, digits-lead, digits-length, digits-read}
 
 -- ---- digit by digit, from a place on
 
@@ -207,43 +207,3 @@ field-decimal-plus n h = field-digits n h
 pub field-decimal-minus : (n : ℕ) → suc n < 10 ^ 7 → field (decimal (negsuc n)) ≡ Minus (suc n)
 unfolding decimal
 field-decimal-minus n h = field-minus (suc n) (omega arith) h
-
--- ---- read, then written
-
--- a digit behind a number that is not 0 is the last of the digits of what both stand for
-digits-behind : (v d : ℕ) → 0 < v → isDigit d ≡ true → digits (v * 10 + (d - 48)) ≡ digits v ++ (d ∷ [])
-digits-behind v d h t =
-    let e = and-true (leb 48 d) (leb d 57) t in
-    let lo : 48 ≤ d = leb-true 48 d (e .0) in
-    let hi : d ≤ 57 = leb-true d 57 (e .1) in
-    let q : (v * 10 + (d - 48)) / 10 ≡ v = omega arith in
-    let r : 48 + (v * 10 + (d - 48)) % 10 ≡ d = omega arith in
-    digits-more (v * 10 + (d - 48)) (omega arith) ∙ rw (q, r)
-
-after-digits : (v : ℕ) (ds : List ℕ) → 0 < v → allDigits ds ≡ true → digits (valueAfter v ds) ≡ digits v ++ ds
-unfolding valueAfter allDigits
-after-digits v [] h a = rw append-nil
-after-digits v (d ∷ ds) h a =
-    let e = and-true (isDigit d) (allDigits ds) a in
-    after-digits (v * 10 + (d - 48)) ds (omega arith) (e .1)
-    ∙ rw (digits-behind v d h (e .0), append-assoc)
-
--- digits with no leading zero are those of the number that they stand for
-pub digits-back : (ds : List ℕ) → 1 ≤ length ds → leadingZero ds ≡ false → allDigits ds ≡ true → digits (value ds) ≡ ds
-unfolding value valueAfter allDigits
-digits-back [] some lead all = absurd (omega arith)
-digits-back (d ∷ ds) some lead all =
-    let e = and-true (isDigit d) (allDigits ds) all in
-    let t = and-true (leb 48 d) (leb d 57) (e .0) in
-    let lo : 48 ≤ d = leb-true 48 d (t .0) in
-    let hi : d ≤ 57 = leb-true d 57 (t .1) in
-    let q : 0 * 10 + (d - 48) ≡ d - 48 = omega arith in
-    let r : 48 + (d - 48) ≡ d = omega arith in
-    rw q (go ds lead (e .1) lo hi (digits-small (d - 48) (omega arith) ∙ rw r))
-  where
-    go : (es : List ℕ) → leadingZero (d ∷ es) ≡ false → allDigits es ≡ true → 48 ≤ d → d ≤ 57 → digits (d - 48) ≡ d ∷ [] → digits (valueAfter (d - 48) es) ≡ d ∷ es
-    go [] l a lo hi one = one
-    go (x ∷ es) l a lo hi one =
-        after-digits (d - 48) (x ∷ es)
-        (by-test (eqb d 48) (λ t. absurd (true≢false (rw (lt-ltb 1 (length (d ∷ x ∷ es)) (omega arith), t) at l))) (λ t. omega (arith, eqb-false d 48 t))) a
-        ∙ ap (λ (p : List ℕ). p ++ (x ∷ es)) one

@@ -6,13 +6,10 @@ use lib.Dec.{ltb, leb, eqb}
 use lib.ListN.{length, getD, drop}
 use Rattle.form.specs.declared.Field.{Field}
 use Rattle.form.specs.declared.Field.the-variants.{Bad, Plus, Minus, Letter, Dash}
-use Rattle.text.specs.Digits.{allDigits, value}
+use Rattle.text.specs.Digits.{allDigits, leadingZero, value}
 
 abbrev pub first : List ℕ → ℕ
 first f = getD f 0 0
-
-abbrev pub leadingZero : List ℕ → Bool
-leadingZero ds = ltb 1 (length ds) && eqb (first ds) 48
 
 -- the digits of a number: some, at most 7, no leading zero, and no other byte
 unfoldable pub digitsInForm : List ℕ → Bool

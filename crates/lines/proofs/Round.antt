@@ -16,7 +16,8 @@ use Rattle.form.specs.Field.{first, digitsInForm, unsigned, negative, number, f
 use Rattle.whole.specs.Lists.{Every}
 use Rattle.lines.specs.Lines.{split, fieldsOf, rowsOf, rows, fieldText, lineText, textOf, InForm, LinesInForm, NotBad}
 use Rattle.text.proofs.Digits.{by-tens, digits-small, digits-more, digits-length}
-use Rattle.form.proofs.Fields.{form-parts, field-digits, field-minus, field-dash, field-letter, value-grows, digits-back}
+use Rattle.text.proofs.Meaning.{digits-back}
+use Rattle.form.proofs.Fields.{form-parts, field-digits, field-minus, field-dash, field-letter, value-grows}
 use Rattle.lines.specs.Held.{until}
 use Rattle.lines.proofs.Lines.{Free, free-append, free-one, split-until, split-seam, split-one, joined, split-joined, rows-none, rows-seam}
 

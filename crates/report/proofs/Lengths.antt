@@ -1,7 +1,8 @@
 -- How long a text can be: the line that refuses a sheet, and the report of an accepted job.
 use mathlib.Core.Path.{_≡_, refl, sym, ap, _∙_, subst}
 use mathlib.Core.Bool.{Bool, true, false, cond}
-use mathlib.Core.List.{List, [], _∷_, List·Memᴰ, List·Memᴰ·head, List·Memᴰ·tail, List·Memᴰ·cases-cons, List·Memᴰ·not-nil, List·Memᴰ·eq-of-singleton}
+use mathlib.Core.List.{List, [], _∷_, List·Memᴰ, List·Memᴰ·head, List·Memᴰ·tail, List·Memᴰ·cases-cons}
+use mathlib.Core.List.{List·Memᴰ·not-nil, List·Memᴰ·eq-of-singleton}
 use mathlib.Core.Logic.{⊎-elim}
 use Prim.Native.Nat.{ℕ, suc, _+_, _-_, _*_, _^_, _≤_, _<_}
 use native.Mathlib.Omega.{arith}
@@ -18,12 +19,12 @@ use Rattle.worst.specs.declared.Axis.{Axis}
 use Rattle.worst.specs.declared.Axis.the-variants.{X, Y, Z}
 use Rattle.worst.specs.declared.Side.{Side}
 use Rattle.worst.specs.declared.Side.the-variants.{Greatest, Least}
-use Rattle.worst.specs.Cases.{Case, numbers, choices, cases}
+use Rattle.worst.specs.Cases.{Case, numbers, Chosen, Permitted}
 use Rattle.worst.specs.Forces.{acts, alternatives, windAt, loads}
 use Rattle.worst.specs.Shown.{padded, shown}
 use Rattle.worst.specs.Worst.{given, extreme, extremes, sixExtremes}
 use Rattle.worst.proofs.Lists.{Between, numbers-member, getD-member}
-use Rattle.worst.proofs.Members.{each-member, map-member, IsCase, cases-only}
+use Rattle.worst.proofs.Members.{case-permitted}
 use Rattle.worst.proofs.Meaning.{isBest-member}
 use Rattle.worst.proofs.OneFace.{OneOrTwo, alone, pair}
 use Rattle.worst.proofs.Ranges.{caseTotal-small}
@@ -36,7 +37,8 @@ use Rattle.report.proofs.Reports.{refused-parts}
 
 -- ---- numbers after spaces
 
-spaced-size : (k : ℕ) (n : ℕ) → n < 10 ^ suc k → (ns : List ℕ) → length (spaced (n ∷ ns)) ≤ suc (suc k) + length (spaced ns)
+spaced-size : (k : ℕ) (n : ℕ) → n < 10 ^ suc k → (ns : List ℕ)
+    → length (spaced (n ∷ ns)) ≤ suc (suc k) + length (spaced ns)
 unfolding spaced
 spaced-size k n h ns = omega (arith, length-append (digits n) (spaced ns), digits-length k n h)
 
@@ -69,16 +71,15 @@ total-length (negsuc n) h = decimal-length (negsuc n) (omega arith)
 -- ---- the numbers of a case of an accepted job
 
 -- a choice has one alternative for each face
-chosen-each : {F A : Type 0} (P : A → Type 0) (permitted : F → List A) (fs : List F) (ks : List A)
-    → ((f : F) → List·Memᴰ f fs → AllOf P (permitted f)) → List·Memᴰ ks (choices permitted fs) → (length ks ≡ length fs) × AllOf P ks
-unfolding choices
-chosen-each P permitted [] ks h m =
-    subst (λ l. (length l ≡ 0) × AllOf P l) (sym (List·Memᴰ·eq-of-singleton m)) (refl, λ a n. absurd (List·Memᴰ·not-nil n))
-chosen-each P permitted (f ∷ fs) ks h m =
-    let k = each-member (permitted f) _ m in
-    let l = map-member _ (choices permitted fs) (k .2) in
-    let r = chosen-each P permitted fs (l .0) (λ g n. h g (List·Memᴰ·tail n)) (l .1) in
-    subst (λ l. (length l ≡ suc (length fs)) × AllOf P l) (sym (l .2)) (ap suc (r .0), all-cons (h f (List·Memᴰ·head refl) (k .0) (k .1)) (r .1))
+chosen-each : {F A : Type 0} (P : A → Type 0) (alternatives : F → List A) (fs : List F) (ks : List A)
+    → ((f : F) → List·Memᴰ f fs → AllOf P (alternatives f)) → Chosen alternatives fs ks
+    → (length ks ≡ length fs) × AllOf P ks
+chosen-each P alternatives [] [] h m = (refl, λ a n. absurd (List·Memᴰ·not-nil n))
+chosen-each P alternatives [] (k ∷ ks) h m = absurd m
+chosen-each P alternatives (f ∷ fs) [] h m = absurd m
+chosen-each P alternatives (f ∷ fs) (k ∷ ks) h m =
+    let r = chosen-each P alternatives fs ks (λ g n. h g (List·Memᴰ·tail n)) (m .1) in
+    (ap suc (r .0), all-cons (h f (List·Memᴰ·head refl) k (m .0)) (r .1))
 
 few : {outs : List ℤ} → OneOrTwo outs → length outs ≤ 2
 few (alone v) = omega arith
@@ -93,37 +94,40 @@ module _ (axis : Axis) (s : Side) (c : Carried) (o : InOrder c) where
   case : Case ℕ ℕ ℕ
   case = extreme-shows axis s c o .case
 
-  is-case : IsCase (loads axis (given c)) case
+  permitted : Permitted (loads axis (given c)) case
   unfolding case
-  is-case = cases-only (loads axis (given c)) case (isBest-member s _ (extreme-shows axis s c o .best))
+  permitted = case-permitted (loads axis (given c)) case (isBest-member s _ (extreme-shows axis s c o .best))
 
   wind : Between 1 (length (c .winds)) (case .wind)
-  wind = numbers-member (length (c .winds)) 1 (is-case .wind)
+  wind = numbers-member (length (c .winds)) 1 (permitted .wind)
 
   internal : Between 1 (length (c .internals)) (case .internal)
-  internal = numbers-member (length (c .internals)) 1 (is-case .internal)
+  internal = numbers-member (length (c .internals)) 1 (permitted .internal)
 
   chosen : (length (case .chosen) ≡ length (c .faces)) × AllOf OneDigit (case .chosen)
   chosen =
       let w = windAt (given c) (case .wind) in
       let m = getD-member (c .winds) (case .wind - 1) noWind (omega (arith, wind .low, wind .high)) in
       chosen-each OneDigit (alternatives (given c) w) (c .faces) (case .chosen)
-      (λ f n. alternative-digit (acts f (w .direction)) _ (given-sound c o .outside w f m n)) (is-case .chosen)
+      (λ f n. alternative-digit (acts f (w .direction)) _ (given-sound c o .outside w f m n)) (permitted .chosen)
 
   case-numbers : caseNumbers (extreme axis s c) ≡ case .wind ∷ case .internal ∷ case .chosen
   unfolding case shown padded
   case-numbers =
       ap caseNumbers (extreme-shows axis s c o .named)
-      ∙ ap (λ (ks : List ℕ). case .wind ∷ case .internal ∷ ks) (take-at (case .chosen) _ (length (c .faces)) (chosen .0))
+      ∙ ap (λ (ks : List ℕ). case .wind ∷ case .internal ∷ ks)
+      (take-at (case .chosen) _ (length (c .faces)) (chosen .0))
 
   case-digits : AllOf OneDigit (case .wind ∷ case .internal ∷ case .chosen)
   case-digits =
-      all-cons (omega (arith, wind .high, o .winds-counted .high)) (all-cons (omega (arith, internal .high, o .internals-counted .high)) (chosen .1))
+      all-cons (omega (arith, wind .high, o .winds-counted .high))
+      (all-cons (omega (arith, internal .high, o .internals-counted .high)) (chosen .1))
 
   -- a space and a digit for the wind, the internal coefficient and each of 24 faces
   case-most : length (spaced (caseNumbers (extreme axis s c))) ≤ 52
   case-most =
-      rw case-numbers (omega (arith, spaced-digits (case .wind ∷ case .internal ∷ case .chosen) case-digits, chosen .0, o .faces-counted .high))
+      rw case-numbers
+      (omega (arith, spaced-digits (case .wind ∷ case .internal ∷ case .chosen) case-digits, chosen .0, o .faces-counted .high))
 
   total-small : natAbs (extreme axis s c .total) ≤ 7920000000000000000
   total-small =
@@ -133,13 +137,15 @@ module _ (axis : Axis) (s : Side) (c : Carried) (o : InOrder c) where
   -- the letter, the word, a total of 20 bytes at most, the numbers and the end
   line-most : (letter : ℕ) (word : List ℕ) → length word ≡ 5 → length (lineText letter word (extreme axis s c)) ≤ 79
   line-most letter word h =
-      rw line-parts (simp length-append (omega (arith, h, case-most, total-length (extreme axis s c .total) total-small)))
+      rw line-parts
+      (simp length-append (omega (arith, h, case-most, total-length (extreme axis s c .total) total-small)))
 
 -- ---- the report
 
 axis-most : (axis : Axis) (letter : ℕ) (c : Carried) → InOrder c → length (axisText letter (extremes axis c)) ≤ 158
 axis-most axis letter c o =
-    rw axis-parts (simp length-append (omega (arith, line-most axis Greatest c o letter max refl, line-most axis Least c o letter min refl)))
+    rw axis-parts
+    (simp length-append (omega (arith, line-most axis Greatest c o letter max refl, line-most axis Least c o letter min refl)))
 
 pub report-most : (c : Carried) → InOrder c → length (reportText c) ≤ 474
 unfolding reportText sixExtremes
