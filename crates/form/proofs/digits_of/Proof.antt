@@ -18,9 +18,6 @@ abbrev μ-loop : tie.MeasureT-loop
 loop-holds : tie.Need-loop-holds Inv-loop μ-loop
 loop-holds c = (search needs, c .pre, search needs, refl)
 
-shared-slice-read-d : tie.Need-shared-slice-read-d Inv-loop μ-loop
-shared-slice-read-d c = search needs
-
 returns : tie.Need-returns Inv-loop μ-loop
 unfolding value
 returns c =
@@ -36,17 +33,8 @@ returns-2 c =
 mul-v : tie.Need-mul-v Inv-loop μ-loop
 mul-v c = let l = c .before .before .before .before .loop in omega (arith, value-room (l .v) (l .i) (l .inv .2) (omega arith))
 
-cast-v : tie.Need-cast-v Inv-loop μ-loop
-cast-v c = search needs
-
 add-v : tie.Need-add-v Inv-loop μ-loop
 add-v c = let l = c .before .before .before .before .loop in omega (arith, value-room (l .v) (l .i) (l .inv .2) (omega arith))
-
-add-i : tie.Need-add-i Inv-loop μ-loop
-add-i c = search needs
-
-loop-less : tie.Need-loop-less Inv-loop μ-loop
-loop-less c = search needs
 
 loop-again : tie.Need-loop-again Inv-loop μ-loop
 loop-again c =
@@ -71,13 +59,13 @@ digits-of-spec =
     Inv-loop
     μ-loop
     loop-holds
-    shared-slice-read-d
+    (λ c. search needs)
     returns
     returns-2
     mul-v
-    cast-v
+    (λ c. search needs)
     add-v
-    add-i
-    loop-less
+    (λ c. search needs)
+    (λ c. search needs)
     loop-again
     returns-3)

@@ -5,28 +5,16 @@ use borrow.Author.Needs.{needs}
 use Rattle.form.proofs.field_of.Statement.{statement}
 use Rattle.form.proofs.field_of.Tie as tie
 
-number-of-requires : tie.Need-number-of-requires
-number-of-requires c κs = search needs
-
 returns : tie.Need-returns
 returns c = c .number-of .ensures ∙ field-many _ (c .before .if1 .taken)
 
-shared-slice-read-b : tie.Need-shared-slice-read-b
-shared-slice-read-b c = search needs
-
 returns-2 : tie.Need-returns-2
 returns-2 c = field-dash _ (c .before .before .if1 .left) (c .if2 .taken)
-
-number-of-requires-2 : tie.Need-number-of-requires-2
-number-of-requires-2 c κs = search needs
 
 returns-3 : tie.Need-returns-3
 returns-3 c =
     let e = c .before .before in
     c .number-of2 .ensures ∙ field-low _ (e .before .before .if1 .left) (e .if2 .left) (c .before .if3 .taken)
-
-number-of-requires-3 : tie.Need-number-of-requires-3
-number-of-requires-3 c κs = search needs
 
 returns-4 : tie.Need-returns-4
 returns-4 c =
@@ -42,12 +30,12 @@ pub field-of-spec : {M : Type 1} → statement M
 field-of-spec =
     tie.close
     (tie.spec
-    number-of-requires
+    (λ c κs. search needs)
     returns
-    shared-slice-read-b
+    (λ c. search needs)
     returns-2
-    number-of-requires-2
+    (λ c κs. search needs)
     returns-3
-    number-of-requires-3
+    (λ c κs. search needs)
     returns-4
     returns-5)

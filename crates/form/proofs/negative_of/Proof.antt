@@ -18,12 +18,6 @@ other t (inr (inl e)) h = omega arith
 other t (inr (inr (inl e))) h = omega arith
 other t (inr (inr (inr e))) h = omega arith
 
-unsigned-of-requires : tie.Need-unsigned-of-requires
-unsigned-of-requires c κs = search needs
-
-enum-known-f : tie.Need-enum-known-f
-enum-known-f c = search needs
-
 returns : tie.Need-returns
 returns c =
     let k = c .before .before in
@@ -47,5 +41,4 @@ returns-3 c =
     (negative-no s)
 
 pub negative-of-spec : {M : Type 1} → statement M
-negative-of-spec =
-    tie.close (tie.spec unsigned-of-requires enum-known-f returns returns-2 returns-3)
+negative-of-spec = tie.close (tie.spec (λ c κs. search needs) (λ c. search needs) returns returns-2 returns-3)

@@ -12,29 +12,11 @@ use Rattle.form.proofs.number_of.Tie as tie
 returns : tie.Need-returns
 returns c = number-none _ (c .if1 .taken)
 
-shared-slice-read-if2 : tie.Need-shared-slice-read-if2
-shared-slice-read-if2 c = search needs
-
-sub-negative-of : tie.Need-sub-negative-of
-sub-negative-of c = search needs
-
-part-negative-of-start : tie.Need-part-negative-of-start
-part-negative-of-start c = search needs
-
-part-negative-of-end : tie.Need-part-negative-of-end
-part-negative-of-end c = search needs
-
-negative-of-requires : tie.Need-negative-of-requires
-negative-of-requires c κs = search needs
-
 returns-2 : tie.Need-returns-2
 returns-2 c =
     let t = c .before .before in
     let s = t .before .before .before .before .args .s .now in
     c .negative-of .ensures ∙ ap negative (take-all _ _ (le-of-eq (length-drop 1 s))) ∙ number-minus s (t .if2 .taken)
-
-unsigned-of-requires : tie.Need-unsigned-of-requires
-unsigned-of-requires c κs = search needs
 
 returns-3 : tie.Need-returns-3
 returns-3 c = c .unsigned-of .ensures ∙ number-plus _ (c .before .if2 .left)
@@ -44,11 +26,11 @@ number-of-spec =
     tie.close
     (tie.spec
     returns
-    shared-slice-read-if2
-    sub-negative-of
-    part-negative-of-start
-    part-negative-of-end
-    negative-of-requires
+    (λ c. search needs)
+    (λ c. search needs)
+    (λ c. search needs)
+    (λ c. search needs)
+    (λ c κs. search needs)
     returns-2
-    unsigned-of-requires
+    (λ c κs. search needs)
     returns-3)

@@ -11,9 +11,6 @@ returns c = unsigned-no _ (form-none _ (c .if1 .taken))
 returns-2 : tie.Need-returns-2
 returns-2 c = unsigned-no _ (form-long _ (c .if2 .taken))
 
-shared-slice-read-if3 : tie.Need-shared-slice-read-if3
-shared-slice-read-if3 c = search needs
-
 returns-3 : tie.Need-returns-3
 returns-3 c =
     let z = c .before in
@@ -25,9 +22,6 @@ returns-4 c =
     let z = c .before in
     unsigned-zero _ (z .before .before .before .if1 .left) (c .if4 .left) (z .if3 .taken)
 
-digits-of-requires : tie.Need-digits-of-requires
-digits-of-requires c κs = search needs
-
 returns-5 : tie.Need-returns-5
 returns-5 c =
     let l = c .before .before .before in
@@ -35,12 +29,4 @@ returns-5 c =
 
 pub unsigned-of-spec : {M : Type 1} → statement M
 unsigned-of-spec =
-    tie.close
-    (tie.spec
-    returns
-    returns-2
-    shared-slice-read-if3
-    returns-3
-    returns-4
-    digits-of-requires
-    returns-5)
+    tie.close (tie.spec returns returns-2 (λ c. search needs) returns-3 returns-4 (λ c κs. search needs) returns-5)

@@ -16,16 +16,10 @@ returns-2 c =
     let six : length (s .args .t1 .fields) ≡ 6 = search (needs, mapped-length) in
     sym (held-six (s .args .t1) (s .args .i) (le-of-eq six) (c .if2 .taken))
 
-mul-s : tie.Need-mul-s
-mul-s c = search needs
-
-element-copy-out-s : tie.Need-element-copy-out-s
-element-copy-out-s c = search needs
-
 returns-3 : tie.Need-returns-3
 returns-3 c =
     let s = c .before .before .before in
     sym (held-at (s .args .t1) (s .args .i) (c .before .before .if1 .left))
 
 pub field-at-spec : {M : Type 1} → statement M
-field-at-spec = tie.close (tie.spec returns returns-2 mul-s element-copy-out-s returns-3)
+field-at-spec = tie.close (tie.spec returns returns-2 (λ c. search needs) (λ c. search needs) returns-3)

@@ -18,36 +18,12 @@ abbrev μ-loop : tie.MeasureT-loop
 loop-holds : tie.Need-loop-holds Inv-loop μ-loop
 loop-holds c = let a = c .before .args in on-start (a .s .now) (a .at)
 
-end-of-requires : tie.Need-end-of-requires Inv-loop μ-loop
-end-of-requires c κs = search needs
-
-no-line-requires : tie.Need-no-line-requires Inv-loop μ-loop
-no-line-requires c κs = search needs
-
 returns : tie.Need-returns Inv-loop μ-loop
 returns c =
     let f = c .before .before in
     let l = f .before .before in
     let s = l .before .before .args .s .now in
     c .no-line .ensures ∙ sym (l .loop .inv ∙ on-open s (l .loop .next) (f .end-of .result) (f .end-of .ensures .0) (l .loop .k) (l .loop .fields) (c .before .if1 .taken))
-
-slot-of-requires : tie.Need-slot-of-requires Inv-loop μ-loop
-slot-of-requires c κs = search needs
-
-mul-fields : tie.Need-mul-fields Inv-loop μ-loop
-mul-fields c = search needs
-
-array-set-from-fields : tie.Need-array-set-from-fields Inv-loop μ-loop
-array-set-from-fields c = search needs
-
-add-k : tie.Need-add-k Inv-loop μ-loop
-add-k c = search needs
-
-add-next : tie.Need-add-next Inv-loop μ-loop
-add-next c = search needs
-
-shared-slice-read-if2 : tie.Need-shared-slice-read-if2 Inv-loop μ-loop
-shared-slice-read-if2 c = search needs
 
 returns-2 : tie.Need-returns-2 Inv-loop μ-loop
 returns-2 c =
@@ -57,9 +33,6 @@ returns-2 c =
     let s = l .before .before .args .s .now in
     sym (l .loop .inv ∙ on-ended s (l .loop .next) (f .end-of .result) (f .end-of .ensures .0) (l .loop .k) (l .loop .fields) (p .before .if1 .left) (p .slot-of .result) (p .slot-of .ensures) (search needs) (c .if2 .taken))
 
-loop-less : tie.Need-loop-less Inv-loop μ-loop
-loop-less c = search needs
-
 loop-again : tie.Need-loop-again Inv-loop μ-loop
 loop-again c =
     let p = c .before .before in
@@ -67,9 +40,6 @@ loop-again c =
     let l = f .before .before in
     let s = l .before .before .args .s .now in
     l .loop .inv ∙ on-more s (l .loop .next) (f .end-of .result) (f .end-of .ensures .0) (l .loop .k) (l .loop .fields) (p .before .if1 .left) (p .slot-of .result) (p .slot-of .ensures) (c .if2 .left)
-
-no-line-requires-2 : tie.Need-no-line-requires-2 Inv-loop μ-loop
-no-line-requires-2 c κs = search needs
 
 returns-3 : tie.Need-returns-3 Inv-loop μ-loop
 returns-3 c =
@@ -83,17 +53,17 @@ line-at-spec =
     Inv-loop
     μ-loop
     loop-holds
-    end-of-requires
-    no-line-requires
+    (λ c κs. search needs)
+    (λ c κs. search needs)
     returns
-    slot-of-requires
-    mul-fields
-    array-set-from-fields
-    add-k
-    add-next
-    shared-slice-read-if2
+    (λ c κs. search needs)
+    (λ c. search needs)
+    (λ c. search needs)
+    (λ c. search needs)
+    (λ c. search needs)
+    (λ c. search needs)
     returns-2
-    loop-less
+    (λ c. search needs)
     loop-again
-    no-line-requires-2
+    (λ c κs. search needs)
     returns-3)

@@ -26,9 +26,6 @@ asked c = let a = c .before .before .before .args in take (a .n) (now (a .text))
 sized : (c : tie.After-lesser Inv-loop μ-loop) → length (asked c) ≡ c .lesser .result
 sized c = let a = c .before .before .before .args in length-take (a .n) (now (a .text)) ∙ sym (c .lesser .ensures)
 
-lesser-requires : tie.Need-lesser-requires Inv-loop μ-loop
-lesser-requires c κs = search needs
-
 returns : tie.Need-returns Inv-loop μ-loop
 returns c =
     let e = c .before in
@@ -43,12 +40,6 @@ shared-slice-read-buf c = let l = c .before .before in omega (arith, l .before .
 
 slice-write-buf : tie.Need-slice-write-buf Inv-loop μ-loop
 slice-write-buf c = let l = c .before .before in omega (arith, put-length (l .loop .inv .1))
-
-add-i : tie.Need-add-i Inv-loop μ-loop
-add-i c = search needs
-
-loop-less : tie.Need-loop-less Inv-loop μ-loop
-loop-less c = search needs
 
 loop-again : tie.Need-loop-again Inv-loop μ-loop
 loop-again c =
@@ -76,13 +67,13 @@ emit-spec =
     (tie.spec
     Inv-loop
     μ-loop
-    lesser-requires
+    (λ c κs. search needs)
     returns
     loop-holds
     shared-slice-read-buf
     slice-write-buf
-    add-i
-    loop-less
+    (λ c. search needs)
+    (λ c. search needs)
     loop-again
     same-length
     returns-2)

@@ -5,20 +5,9 @@ use borrow.Author.Needs.{needs}
 use Rattle.page.proofs.put_byte.Statement.{statement}
 use Rattle.page.proofs.put_byte.Tie as tie
 
-slice-write-buf : tie.Need-slice-write-buf
-slice-write-buf c = search needs
-
-add-result : tie.Need-add-result
-add-result c = search needs
-
-same-length : tie.Need-same-length
-same-length c = search needs
-
-returns : tie.Need-returns
-returns c = search needs
-
 returns-2 : tie.Need-returns-2
 returns-2 c = put-past (now (c .before .args .buf)) (c .before .args .at) _ (c .if1 .left)
 
 pub put-byte-spec : {M : Type 1} → statement M
-put-byte-spec = tie.close (tie.spec slice-write-buf add-result same-length returns returns-2)
+put-byte-spec =
+    tie.close (tie.spec (λ c. search needs) (λ c. search needs) (λ c. search needs) (λ c. search needs) returns-2)
