@@ -36,15 +36,6 @@ fine v z f h k e =
 taken-off : (v z r : ℤ) → mag v < 2 ^ 31 → mag z < 2 ^ 63 → mag r < 2 ^ 31 → r ≡ net (toZ w32 (ofZ w32 v)) (toZ w64 (ofZ w64 z)) → toZ w32 (ofZ w32 r) ≡ net v z
 taken-off v z r f h g e = returned w32 r g .same ∙ e ∙ ap₂ net (returned w32 v f .same) (returned w64 z h .same)
 
-outside-requires : tie.Need-outside-requires
-outside-requires c κs = search needs
-
-enum-known-r : tie.Need-enum-known-r
-enum-known-r c = search needs
-
-too-great-requires : tie.Need-too-great-requires
-too-great-requires c κs = search needs
-
 returns : tie.Need-returns
 returns c =
     let r = c .before .before .before in
@@ -59,12 +50,6 @@ less-requires c κs =
     let o = r .before .before in
     let s = o .before in
     fine (r .r .given .0 .0) (s .args .internal) (c .before .before .known-told .given .0 .1) (s .fits .internal .sfits) (subst Small (r .r .given .1) (small o)) (tested (s .args .internal) (c .before .too-great .ensures) (s .fits .internal .sfits) (c .if1 .left))
-
-enum-known-r-2 : tie.Need-enum-known-r-2
-enum-known-r-2 c = search needs
-
-too-great-requires-2 : tie.Need-too-great-requires-2
-too-great-requires-2 c κs = search needs
 
 returns-2 : tie.Need-returns-2
 returns-2 c =
@@ -88,9 +73,6 @@ less-requires-3 c κs =
     let o = r .before .before in
     let s = o .before in
     fine (r .r2 .given .0 .1 .0) (s .args .internal) (t .before .before .known-told2 .given .1 .0 .1) (s .fits .internal .sfits) (subst Small (r .r2 .given .1) (small o) .1) (tested (s .args .internal) (t .before .too-great2 .ensures) (s .fits .internal .sfits) (t .if2 .left))
-
-enum-known-r-3 : tie.Need-enum-known-r-3
-enum-known-r-3 c = search needs
 
 returns-3 : tie.Need-returns-3
 returns-3 c =
@@ -124,17 +106,17 @@ pub net-spec : {M : Type 1} → statement M
 net-spec =
     tie.close
     (tie.spec
-    outside-requires
-    enum-known-r
-    too-great-requires
+    (λ c κs. search needs)
+    (λ c. search needs)
+    (λ c κs. search needs)
     returns
     less-requires
-    enum-known-r-2
-    too-great-requires-2
+    (λ c. search needs)
+    (λ c κs. search needs)
     returns-2
     less-requires-2
     less-requires-3
-    enum-known-r-3
+    (λ c. search needs)
     returns-3
     returns-4
     returns-5)

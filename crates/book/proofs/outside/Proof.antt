@@ -17,15 +17,6 @@ asked c =
     let s = c .before in
     said (λ (d : ℤ). askedOf (s .args .g) d (s .args .place)) (s .args .direction) (c .asked .ensures) (s .fits .direction .sfits)
 
-asked-requires : tie.Need-asked-requires
-asked-requires c κs = search needs
-
-enum-known-q : tie.Need-enum-known-q
-enum-known-q c = search needs
-
-magnitude-requires : tie.Need-magnitude-requires
-magnitude-requires c κs = search needs
-
 coefficient-requires : tie.Need-coefficient-requires
 coefficient-requires c κs =
     let q = c .before .before in
@@ -33,9 +24,6 @@ coefficient-requires c κs =
     let a = d .before .args in
     let f = subst (Told (a .g) (a .direction) (a .place)) (sym (asked d) ∙ q .q .given .1) (told (a .g) (a .direction) (a .place)) in
     (f .order, f .roofed)
-
-enum-known-q-2 : tie.Need-enum-known-q-2
-enum-known-q-2 c = search needs
 
 returns : tie.Need-returns
 unfolding outsideOf
@@ -60,10 +48,10 @@ pub outside-spec : {M : Type 1} → statement M
 outside-spec =
     tie.close
     (tie.spec
-    asked-requires
-    enum-known-q
-    magnitude-requires
+    (λ c κs. search needs)
+    (λ c. search needs)
+    (λ c κs. search needs)
     coefficient-requires
-    enum-known-q-2
+    (λ c. search needs)
     returns
     returns-2)

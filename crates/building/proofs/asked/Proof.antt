@@ -32,31 +32,16 @@ where-it-is c =
     c .either .ensures
     ∙ ap₂ _||_ (said (λ (k : ℤ). zoneOn k (a .place)) (a .g .kind) (z .zone-on .ensures) told) (said (λ (k : ℤ). localOn k (a .place)) (a .g .kind) (l .local-on .ensures) told)
 
-building-fault-requires : tie.Need-building-fault-requires
-building-fault-requires c κs = search needs
-
 returns : tie.Need-returns
 returns c =
     let a = c .before .before .args in
     ap (λ (n : ℕ). Refused n 2) (c .before .building-fault .ensures)
     ∙ sym (bad-building (a .g) (a .direction) (a .place) (λ e. c .if1 .taken (c .before .building-fault .ensures ∙ e)))
 
-knows-requires : tie.Need-knows-requires
-knows-requires c κs = search needs
-
 returns-2 : tie.Need-returns-2
 returns-2 c =
     let a = c .before .before .before .before .before .args in
     sym (bad-direction (a .g) (a .direction) (a .place) (good (c .before .before .before)) (sym (direction (c .before)) ∙ not-true _ (c .if2 .taken)))
-
-zone-on-requires : tie.Need-zone-on-requires
-zone-on-requires c κs = search needs
-
-local-on-requires : tie.Need-local-on-requires
-local-on-requires c κs = search needs
-
-either-requires : tie.Need-either-requires
-either-requires c κs = search needs
 
 returns-3 : tie.Need-returns-3
 returns-3 c =
@@ -81,13 +66,13 @@ pub asked-spec : {M : Type 1} → statement M
 asked-spec =
     tie.close
     (tie.spec
-    building-fault-requires
+    (λ c κs. search needs)
     returns
-    knows-requires
+    (λ c κs. search needs)
     returns-2
-    zone-on-requires
-    local-on-requires
-    either-requires
+    (λ c κs. search needs)
+    (λ c κs. search needs)
+    (λ c κs. search needs)
     returns-3
     sizes-of-requires
     returns-4)

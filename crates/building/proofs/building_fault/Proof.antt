@@ -31,15 +31,9 @@ walls c = c .out-of-walls .ensures ∙ ap outOfWalls (sized (c .before))
 roof : (c : tie.After-out-of-roof) → c .out-of-roof .result ≡ outOfRoof (sizes (c .before .before .before .before .before .before .before .before .args .g))
 roof c = c .out-of-roof .ensures ∙ ap outOfRoof (sized (c .before .before .before))
 
-out-of-form-requires : tie.Need-out-of-form-requires
-out-of-form-requires c κs = search needs
-
 returns : tie.Need-returns
 unfolding buildingFault
 returns c = rw (sym (c .before .out-of-form .ensures) ∙ c .if1 .taken)
-
-out-of-range-requires : tie.Need-out-of-range-requires
-out-of-range-requires c κs = search needs
 
 returns-2 : tie.Need-returns-2
 unfolding buildingFault
@@ -78,9 +72,9 @@ pub building-fault-spec : {M : Type 1} → statement M
 building-fault-spec =
     tie.close
     (tie.spec
-    out-of-form-requires
+    (λ c κs. search needs)
     returns
-    out-of-range-requires
+    (λ c κs. search needs)
     returns-2
     sizes-of-requires
     out-of-walls-requires

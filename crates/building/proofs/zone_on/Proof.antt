@@ -7,33 +7,6 @@ use Rattle.whole.proofs.Size.{said}
 use Rattle.building.proofs.zone_on.Statement.{statement}
 use Rattle.building.proofs.zone_on.Tie as tie
 
-among-requires : tie.Need-among-requires
-among-requires c κs = search needs
-
-gable-requires : tie.Need-gable-requires
-gable-requires c κs = search needs
-
-among-requires-2 : tie.Need-among-requires-2
-among-requires-2 c κs = search needs
-
-both-requires : tie.Need-both-requires
-both-requires c κs = search needs
-
-flat-requires : tie.Need-flat-requires
-flat-requires c κs = search needs
-
-among-requires-3 : tie.Need-among-requires-3
-among-requires-3 c κs = search needs
-
-both-requires-2 : tie.Need-both-requires-2
-both-requires-2 c κs = search needs
-
-either-requires : tie.Need-either-requires
-either-requires c κs = search needs
-
-either-requires-2 : tie.Need-either-requires-2
-either-requires-2 c κs = search needs
-
 returns : tie.Need-returns
 unfolding zoneOn
 returns c =
@@ -57,13 +30,13 @@ pub zone-on-spec : {M : Type 1} → statement M
 zone-on-spec =
     tie.close
     (tie.spec
-    among-requires
-    gable-requires
-    among-requires-2
-    both-requires
-    flat-requires
-    among-requires-3
-    both-requires-2
-    either-requires
-    either-requires-2
+    (λ c κs. search needs)
+    (λ c κs. search needs)
+    (λ c κs. search needs)
+    (λ c κs. search needs)
+    (λ c κs. search needs)
+    (λ c κs. search needs)
+    (λ c κs. search needs)
+    (λ c κs. search needs)
+    (λ c κs. search needs)
     returns)

@@ -18,9 +18,6 @@ small c = rw (c .unit .ensures) (gap-small (c .before .args .m) (c .before .fits
 kept : (c : tie.After-unit) → c .before .args .m / c .unit .result < 2 ^ 53
 kept c = rw (c .unit .ensures) (kept-small (c .before .args .m))
 
-unit-requires : tie.Need-unit-requires
-unit-requires c κs = search needs
-
 div-q : tie.Need-div-q
 div-q c = positive c
 
@@ -56,7 +53,7 @@ pub of-size-spec : {M : Type 1} → statement M
 of-size-spec =
     tie.close
     (tie.spec
-    unit-requires
+    (λ c κs. search needs)
     div-q
     int-to-float-low
     int-to-float-low-2

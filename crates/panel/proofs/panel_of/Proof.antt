@@ -26,15 +26,6 @@ total c = param (c .before .before .fits .total)
 sized : (c : tie.After-of-size) → c .of-size .result ≡ ofSize (natAbs (c .before .before .args .total))
 sized c = c .of-size .ensures ∙ ap ofSize (c .before .magnitude .ensures ∙ size (total c))
 
-magnitude-requires : tie.Need-magnitude-requires
-magnitude-requires c κs = search needs
-
-of-size-requires : tie.Need-of-size-requires
-of-size-requires c κs = search needs
-
-mirror-requires : tie.Need-mirror-requires
-mirror-requires c κs = search needs
-
 returns : tie.Need-returns
 returns c =
     let p = c .before .before in
@@ -44,4 +35,5 @@ returns-2 : tie.Need-returns-2
 returns-2 c = sized (c .before) ∙ above _ (lt-no (total (c .before)) (num (pos 0)) (c .if1 .left))
 
 pub panel-of-spec : {M : Type 1} → statement M
-panel-of-spec = tie.close (tie.spec magnitude-requires of-size-requires mirror-requires returns returns-2)
+panel-of-spec =
+    tie.close (tie.spec (λ c κs. search needs) (λ c κs. search needs) (λ c κs. search needs) returns returns-2)

@@ -34,20 +34,11 @@ tenfold c = back w64 (sum c) tt ⊗ num (pos 10)
 cast-n : tie.Need-cast-n
 cast-n c = fit (from c) tt
 
-sub-n : tie.Need-sub-n
-sub-n c = search needs
-
-cast-n-2 : tie.Need-cast-n-2
-cast-n-2 c = search needs
-
 mul-n : tie.Need-mul-n
 mul-n c = fit (left c) tt
 
 cast-n-3 : tie.Need-cast-n-3
 cast-n-3 c = fit (to c) tt
-
-cast-n-4 : tie.Need-cast-n-4
-cast-n-4 c = search needs
 
 mul-n-2 : tie.Need-mul-n-2
 mul-n-2 c = fit (right c) tt
@@ -83,11 +74,11 @@ line-at-spec =
     tie.close
     (tie.spec
     cast-n
-    sub-n
-    cast-n-2
+    (λ c. search needs)
+    (λ c. search needs)
     mul-n
     cast-n-3
-    cast-n-4
+    (λ c. search needs)
     mul-n-2
     add-n
     mul-n-3

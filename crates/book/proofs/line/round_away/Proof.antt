@@ -29,9 +29,6 @@ it c = nat w64 {n = c .half-up .result} 10000000000000 (most c) tt
 abbrev minus-it : tie.After-half-up → Num
 minus-it c = num (pos 0) ⊖ it c
 
-magnitude-requires : tie.Need-magnitude-requires
-magnitude-requires c κs = search needs
-
 half-up-requires : tie.Need-half-up-requires
 half-up-requires c κs = (omega (arith, size c), omega arith, omega arith)
 
@@ -56,5 +53,4 @@ returns-2 c =
     ∙ sym (round-above (s .args .z) (s .args .d) (lt-no (param (s .fits .z)) (num (pos 0)) (c .if1 .left)))
 
 pub round-away-spec : {M : Type 1} → statement M
-round-away-spec =
-    tie.close (tie.spec magnitude-requires half-up-requires cast-n sub-result returns returns-2)
+round-away-spec = tie.close (tie.spec (λ c κs. search needs) half-up-requires cast-n sub-result returns returns-2)

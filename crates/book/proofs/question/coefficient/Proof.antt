@@ -28,9 +28,6 @@ off-wall c = sym (c .before .wall-place .ensures) ∙ c .if1 .left
 roofed : (c : tie.Else1) → 0 < c .before .before .args .s .kind
 roofed c = c .before .before .pre .1 (off-wall c)
 
-wall-place-requires : tie.Need-wall-place-requires
-wall-place-requires c κs = search needs
-
 wall-column-requires : tie.Need-wall-column-requires
 wall-column-requires c κs = wall c
 
@@ -45,9 +42,6 @@ returns c =
     let s = a .s in
     ap One (returned w32 (c .wall-value .result) (c .wall-value .ok) .same ∙ c .wall-value .ensures ∙ ap (λ (n : ℕ). wallValue (s .h) (s .a) (s .b) n) (c .before .wall-column .ensures))
     ∙ sym (on-wall s (a .wind) (a .place) (wall (c .before .before)))
-
-gable-column-requires : tie.Need-gable-column-requires
-gable-column-requires c κs = search needs
 
 roof-value-requires : tie.Need-roof-value-requires
 roof-value-requires c κs =
@@ -80,9 +74,6 @@ returns-3 c =
     ∙ ap bothSigns (returned w32 (c .before .roof-value2 .result) (c .before .roof-value2 .ok) .same ∙ c .before .roof-value2 .ensures)
     ∙ sym (on-f (a .s) (a .wind) (a .place) (off-wall e) (t .before .if2 .left) (t .if3 .taken))
 
-flat-column-requires : tie.Need-flat-column-requires
-flat-column-requires c κs = search needs
-
 roof-value-requires-3 : tie.Need-roof-value-requires-3
 roof-value-requires-3 c κs =
     let e = c .before .before .before .before in
@@ -101,16 +92,16 @@ pub coefficient-spec : {M : Type 1} → statement M
 coefficient-spec =
     tie.close
     (tie.spec
-    wall-place-requires
+    (λ c κs. search needs)
     wall-column-requires
     wall-value-requires
     returns
-    gable-column-requires
+    (λ c κs. search needs)
     roof-value-requires
     returns-2
     roof-value-requires-2
     both-signs-requires
     returns-3
-    flat-column-requires
+    (λ c κs. search needs)
     roof-value-requires-3
     returns-4)

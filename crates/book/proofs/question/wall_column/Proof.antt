@@ -13,21 +13,12 @@ returns c = search tests
 sub-result : tie.Need-sub-result
 sub-result c = let s = c .before .before in wall-letter (s .args .place) (s .pre) (c .before .if1 .left) .0
 
-cast-result : tie.Need-cast-result
-cast-result c = search needs
-
 returns-2 : tie.Need-returns-2
 unfolding wallColumn
 returns-2 c = search tests
 
 sub-result-2 : tie.Need-sub-result-2
 sub-result-2 c = let s = c .before .before in wall-letter (s .args .place) (s .pre) (c .before .if1 .left) .0
-
-cast-result-2 : tie.Need-cast-result-2
-cast-result-2 c = search needs
-
-add-result : tie.Need-add-result
-add-result c = search needs
 
 returns-3 : tie.Need-returns-3
 unfolding wallColumn
@@ -39,9 +30,9 @@ wall-column-spec =
     (tie.spec
     returns
     sub-result
-    cast-result
+    (λ c. search needs)
     returns-2
     sub-result-2
-    cast-result-2
-    add-result
+    (λ c. search needs)
+    (λ c. search needs)
     returns-3)

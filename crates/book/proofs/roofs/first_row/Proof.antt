@@ -4,14 +4,8 @@ use Rattle.book.proofs.Tables.{first-row}
 use Rattle.book.proofs.roofs.first_row.Statement.{statement}
 use Rattle.book.proofs.roofs.first_row.Tie as tie
 
-mul-result : tie.Need-mul-result
-mul-result c = search needs
-
-array-read-result : tie.Need-array-read-result
-array-read-result c = search needs
-
 returns : tie.Need-returns
 returns c = first-row (c .args .k) (c .pre)
 
 pub first-row-spec : {M : Type 1} → statement M
-first-row-spec = tie.close (tie.spec mul-result array-read-result returns)
+first-row-spec = tie.close (tie.spec (λ c. search needs) (λ c. search needs) returns)

@@ -4,16 +4,10 @@ use borrow.Author.Tests.{eq-eqb, ne-eqb}
 use Rattle.book.proofs.roofs.part_of.Statement.{statement}
 use Rattle.book.proofs.roofs.part_of.Tie as tie
 
-block-of-requires : tie.Need-block-of-requires
-block-of-requires c κs = search needs
-
 returns : tie.Need-returns
 returns c =
     let s = c .before .before .before .args .s in
     rw (eq-eqb (s .kind) 1 (c .before .if1 .taken)) (c .block-of .ensures)
-
-add-result : tie.Need-add-result
-add-result c = search needs
 
 returns-2 : tie.Need-returns-2
 returns-2 c =
@@ -21,4 +15,4 @@ returns-2 c =
     rw (ne-eqb (s .kind) 1 (c .before .if1 .left))
 
 pub part-of-spec : {M : Type 1} → statement M
-part-of-spec = tie.close (tie.spec block-of-requires returns add-result returns-2)
+part-of-spec = tie.close (tie.spec (λ c κs. search needs) returns (λ c. search needs) returns-2)

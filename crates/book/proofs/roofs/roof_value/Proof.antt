@@ -22,9 +22,6 @@ spot-is c =
     let s = c .before .before .args .s in
     c .spot-in .ensures ∙ ap (λ (k : ℕ). spotIn k (s .along) (s .across)) (c .before .part-of .ensures)
 
-part-of-requires : tie.Need-part-of-requires
-part-of-requires c κs = search needs
-
 spot-in-requires : tie.Need-spot-in-requires
 spot-in-requires c κs =
     let a = c .before in
@@ -67,4 +64,4 @@ returns c =
 
 pub roof-value-spec : {M : Type 1} → statement M
 roof-value-spec =
-    tie.close (tie.spec part-of-requires spot-in-requires cell-requires cell-requires-2 line-at-requires returns)
+    tie.close (tie.spec (λ c κs. search needs) spot-in-requires cell-requires cell-requires-2 line-at-requires returns)

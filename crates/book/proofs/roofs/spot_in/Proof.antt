@@ -27,15 +27,6 @@ piece : (c : tie.After-first-row2) → take (c .first-row2 .result - c .before .
 piece c =
     ap₂ (λ (a e : ℕ). take (e - a) (drop a ats)) (c .before .first-row .ensures) (c .first-row2 .ensures) ∙ facts c .piece
 
-first-row-requires : tie.Need-first-row-requires
-first-row-requires c κs = search needs
-
-add-first-row : tie.Need-add-first-row
-add-first-row c = search needs
-
-first-row-requires-2 : tie.Need-first-row-requires-2
-first-row-requires-2 c κs = search needs
-
 mul-spot-from : tie.Need-mul-spot-from
 mul-spot-from c = omega (arith, begins c, ends c)
 
@@ -67,9 +58,9 @@ pub spot-in-spec : {M : Type 1} → statement M
 spot-in-spec =
     tie.close
     (tie.spec
-    first-row-requires
-    add-first-row
-    first-row-requires-2
+    (λ c κs. search needs)
+    (λ c. search needs)
+    (λ c κs. search needs)
     mul-spot-from
     sub-spot-from
     part-spot-from-start

@@ -5,17 +5,8 @@ use Rattle.book.proofs.Rows.{in-low, in-middle, in-tall}
 use Rattle.book.proofs.walls.block_of.Statement.{statement}
 use Rattle.book.proofs.walls.block_of.Tie as tie
 
-mul-if1 : tie.Need-mul-if1
-mul-if1 c = search needs
-
 returns : tie.Need-returns
 returns c = let s = c .before .before .before .args .s in in-low (s .h) (s .b) (omega arith)
-
-mul-if2 : tie.Need-mul-if2
-mul-if2 c = search needs
-
-mul-if2-2 : tie.Need-mul-if2-2
-mul-if2-2 c = search needs
 
 returns-2 : tie.Need-returns-2
 returns-2 c = let s = c .before .before .before .before .before .before .args .s in in-middle (s .h) (s .b) (omega arith) (omega arith)
@@ -24,4 +15,5 @@ returns-3 : tie.Need-returns-3
 returns-3 c = let s = c .before .before .before .before .before .before .args .s in in-tall (s .h) (s .b) (omega arith) (omega arith)
 
 pub block-of-spec : {M : Type 1} → statement M
-block-of-spec = tie.close (tie.spec mul-if1 returns mul-if2 mul-if2-2 returns-2 returns-3)
+block-of-spec =
+    tie.close (tie.spec (λ c. search needs) returns (λ c. search needs) (λ c. search needs) returns-2 returns-3)

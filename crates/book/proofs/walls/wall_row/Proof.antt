@@ -10,15 +10,6 @@ use Rattle.book.proofs.walls.wall_row.Tie as tie
 few : (c : tie.After-block-of) → c .block-of .result ≤ 2
 few c = let s = c .before .args .s in omega (arith, c .block-of .ensures, blockOf-most (s .h) (s .b) (omega arith))
 
-block-of-requires : tie.Need-block-of-requires
-block-of-requires c κs = search needs
-
-mul-if1 : tie.Need-mul-if1
-mul-if1 c = search needs
-
-mul-if1-2 : tie.Need-mul-if1-2
-mul-if1-2 c = search needs
-
 mul-result : tie.Need-mul-result
 mul-result c = omega (arith, few (c .before .before .before))
 
@@ -42,4 +33,14 @@ returns-2 c =
     ∙ sym (row-second (s .h) (s .a) (s .b) (omega arith) (omega arith) (omega arith))
 
 pub wall-row-spec : {M : Type 1} → statement M
-wall-row-spec = tie.close (tie.spec block-of-requires mul-if1 mul-if1-2 mul-result returns mul-result-2 add-result returns-2)
+wall-row-spec =
+    tie.close
+    (tie.spec
+    (λ c κs. search needs)
+    (λ c. search needs)
+    (λ c. search needs)
+    mul-result
+    returns
+    mul-result-2
+    add-result
+    returns-2)

@@ -15,9 +15,6 @@ use Rattle.book.proofs.Tables.{wall-small}
 use Rattle.book.proofs.walls.wall_value.Statement.{statement}
 use Rattle.book.proofs.walls.wall_value.Tie as tie
 
-wall-row-requires : tie.Need-wall-row-requires
-wall-row-requires c κs = search needs
-
 wall-cell-requires : tie.Need-wall-cell-requires
 wall-cell-requires c κs =
     let s = c .before .args .s in
@@ -46,4 +43,4 @@ returns c =
     ∙ ap (λ (z : ℤ). lineAt z z 0 1) (cell (c .before))
 
 pub wall-value-spec : {M : Type 1} → statement M
-wall-value-spec = tie.close (tie.spec wall-row-requires wall-cell-requires line-at-requires returns)
+wall-value-spec = tie.close (tie.spec (λ c κs. search needs) wall-cell-requires line-at-requires returns)

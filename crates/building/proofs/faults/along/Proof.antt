@@ -4,12 +4,6 @@ use borrow.Author.Needs.{needs}
 use Rattle.building.proofs.faults.along.Statement.{statement}
 use Rattle.building.proofs.faults.along.Tie as tie
 
-by-height-requires : tie.Need-by-height-requires
-by-height-requires c κs = search needs
-
-mul-result : tie.Need-mul-result
-mul-result c = search needs
-
 returns : tie.Need-returns
 returns c = let t = c in rw (sym (t .before .by-height .ensures) ∙ t .if1 .taken)
 
@@ -17,4 +11,4 @@ returns-2 : tie.Need-returns-2
 returns-2 c = rw (sym (c .before .by-height .ensures) ∙ c .if1 .left)
 
 pub along-spec : {M : Type 1} → statement M
-along-spec = tie.close (tie.spec by-height-requires mul-result returns returns-2)
+along-spec = tie.close (tie.spec (λ c κs. search needs) (λ c. search needs) returns returns-2)

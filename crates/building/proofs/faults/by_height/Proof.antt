@@ -6,12 +6,9 @@ use borrow.Author.Needs.{needs}
 use Rattle.building.proofs.faults.by_height.Statement.{statement}
 use Rattle.building.proofs.faults.by_height.Tie as tie
 
-array-read-result : tie.Need-array-read-result
-array-read-result c = search needs
-
 returns : tie.Need-returns
 unfolding roofOf
 returns c = List·getD-map (λ (r : Roof). r .byHeight) roofs (c .args .kind) (roof 0 0 false)
 
 pub by-height-spec : {M : Type 1} → statement M
-by-height-spec = tie.close (tie.spec array-read-result returns)
+by-height-spec = tie.close (tie.spec (λ c. search needs) returns)

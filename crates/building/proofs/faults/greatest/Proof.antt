@@ -6,15 +6,9 @@ use borrow.Author.Needs.{needs}
 use Rattle.building.proofs.faults.greatest.Statement.{statement}
 use Rattle.building.proofs.faults.greatest.Tie as tie
 
-mul-result : tie.Need-mul-result
-mul-result c = search needs
-
-array-read-result : tie.Need-array-read-result
-array-read-result c = search needs
-
 returns : tie.Need-returns
 unfolding roofOf
 returns c = List·getD-map (λ (r : Roof). r .greatest) roofs (c .args .kind) (roof 0 0 false)
 
 pub greatest-spec : {M : Type 1} → statement M
-greatest-spec = tie.close (tie.spec mul-result array-read-result returns)
+greatest-spec = tie.close (tie.spec (λ c. search needs) (λ c. search needs) returns)

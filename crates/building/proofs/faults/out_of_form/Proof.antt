@@ -5,11 +5,8 @@ use Rattle.building.proofs.Limits.{in-form}
 use Rattle.building.proofs.faults.out_of_form.Statement.{statement}
 use Rattle.building.proofs.faults.out_of_form.Tie as tie
 
-some-beyond-requires : tie.Need-some-beyond-requires
-some-beyond-requires c κs = search needs
-
 returns : tie.Need-returns
 returns c = c .some-beyond .ensures ∙ in-form (c .before .args .g)
 
 pub out-of-form-spec : {M : Type 1} → statement M
-out-of-form-spec = tie.close (tie.spec some-beyond-requires returns)
+out-of-form-spec = tie.close (tie.spec (λ c κs. search needs) returns)

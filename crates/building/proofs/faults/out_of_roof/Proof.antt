@@ -15,24 +15,15 @@ use Rattle.building.proofs.faults.out_of_roof.Tie as tie
 small : {n d k : ℕ} → n ≡ k → k ≤ 900 → d ≤ 30000 → n * d ≤ 900 * 30000
 small {n} {d} p h g = mul-le-mul {n₁ = n} {m₁ = d} {n₂ = 900} {m₂ = 30000} (omega arith) (omega arith)
 
-least-requires : tie.Need-least-requires
-least-requires c κs = search needs
-
 mul-either : tie.Need-mul-either
 mul-either c =
     let s = c .before .before in
     omega (arith, small (c .before .least .ensures) (least-most (s .args .s .kind)) (s .pre .across-most))
 
-greatest-requires : tie.Need-greatest-requires
-greatest-requires c κs = search needs
-
 mul-either-2 : tie.Need-mul-either-2
 mul-either-2 c =
     let s = c .before .before .before .before .before in
     omega (arith, small (c .before .greatest .ensures) (greatest-most (s .args .s .kind)) (s .pre .across-most))
-
-either-requires : tie.Need-either-requires
-either-requires c κs = search needs
 
 returns : tie.Need-returns
 unfolding outOfRoof
@@ -44,4 +35,12 @@ returns c =
     ∙ ap₂ (λ (least greatest : ℕ). ltb (s .along) (least * s .across) || ltb (greatest * s .across) (s .along)) (l .least .ensures) (g .greatest .ensures)
 
 pub out-of-roof-spec : {M : Type 1} → statement M
-out-of-roof-spec = tie.close (tie.spec least-requires mul-either greatest-requires mul-either-2 either-requires returns)
+out-of-roof-spec =
+    tie.close
+    (tie.spec
+    (λ c κs. search needs)
+    mul-either
+    (λ c κs. search needs)
+    mul-either-2
+    (λ c κs. search needs)
+    returns)

@@ -7,9 +7,6 @@ use Rattle.building.proofs.Ratios.{upTo-yes, upTo-no}
 use Rattle.building.proofs.faults.out_of_walls.Statement.{statement}
 use Rattle.building.proofs.faults.out_of_walls.Tie as tie
 
-mul-if1 : tie.Need-mul-if1
-mul-if1 c = search needs
-
 returns : tie.Need-returns
 unfolding outOfWalls
 returns c = let s = c .before .before .before .args .s in rw (upTo-no (s .h) (s .b) 6 1 (omega arith))
@@ -19,9 +16,6 @@ unfolding outOfWalls
 returns-2 c =
     let s = c .before .before .before .before .before .args .s in
     rw (upTo-yes (s .h) (s .b) 6 1 (omega arith), le-ltb (s .b) (s .a) (c .if2 .taken))
-
-mul-if3 : tie.Need-mul-if3
-mul-if3 c = search needs
 
 returns-3 : tie.Need-returns-3
 unfolding outOfWalls
@@ -36,4 +30,4 @@ returns-4 c =
     rw (upTo-yes (s .h) (s .b) 6 1 (omega arith), lt-ltb (s .b) (s .a) (omega arith), upTo-yes (s .a) (s .b) 4 1 (omega arith))
 
 pub out-of-walls-spec : {M : Type 1} → statement M
-out-of-walls-spec = tie.close (tie.spec mul-if1 returns returns-2 mul-if3 returns-3 returns-4)
+out-of-walls-spec = tie.close (tie.spec (λ c. search needs) returns returns-2 (λ c. search needs) returns-3 returns-4)

@@ -27,21 +27,6 @@ kind c =
 x : (c : tie.After-magnitude5) → c .magnitude5 .result ≡ natAbs (building c .x)
 x c = said natAbs (building c .x) (c .magnitude5 .ensures) (c .before .struct-told5 .given .1 .1 .1 .1 .1 .0 .1)
 
-magnitude-requires : tie.Need-magnitude-requires
-magnitude-requires c κs = search needs
-
-magnitude-requires-2 : tie.Need-magnitude-requires-2
-magnitude-requires-2 c κs = search needs
-
-magnitude-requires-3 : tie.Need-magnitude-requires-3
-magnitude-requires-3 c κs = search needs
-
-magnitude-requires-4 : tie.Need-magnitude-requires-4
-magnitude-requires-4 c κs = search needs
-
-magnitude-requires-5 : tie.Need-magnitude-requires-5
-magnitude-requires-5 c κs = search needs
-
 along-requires : tie.Need-along-requires
 along-requires c κs =
     let s = c .before .before .before .before .before .before .before .before .before .before in
@@ -76,11 +61,11 @@ pub sizes-of-spec : {M : Type 1} → statement M
 sizes-of-spec =
     tie.close
     (tie.spec
-    magnitude-requires
-    magnitude-requires-2
-    magnitude-requires-3
-    magnitude-requires-4
-    magnitude-requires-5
+    (λ c κs. search needs)
+    (λ c κs. search needs)
+    (λ c κs. search needs)
+    (λ c κs. search needs)
+    (λ c κs. search needs)
     along-requires
     across-requires
     returns)

@@ -5,39 +5,6 @@ use Rattle.building.proofs.Machine.{tested, any-of-six}
 use Rattle.building.proofs.faults.some_beyond.Statement.{statement}
 use Rattle.building.proofs.faults.some_beyond.Tie as tie
 
-beyond-requires : tie.Need-beyond-requires
-beyond-requires c κs = search needs
-
-beyond-requires-2 : tie.Need-beyond-requires-2
-beyond-requires-2 c κs = search needs
-
-beyond-requires-3 : tie.Need-beyond-requires-3
-beyond-requires-3 c κs = search needs
-
-beyond-requires-4 : tie.Need-beyond-requires-4
-beyond-requires-4 c κs = search needs
-
-beyond-requires-5 : tie.Need-beyond-requires-5
-beyond-requires-5 c κs = search needs
-
-beyond-requires-6 : tie.Need-beyond-requires-6
-beyond-requires-6 c κs = search needs
-
-either-requires : tie.Need-either-requires
-either-requires c κs = search needs
-
-either-requires-2 : tie.Need-either-requires-2
-either-requires-2 c κs = search needs
-
-either-requires-3 : tie.Need-either-requires-3
-either-requires-3 c κs = search needs
-
-either-requires-4 : tie.Need-either-requires-4
-either-requires-4 c κs = search needs
-
-either-requires-5 : tie.Need-either-requires-5
-either-requires-5 c κs = search needs
-
 returns : tie.Need-returns
 returns c =
     let c₆ = c .before .before .before .before .before in
@@ -65,15 +32,15 @@ pub some-beyond-spec : {M : Type 1} → statement M
 some-beyond-spec =
     tie.close
     (tie.spec
-    beyond-requires
-    beyond-requires-2
-    beyond-requires-3
-    beyond-requires-4
-    beyond-requires-5
-    beyond-requires-6
-    either-requires
-    either-requires-2
-    either-requires-3
-    either-requires-4
-    either-requires-5
+    (λ c κs. search needs)
+    (λ c κs. search needs)
+    (λ c κs. search needs)
+    (λ c κs. search needs)
+    (λ c κs. search needs)
+    (λ c κs. search needs)
+    (λ c κs. search needs)
+    (λ c κs. search needs)
+    (λ c κs. search needs)
+    (λ c κs. search needs)
+    (λ c κs. search needs)
     returns)

@@ -5,11 +5,8 @@ use Rattle.whole.proofs.Size.{said}
 use Rattle.building.proofs.kinds.gable.Statement.{statement}
 use Rattle.building.proofs.kinds.gable.Tie as tie
 
-is-requires : tie.Need-is-requires
-is-requires c κs = search needs
-
 returns : tie.Need-returns
 returns c = said (is 1) (c .before .args .kind) (c .is .ensures) (c .before .fits .kind .sfits)
 
 pub gable-spec : {M : Type 1} → statement M
-gable-spec = tie.close (tie.spec is-requires returns)
+gable-spec = tie.close (tie.spec (λ c κs. search needs) returns)

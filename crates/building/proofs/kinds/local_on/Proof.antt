@@ -8,18 +8,6 @@ use Rattle.whole.proofs.Size.{said}
 use Rattle.building.proofs.kinds.local_on.Statement.{statement}
 use Rattle.building.proofs.kinds.local_on.Tie as tie
 
-flat-requires : tie.Need-flat-requires
-flat-requires c κs = search needs
-
-either-requires : tie.Need-either-requires
-either-requires c κs = search needs
-
-both-requires : tie.Need-both-requires
-both-requires c κs = search needs
-
-either-requires-2 : tie.Need-either-requires-2
-either-requires-2 c κs = search needs
-
 returns : tie.Need-returns
 unfolding localOn
 returns c =
@@ -31,4 +19,11 @@ returns c =
     ∙ ap₂ _&&_ (said flat (s .args .kind) (f .flat .ensures) (s .fits .kind .sfits)) (c .before .before .either .ensures))
 
 pub local-on-spec : {M : Type 1} → statement M
-local-on-spec = tie.close (tie.spec flat-requires either-requires both-requires either-requires-2 returns)
+local-on-spec =
+    tie.close
+    (tie.spec
+    (λ c κs. search needs)
+    (λ c κs. search needs)
+    (λ c κs. search needs)
+    (λ c κs. search needs)
+    returns)

@@ -9,9 +9,6 @@ use Rattle.whole.proofs.Size.{returned}
 use Rattle.building.proofs.tests.beyond.Statement.{statement}
 use Rattle.building.proofs.tests.beyond.Tie as tie
 
-either-requires : tie.Need-either-requires
-either-requires c κs = search needs
-
 returns : tie.Need-returns
 unfolding beyond
 returns c =
@@ -20,4 +17,4 @@ returns c =
     c .either .ensures ∙ ap₂ _||_ (ap₂ ltZ e (returned w64 (s .args .least) (s .fits .least .sfits) .same)) (ap₂ ltZ (returned w64 (s .args .greatest) (s .fits .greatest .sfits) .same) e)
 
 pub beyond-spec : {M : Type 1} → statement M
-beyond-spec = tie.close (tie.spec either-requires returns)
+beyond-spec = tie.close (tie.spec (λ c κs. search needs) returns)

@@ -27,9 +27,6 @@ returns c =
     let s = c .before in
     negative (s .args .n) (s .args .z) (ap (λ (z : ℤ). ltZ z (pos 0)) (sym (returned w64 (s .args .z) (s .fits .z .sfits) .same)) ∙ c .if1 .taken)
 
-magnitude-requires : tie.Need-magnitude-requires
-magnitude-requires c κs = search needs
-
 returns-2 : tie.Need-returns-2
 returns-2 c =
     let s = c .before .before in
@@ -38,4 +35,4 @@ returns-2 c =
     ∙ natural (s .args .n) z (ap (λ (z : ℤ). ltZ z (pos 0)) (sym (returned w64 z (s .fits .z .sfits) .same)) ∙ c .before .if1 .left)
 
 pub is-spec : {M : Type 1} → statement M
-is-spec = tie.close (tie.spec returns magnitude-requires returns-2)
+is-spec = tie.close (tie.spec returns (λ c κs. search needs) returns-2)
