@@ -45,26 +45,11 @@ module _ (c : tie.In-loop Inv-loop μ-loop) where
   below-24 : i < 24
   below-24 = omega (arith, c .loop-test .taken, start .pre .1, most-24 (start .args .sec))
 
-count-line-requires : tie.Need-count-line-requires Inv-loop μ-loop
-count-line-requires c κs = search needs
-
-put-line-requires : tie.Need-put-line-requires Inv-loop μ-loop
-put-line-requires c κs = search needs
-
 loop-holds : tie.Need-loop-holds Inv-loop μ-loop
 loop-holds c = (search needs, put-none (c .before .before .put-line .ensures))
 
 cast-k : tie.Need-cast-k Inv-loop μ-loop
 cast-k c = record { fits = omega (arith, below-24 c) }
-
-enum-told : tie.Need-enum-told Inv-loop μ-loop
-enum-told c = search needs
-
-building-line-requires : tie.Need-building-line-requires Inv-loop μ-loop
-building-line-requires c κs = search needs
-
-enum-told-2 : tie.Need-enum-told-2 Inv-loop μ-loop
-enum-told-2 c = search needs
 
 mul-w : tie.Need-mul-w Inv-loop μ-loop
 mul-w c = record { fits = omega (arith, below-24 (c .before .before)) }
@@ -72,32 +57,17 @@ mul-w c = record { fits = omega (arith, below-24 (c .before .before)) }
 element-copy-out-w : tie.Need-element-copy-out-w Inv-loop μ-loop
 element-copy-out-w c = below (c .before .before) W (c .enum-told2 .given .1)
 
-wind-line-requires : tie.Need-wind-line-requires Inv-loop μ-loop
-wind-line-requires c κs = search needs
-
-enum-told-3 : tie.Need-enum-told-3 Inv-loop μ-loop
-enum-told-3 c = search needs
-
 mul-z : tie.Need-mul-z Inv-loop μ-loop
 mul-z c = record { fits = omega (arith, below-24 (c .before .before)) }
 
 element-copy-out-z : tie.Need-element-copy-out-z Inv-loop μ-loop
 element-copy-out-z c = below (c .before .before) I (c .enum-told3 .given .1)
 
-internal-line-requires : tie.Need-internal-line-requires Inv-loop μ-loop
-internal-line-requires c κs = search needs
-
-enum-told-4 : tie.Need-enum-told-4 Inv-loop μ-loop
-enum-told-4 c = search needs
-
 mul-f : tie.Need-mul-f Inv-loop μ-loop
 mul-f c = record { fits = omega (arith, below-24 (c .before .before)) }
 
 element-copy-out-f : tie.Need-element-copy-out-f Inv-loop μ-loop
 element-copy-out-f c = below (c .before .before) F (c .enum-told4 .given .1)
-
-face-line-requires : tie.Need-face-line-requires Inv-loop μ-loop
-face-line-requires c κs = search needs
 
 -- the line that was made is entry i
 module _ (c : tie.At-match-came Inv-loop μ-loop) where
@@ -118,14 +88,8 @@ module _ (c : tie.At-match-came Inv-loop μ-loop) where
       told : {t : Section} → section ≡ t → lineOf 0 (entryOf job t (i (c .before))) ≡ lineOf 0 (entryOf job section (i (c .before)))
       told e = ap (λ (t : Section). lineOf 0 (entryOf job t (i (c .before)))) (sym e)
 
-put-line-requires-2 : tie.Need-put-line-requires-2 Inv-loop μ-loop
-put-line-requires-2 c κs = search needs
-
 add-i : tie.Need-add-i Inv-loop μ-loop
 add-i c = record { fits = omega (arith, below-24 (c .before .before .before .before .before)) }
-
-loop-less : tie.Need-loop-less Inv-loop μ-loop
-loop-less c = search needs
 
 loop-again : tie.Need-loop-again Inv-loop μ-loop
 loop-again c =
@@ -155,27 +119,27 @@ put-section-spec =
     (tie.spec
     Inv-loop
     μ-loop
-    count-line-requires
-    put-line-requires
+    (λ c κs. search needs)
+    (λ c κs. search needs)
     loop-holds
     cast-k
-    enum-told
-    building-line-requires
-    enum-told-2
+    (λ c. search needs)
+    (λ c κs. search needs)
+    (λ c. search needs)
     mul-w
     element-copy-out-w
-    wind-line-requires
-    enum-told-3
+    (λ c κs. search needs)
+    (λ c. search needs)
     mul-z
     element-copy-out-z
-    internal-line-requires
-    enum-told-4
+    (λ c κs. search needs)
+    (λ c. search needs)
     mul-f
     element-copy-out-f
-    face-line-requires
-    put-line-requires-2
+    (λ c κs. search needs)
+    (λ c κs. search needs)
     add-i
-    loop-less
+    (λ c. search needs)
     loop-again
     same-length
     returns)

@@ -14,9 +14,6 @@ use borrow.Author.Needs.{needs}
 use Rattle.written.proofs.put_sheet.Statement.{statement}
 use Rattle.written.proofs.put_sheet.Tie as tie
 
-put-section-requires : tie.Need-put-section-requires
-put-section-requires c κs = search needs
-
 put-section-requires-2 : tie.Need-put-section-requires-2
 put-section-requires-2 c κs =
     let s = c .before .before .before .before .before .before in
@@ -34,9 +31,6 @@ put-section-requires-4 c κs =
     let s = c .before .before .before .before .before .before .before .before .before .before .before .before .before .before in
     let q = faces-counted (s .args .j) in
     (sym q, omega (arith, s .pre .faces, length-map (carried (s .args .j) .faces) faceFields))
-
-same-length : tie.Need-same-length
-same-length c = search needs
 
 returns : tie.Need-returns
 unfolding sheetText linesOf
@@ -56,9 +50,9 @@ pub put-sheet-spec : {M : Type 1} → statement M
 put-sheet-spec =
     tie.close
     (tie.spec
-    put-section-requires
+    (λ c κs. search needs)
     put-section-requires-2
     put-section-requires-3
     put-section-requires-4
-    same-length
+    (λ c. search needs)
     returns)

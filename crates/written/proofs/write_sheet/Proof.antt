@@ -5,17 +5,11 @@ use borrow.Author.Needs.{needs}
 use Rattle.written.proofs.write_sheet.Statement.{statement}
 use Rattle.written.proofs.write_sheet.Tie as tie
 
-judge-requires : tie.Need-judge-requires
-judge-requires c κs = search needs
-
 returns : tie.Need-returns
 returns c =
     let v = c .before .before in
     let s = v .before .before in
     job-refused (s .args .j) (v .judge .result) (v .judge .ensures) (c .if1 .taken) (s .args .buf .now)
-
-slice-aggregate-put-sheet : tie.Need-slice-aggregate-put-sheet
-slice-aggregate-put-sheet c = search needs
 
 put-sheet-requires : tie.Need-put-sheet-requires
 put-sheet-requires c κs =
@@ -23,15 +17,6 @@ put-sheet-requires c κs =
     let v = e .before .before in
     let s = v .before .before in
     job-roomed (s .args .j) (v .judge .result) (v .judge .ensures) (e .if1 .left)
-
-slice-aggregate-emit : tie.Need-slice-aggregate-emit
-slice-aggregate-emit c = search needs
-
-emit-requires : tie.Need-emit-requires
-emit-requires c κs = search needs
-
-same-length : tie.Need-same-length
-same-length c = search needs
 
 returns-2 : tie.Need-returns-2
 returns-2 c =
@@ -46,11 +31,11 @@ pub write-sheet-spec : {M : Type 1} → statement M
 write-sheet-spec =
     tie.close
     (tie.spec
-    judge-requires
+    (λ c κs. search needs)
     returns
-    slice-aggregate-put-sheet
+    (λ c. search needs)
     put-sheet-requires
-    slice-aggregate-emit
-    emit-requires
-    same-length
+    (λ c. search needs)
+    (λ c κs. search needs)
+    (λ c. search needs)
     returns-2)

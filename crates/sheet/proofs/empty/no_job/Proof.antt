@@ -5,18 +5,6 @@ use borrow.Author.Needs.{needs}
 use Rattle.sheet.proofs.empty.no_job.Statement.{statement}
 use Rattle.sheet.proofs.empty.no_job.Tie as tie
 
-no-building-requires : tie.Need-no-building-requires
-no-building-requires c κs = search needs
-
-no-winds-requires : tie.Need-no-winds-requires
-no-winds-requires c κs = search needs
-
-no-internals-requires : tie.Need-no-internals-requires
-no-internals-requires c κs = search needs
-
-no-faces-requires : tie.Need-no-faces-requires
-no-faces-requires c κs = search needs
-
 returns : tie.Need-returns
 returns c =
     let i = c .before in
@@ -27,8 +15,8 @@ pub no-job-spec : {M : Type 1} → statement M
 no-job-spec =
     tie.close
     (tie.spec
-    no-building-requires
-    no-winds-requires
-    no-internals-requires
-    no-faces-requires
+    (λ c κs. search needs)
+    (λ c κs. search needs)
+    (λ c κs. search needs)
+    (λ c κs. search needs)
     returns)

@@ -8,17 +8,11 @@ use borrow.Author.Needs.{needs}
 use Rattle.sheet.proofs.read.at_end.Statement.{statement}
 use Rattle.sheet.proofs.read.at_end.Tie as tie
 
-refused-requires : tie.Need-refused-requires
-refused-requires c κs = search needs
-
 returns : tie.Need-returns
 returns c d e =
     let t = c .before in
     let a = t .before .before .before .args in
     c .refused .ensures ∙ ap answer (sym (onward-refused (a .at) d [] (a .s .now) (t .if1 .taken)))
-
-refused-requires-2 : tie.Need-refused-requires-2
-refused-requires-2 c κs = search needs
 
 returns-2 : tie.Need-returns-2
 returns-2 c d e =
@@ -34,4 +28,4 @@ returns-3 c d e =
     ap (λ (j : Job). record { number = 0; line = 0; job = j }) e ∙ ap answer (sym (onward-over d (a .at) (a .s .now) (n .if1 .left) (c .if2 .left)))
 
 pub at-end-spec : {M : Type 1} → statement M
-at-end-spec = tie.close (tie.spec refused-requires returns refused-requires-2 returns-2 returns-3)
+at-end-spec = tie.close (tie.spec (λ c κs. search needs) returns (λ c κs. search needs) returns-2 returns-3)

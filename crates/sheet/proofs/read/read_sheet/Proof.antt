@@ -13,21 +13,6 @@ use borrow.Author.Needs.{needs}
 use Rattle.sheet.proofs.read.read_sheet.Statement.{statement}
 use Rattle.sheet.proofs.read.read_sheet.Tie as tie
 
-read-building-requires : tie.Need-read-building-requires
-read-building-requires c κs = search needs
-
-read-winds-requires : tie.Need-read-winds-requires
-read-winds-requires c κs = search needs
-
-read-internals-requires : tie.Need-read-internals-requires
-read-internals-requires c κs = search needs
-
-read-faces-requires : tie.Need-read-faces-requires
-read-faces-requires c κs = search needs
-
-at-end-requires : tie.Need-at-end-requires
-at-end-requires c κs = search needs
-
 returns : tie.Need-returns
 returns c =
     let f = c .before .before in
@@ -51,9 +36,9 @@ pub read-sheet-spec : {M : Type 1} → statement M
 read-sheet-spec =
     tie.close
     (tie.spec
-    read-building-requires
-    read-winds-requires
-    read-internals-requires
-    read-faces-requires
-    at-end-requires
+    (λ c κs. search needs)
+    (λ c κs. search needs)
+    (λ c κs. search needs)
+    (λ c κs. search needs)
+    (λ c κs. search needs)
     returns)

@@ -8,11 +8,8 @@ use Rattle.sheet.proofs.sections.after_line.Tie as tie
 returns : tie.Need-returns
 returns c = (rw (ne-eqb _ _ (c .if1 .taken)), omega arith)
 
-add-t6 : tie.Need-add-t6
-add-t6 c = search needs
-
 returns-2 : tie.Need-returns-2
 returns-2 c = (rw (eq-eqb _ _ (c .before .if1 .left)), omega arith)
 
 pub after-line-spec : {M : Type 1} → statement M
-after-line-spec = tie.close (tie.spec returns add-t6 returns-2)
+after-line-spec = tie.close (tie.spec returns (λ c. search needs) returns-2)

@@ -13,30 +13,12 @@ use borrow.Author.Needs.{needs}
 use Rattle.sheet.proofs.sections.read_building.Statement.{statement}
 use Rattle.sheet.proofs.sections.read_building.Tie as tie
 
-no-building-requires : tie.Need-no-building-requires
-no-building-requires c κs = search needs
-
-read-count-requires : tie.Need-read-count-requires
-read-count-requires c κs = search needs
-
 returns : tie.Need-returns
 returns c =
     let r = c .before .before in
     let n = r .before .no-building in
     let w = r .read-count .ensures in
     (record { line = omega (arith, w .line); left = c .if1 .taken }, λ ks. rw (n .ensures) (within-end w (c .if1 .taken) nothing ks (sym (n .ensures))))
-
-line-at-requires : tie.Need-line-at-requires
-line-at-requires c κs = search needs
-
-line-fault-requires : tie.Need-line-fault-requires
-line-fault-requires c κs = search needs
-
-after-line-requires : tie.Need-after-line-requires
-after-line-requires c κs = search needs
-
-building-of-requires : tie.Need-building-of-requires
-building-of-requires c κs = search needs
 
 returns-2 : tie.Need-returns-2
 returns-2 c =
@@ -62,11 +44,11 @@ pub read-building-spec : {M : Type 1} → statement M
 read-building-spec =
     tie.close
     (tie.spec
-    no-building-requires
-    read-count-requires
+    (λ c κs. search needs)
+    (λ c κs. search needs)
     returns
-    line-at-requires
-    line-fault-requires
-    after-line-requires
-    building-of-requires
+    (λ c κs. search needs)
+    (λ c κs. search needs)
+    (λ c κs. search needs)
+    (λ c κs. search needs)
     returns-2)

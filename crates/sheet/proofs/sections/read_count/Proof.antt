@@ -13,18 +13,6 @@ returns c =
     let b = c .before .before .before in
     count-passed (b .args .sec) (b .args .g) (b .args .s .now) (b .args .from) (b .pre) (c .if1 .taken)
 
-line-at-requires : tie.Need-line-at-requires
-line-at-requires c κs = search needs
-
-line-fault-requires : tie.Need-line-fault-requires
-line-fault-requires c κs = search needs
-
-field-at-requires : tie.Need-field-at-requires
-field-at-requires c κs = search needs
-
-size-of-requires : tie.Need-size-of-requires
-size-of-requires c κs = search needs
-
 after-line-requires : tie.Need-after-line-requires
 after-line-requires c κs =
     let b = c .before .before .before .before .before .before .before in
@@ -46,9 +34,9 @@ read-count-spec =
     tie.close
     (tie.spec
     returns
-    line-at-requires
-    line-fault-requires
-    field-at-requires
-    size-of-requires
+    (λ c κs. search needs)
+    (λ c κs. search needs)
+    (λ c κs. search needs)
+    (λ c κs. search needs)
     after-line-requires
     returns-2)

@@ -13,44 +13,8 @@ Inv-loop s g faces₀ at₀ faces at = SectionRead F noFace withFaces g s (fromE
 abbrev μ-loop : tie.MeasureT-loop
 μ-loop s g faces₀ at₀ faces at = at .left
 
-no-faces-requires : tie.Need-no-faces-requires Inv-loop μ-loop
-no-faces-requires c κs = search needs
-
-read-count-requires : tie.Need-read-count-requires Inv-loop μ-loop
-read-count-requires c κs = search needs
-
 loop-holds : tie.Need-loop-holds Inv-loop μ-loop
 loop-holds c = section-start faces-carried (c .before .no-faces .ensures) (c .read-count .ensures)
-
-line-at-requires : tie.Need-line-at-requires Inv-loop μ-loop
-line-at-requires c κs = search needs
-
-line-fault-requires : tie.Need-line-fault-requires Inv-loop μ-loop
-line-fault-requires c κs = search needs
-
-sub-after-line : tie.Need-sub-after-line Inv-loop μ-loop
-sub-after-line c = search needs
-
-after-line-requires : tie.Need-after-line-requires Inv-loop μ-loop
-after-line-requires c κs = search needs
-
-cast-i : tie.Need-cast-i Inv-loop μ-loop
-cast-i c = search needs
-
-face-of-requires : tie.Need-face-of-requires Inv-loop μ-loop
-face-of-requires c κs = search needs
-
-mul-t16 : tie.Need-mul-t16 Inv-loop μ-loop
-mul-t16 c = search needs
-
-element-set-from-faces : tie.Need-element-set-from-faces Inv-loop μ-loop
-element-set-from-faces c = search needs
-
-add-faces : tie.Need-add-faces Inv-loop μ-loop
-add-faces c = search needs
-
-loop-less : tie.Need-loop-less Inv-loop μ-loop
-loop-less c = search needs
 
 loop-again : tie.Need-loop-again Inv-loop μ-loop
 loop-again c =
@@ -72,18 +36,18 @@ read-faces-spec =
     (tie.spec
     Inv-loop
     μ-loop
-    no-faces-requires
-    read-count-requires
+    (λ c κs. search needs)
+    (λ c κs. search needs)
     loop-holds
-    line-at-requires
-    line-fault-requires
-    sub-after-line
-    after-line-requires
-    cast-i
-    face-of-requires
-    mul-t16
-    element-set-from-faces
-    add-faces
-    loop-less
+    (λ c κs. search needs)
+    (λ c κs. search needs)
+    (λ c. search needs)
+    (λ c κs. search needs)
+    (λ c. search needs)
+    (λ c κs. search needs)
+    (λ c. search needs)
+    (λ c. search needs)
+    (λ c. search needs)
+    (λ c. search needs)
     loop-again
     returns)

@@ -16,44 +16,8 @@ Inv-loop s g internals₀ at₀ internals at = SectionRead I (pos 0) withInterna
 abbrev μ-loop : tie.MeasureT-loop
 μ-loop s g internals₀ at₀ internals at = at .left
 
-no-internals-requires : tie.Need-no-internals-requires Inv-loop μ-loop
-no-internals-requires c κs = search needs
-
-read-count-requires : tie.Need-read-count-requires Inv-loop μ-loop
-read-count-requires c κs = search needs
-
 loop-holds : tie.Need-loop-holds Inv-loop μ-loop
 loop-holds c = section-start internals-carried (c .before .no-internals .ensures) (c .read-count .ensures)
-
-line-at-requires : tie.Need-line-at-requires Inv-loop μ-loop
-line-at-requires c κs = search needs
-
-line-fault-requires : tie.Need-line-fault-requires Inv-loop μ-loop
-line-fault-requires c κs = search needs
-
-sub-after-line : tie.Need-sub-after-line Inv-loop μ-loop
-sub-after-line c = search needs
-
-after-line-requires : tie.Need-after-line-requires Inv-loop μ-loop
-after-line-requires c κs = search needs
-
-cast-i : tie.Need-cast-i Inv-loop μ-loop
-cast-i c = search needs
-
-internal-of-requires : tie.Need-internal-of-requires Inv-loop μ-loop
-internal-of-requires c κs = search needs
-
-mul-t16 : tie.Need-mul-t16 Inv-loop μ-loop
-mul-t16 c = search needs
-
-element-set-from-internals : tie.Need-element-set-from-internals Inv-loop μ-loop
-element-set-from-internals c = search needs
-
-add-internals : tie.Need-add-internals Inv-loop μ-loop
-add-internals c = search needs
-
-loop-less : tie.Need-loop-less Inv-loop μ-loop
-loop-less c = search needs
 
 loop-again : tie.Need-loop-again Inv-loop μ-loop
 loop-again c =
@@ -75,18 +39,18 @@ read-internals-spec =
     (tie.spec
     Inv-loop
     μ-loop
-    no-internals-requires
-    read-count-requires
+    (λ c κs. search needs)
+    (λ c κs. search needs)
     loop-holds
-    line-at-requires
-    line-fault-requires
-    sub-after-line
-    after-line-requires
-    cast-i
-    internal-of-requires
-    mul-t16
-    element-set-from-internals
-    add-internals
-    loop-less
+    (λ c κs. search needs)
+    (λ c κs. search needs)
+    (λ c. search needs)
+    (λ c κs. search needs)
+    (λ c. search needs)
+    (λ c κs. search needs)
+    (λ c. search needs)
+    (λ c. search needs)
+    (λ c. search needs)
+    (λ c. search needs)
     loop-again
     returns)

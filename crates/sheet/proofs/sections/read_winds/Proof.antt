@@ -13,44 +13,8 @@ Inv-loop s g winds₀ at₀ winds at = SectionRead W noWind withWinds g s (fromE
 abbrev μ-loop : tie.MeasureT-loop
 μ-loop s g winds₀ at₀ winds at = at .left
 
-no-winds-requires : tie.Need-no-winds-requires Inv-loop μ-loop
-no-winds-requires c κs = search needs
-
-read-count-requires : tie.Need-read-count-requires Inv-loop μ-loop
-read-count-requires c κs = search needs
-
 loop-holds : tie.Need-loop-holds Inv-loop μ-loop
 loop-holds c = section-start winds-carried (c .before .no-winds .ensures) (c .read-count .ensures)
-
-line-at-requires : tie.Need-line-at-requires Inv-loop μ-loop
-line-at-requires c κs = search needs
-
-line-fault-requires : tie.Need-line-fault-requires Inv-loop μ-loop
-line-fault-requires c κs = search needs
-
-sub-after-line : tie.Need-sub-after-line Inv-loop μ-loop
-sub-after-line c = search needs
-
-after-line-requires : tie.Need-after-line-requires Inv-loop μ-loop
-after-line-requires c κs = search needs
-
-cast-i : tie.Need-cast-i Inv-loop μ-loop
-cast-i c = search needs
-
-wind-of-requires : tie.Need-wind-of-requires Inv-loop μ-loop
-wind-of-requires c κs = search needs
-
-mul-t16 : tie.Need-mul-t16 Inv-loop μ-loop
-mul-t16 c = search needs
-
-element-set-from-winds : tie.Need-element-set-from-winds Inv-loop μ-loop
-element-set-from-winds c = search needs
-
-add-winds : tie.Need-add-winds Inv-loop μ-loop
-add-winds c = search needs
-
-loop-less : tie.Need-loop-less Inv-loop μ-loop
-loop-less c = search needs
 
 loop-again : tie.Need-loop-again Inv-loop μ-loop
 loop-again c =
@@ -72,18 +36,18 @@ read-winds-spec =
     (tie.spec
     Inv-loop
     μ-loop
-    no-winds-requires
-    read-count-requires
+    (λ c κs. search needs)
+    (λ c κs. search needs)
     loop-holds
-    line-at-requires
-    line-fault-requires
-    sub-after-line
-    after-line-requires
-    cast-i
-    wind-of-requires
-    mul-t16
-    element-set-from-winds
-    add-winds
-    loop-less
+    (λ c κs. search needs)
+    (λ c κs. search needs)
+    (λ c. search needs)
+    (λ c κs. search needs)
+    (λ c. search needs)
+    (λ c κs. search needs)
+    (λ c. search needs)
+    (λ c. search needs)
+    (λ c. search needs)
+    (λ c. search needs)
     loop-again
     returns)

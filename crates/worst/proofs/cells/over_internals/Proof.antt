@@ -30,20 +30,8 @@ pressed a = toZ-ofZ w64 (a .args .pressure) (a .fits .pressure)
 plain : (is : Internals) (i : ℕ) → natAbs (getD (is .entry) i (pos 0)) ≤ 100 → toZ w64 (ofZ w64 (getD (is .entry) i (pos 0))) ≡ getD (is .entry) i (pos 0)
 plain is i h = back w64 (num≤ (getD (is .entry) i (pos 0)) h) tt .same
 
-cast-count : tie.Need-cast-count Inv-loop μ-loop
-cast-count c = search needs
-
 loop-holds : tie.Need-loop-holds Inv-loop μ-loop
 loop-holds c = (search needs, run-start _ _ _)
-
-mul-internal : tie.Need-mul-internal Inv-loop μ-loop
-mul-internal c = search needs
-
-element-copy-out-internal : tie.Need-element-copy-out-internal Inv-loop μ-loop
-element-copy-out-internal c = search needs
-
-add-i : tie.Need-add-i Inv-loop μ-loop
-add-i c = search needs
 
 with-cell-requires : tie.Need-with-cell-requires Inv-loop μ-loop
 with-cell-requires c κs =
@@ -51,9 +39,6 @@ with-cell-requires c κs =
     let some = a .pre .3 in
     let low = a .pre .2 .1 (c .before .before .loop .i) (c .before .loop-test .taken) in
     (a .pre .0, rw (pressed a) (a .pre .1), rw (plain (a .args .t4) (c .before .before .loop .i) low) low, omega arith)
-
-loop-less : tie.Need-loop-less Inv-loop μ-loop
-loop-less c = search needs
 
 loop-again : tie.Need-loop-again Inv-loop μ-loop
 loop-again c =
@@ -74,4 +59,17 @@ returns c =
     ∙ ap (λ (p : ℤ). better s (topOf (endOf s (a .args .ends))) (cellsBest s (a .args .span) p (a .args .t4) (a .args .wind))) (pressed a)
 
 pub over-internals-spec : {M : Type 1} → statement M
-over-internals-spec = tie.close (tie.spec Inv-loop μ-loop cast-count loop-holds mul-internal element-copy-out-internal add-i with-cell-requires loop-less loop-again returns)
+over-internals-spec =
+    tie.close
+    (tie.spec
+    Inv-loop
+    μ-loop
+    (λ c. search needs)
+    loop-holds
+    (λ c. search needs)
+    (λ c. search needs)
+    (λ c. search needs)
+    with-cell-requires
+    (λ c. search needs)
+    loop-again
+    returns)

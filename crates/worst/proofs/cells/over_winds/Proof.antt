@@ -24,17 +24,8 @@ Inv-loop zero ninety b winds internals count best₀ w₀ best w =
 abbrev μ-loop : tie.MeasureT-loop
 μ-loop zero ninety b winds internals count best₀ w₀ best w = count - w
 
-cast-count : tie.Need-cast-count Inv-loop μ-loop
-cast-count c = search needs
-
 loop-holds : tie.Need-loop-holds Inv-loop μ-loop
 loop-holds c = (search needs, run-start _ _ _)
-
-mul-wind : tie.Need-mul-wind Inv-loop μ-loop
-mul-wind c = search needs
-
-element-copy-out-wind : tie.Need-element-copy-out-wind Inv-loop μ-loop
-element-copy-out-wind c = search needs
 
 abbrev start : tie.After-wind Inv-loop μ-loop → tie.Start Inv-loop μ-loop
 start c = c .before .before .before .before .before .before
@@ -58,12 +49,6 @@ force c =
     told (c .pressure-of .result) (pressure (a .args .job .building .density) (blowing (c .before))) (c .pressure-of .ensures)
     (pressure-small (a .args .job .building .density) (blowing (c .before)) (a .pre .0 .density) (slow (c .before))) tt
 
-sums-under-requires : tie.Need-sums-under-requires Inv-loop μ-loop
-sums-under-requires c κs = search needs
-
-add-w : tie.Need-add-w Inv-loop μ-loop
-add-w c = search needs
-
 over-internals-requires : tie.Need-over-internals-requires Inv-loop μ-loop
 over-internals-requires c κs =
     let a = start (c .before .before) in (
@@ -72,9 +57,6 @@ over-internals-requires c κs =
       a .pre .0 .internals,
       omega arith,
     )
-
-loop-less : tie.Need-loop-less Inv-loop μ-loop
-loop-less c = search needs
 
 loop-again : tie.Need-loop-again Inv-loop μ-loop
 loop-again c =
@@ -104,14 +86,14 @@ over-winds-spec =
     (tie.spec
     Inv-loop
     μ-loop
-    cast-count
+    (λ c. search needs)
     loop-holds
-    mul-wind
-    element-copy-out-wind
+    (λ c. search needs)
+    (λ c. search needs)
     pressure-of-requires
-    sums-under-requires
-    add-w
+    (λ c κs. search needs)
+    (λ c. search needs)
     over-internals-requires
-    loop-less
+    (λ c. search needs)
     loop-again
     returns)

@@ -43,12 +43,6 @@ sub-low c = let a = c .before .before .before .before .before .before in fit {w 
 mul-low : tie.Need-mul-low
 mul-low c = let a = c .before .before .before .before .before .before in fit {w = w64} (total a (a .args .span .least) (a .pre .0 .least)) tt
 
-kept-requires : tie.Need-kept-requires
-kept-requires c κs = search needs
-
-kept-requires-2 : tie.Need-kept-requires-2
-kept-requires-2 c κs = search needs
-
 returns : tie.Need-returns
 returns c =
     let k = c .before in
@@ -59,4 +53,15 @@ returns c =
     (c .kept2 .ensures ∙ ap (λ (x : ℤ). better Least (topOf (a .args .ends .least)) (at x t)) (back w64 (total a (a .args .span .least) (a .pre .0 .least)) tt .same))
 
 pub with-cell-spec : {M : Type 1} → statement M
-with-cell-spec = tie.close (tie.spec mul-inside mul-inside-2 sub-high mul-high sub-low mul-low kept-requires kept-requires-2 returns)
+with-cell-spec =
+    tie.close
+    (tie.spec
+    mul-inside
+    mul-inside-2
+    sub-high
+    mul-high
+    sub-low
+    mul-low
+    (λ c κs. search needs)
+    (λ c κs. search needs)
+    returns)

@@ -8,27 +8,6 @@ use Rattle.worst.specs.Engine.{alternativesOf}
 use Rattle.worst.proofs.engine.extreme.Statement.{statement}
 use Rattle.worst.proofs.engine.extreme.Tie as tie
 
-sub-k : tie.Need-sub-k
-sub-k c = search needs
-
-mul-w : tie.Need-mul-w
-mul-w c = search needs
-
-element-copy-out-w : tie.Need-element-copy-out-w
-element-copy-out-w c = search needs
-
-sums-under-requires : tie.Need-sums-under-requires
-sums-under-requires c κs = search needs
-
-alternatives-requires : tie.Need-alternatives-requires
-alternatives-requires c κs = search needs
-
-cast-t15 : tie.Need-cast-t15
-cast-t15 c = search needs
-
-cast-t16 : tie.Need-cast-t16
-cast-t16 c = search needs
-
 returns : tie.Need-returns
 returns c =
     let d = c .before .before .before in
@@ -43,4 +22,14 @@ returns c =
     }
 
 pub extreme-spec : {M : Type 1} → statement M
-extreme-spec = tie.close (tie.spec sub-k mul-w element-copy-out-w sums-under-requires alternatives-requires cast-t15 cast-t16 returns)
+extreme-spec =
+    tie.close
+    (tie.spec
+    (λ c. search needs)
+    (λ c. search needs)
+    (λ c. search needs)
+    (λ c κs. search needs)
+    (λ c κs. search needs)
+    (λ c. search needs)
+    (λ c. search needs)
+    returns)

@@ -8,9 +8,6 @@ use Rattle.worst.proofs.Found.{IsTop, is-top}
 use Rattle.worst.proofs.engine.extremes.Statement.{statement}
 use Rattle.worst.proofs.engine.extremes.Tie as tie
 
-over-winds-requires : tie.Need-over-winds-requires
-over-winds-requires c κs = search needs
-
 top : (c : tie.After-over-winds) (s : Side) → IsTop s (c .before .args .job) (c .before .args .zero) (c .before .args .ninety) (c .before .pre .0) (endOf s (c .over-winds .result))
 top c s =
     let a = c .before in
@@ -32,5 +29,4 @@ returns c =
     }
 
 pub extremes-spec : {M : Type 1} → statement M
-extremes-spec =
-    tie.close (tie.spec over-winds-requires extreme-requires extreme-requires-2 returns)
+extremes-spec = tie.close (tie.spec (λ c κs. search needs) extreme-requires extreme-requires-2 returns)

@@ -18,29 +18,11 @@ Inv-loop job direction winds count i₀ i =
 abbrev μ-loop : tie.MeasureT-loop
 μ-loop job direction winds count i₀ i = count - i
 
-cast-count : tie.Need-cast-count Inv-loop μ-loop
-cast-count c = search needs
-
 loop-holds : tie.Need-loop-holds Inv-loop μ-loop
 loop-holds c = (search needs, λ k l e. absurd (omega arith))
 
-mul-w : tie.Need-mul-w Inv-loop μ-loop
-mul-w c = search needs
-
-element-copy-out-w : tie.Need-element-copy-out-w Inv-loop μ-loop
-element-copy-out-w c = search needs
-
-cast-result : tie.Need-cast-result Inv-loop μ-loop
-cast-result c = search needs
-
 returns : tie.Need-returns Inv-loop μ-loop
 returns c = record { most = omega arith; all = λ k l e. refl }
-
-add-i : tie.Need-add-i Inv-loop μ-loop
-add-i c = search needs
-
-loop-less : tie.Need-loop-less Inv-loop μ-loop
-loop-less c = search needs
 
 loop-again : tie.Need-loop-again Inv-loop μ-loop
 loop-again c =
@@ -58,4 +40,18 @@ returns-2 c =
     record { most = omega arith; all = λ k h e. absurd (l .inv .1 k (omega arith) e) }
 
 pub faces-met-spec : {M : Type 1} → statement M
-faces-met-spec = tie.close (tie.spec Inv-loop μ-loop cast-count loop-holds mul-w element-copy-out-w cast-result returns add-i loop-less loop-again returns-2)
+faces-met-spec =
+    tie.close
+    (tie.spec
+    Inv-loop
+    μ-loop
+    (λ c. search needs)
+    loop-holds
+    (λ c. search needs)
+    (λ c. search needs)
+    (λ c. search needs)
+    returns
+    (λ c. search needs)
+    (λ c. search needs)
+    loop-again
+    returns-2)

@@ -28,15 +28,6 @@ loop-holds : tie.Need-loop-holds Inv-loop μ-loop
 unfolding sum padded
 loop-holds c = (search needs, refl)
 
-mul-f : tie.Need-mul-f Inv-loop μ-loop
-mul-f c = search needs
-
-element-copy-out-f : tie.Need-element-copy-out-f Inv-loop μ-loop
-element-copy-out-f c = search needs
-
-surface-on-requires : tie.Need-surface-on-requires Inv-loop μ-loop
-surface-on-requires c κs = search needs
-
 with-surface-requires : tie.Need-with-surface-requires Inv-loop μ-loop
 with-surface-requires c κs =
     let a = c .before .before .before .before in
@@ -46,12 +37,6 @@ with-surface-requires c κs =
       subst (AxesSmall 23) (sym (l .inv .1)) (axes-small (surfaceOn (a .args .b) (a .args .direction)) (a .args .t2 .entry) noFace (l .i) (λ k h. a .pre .1 k (omega arith)) 23 (omega (arith, a .pre .0))),
       subst Small (sym (c .surface-on .ensures)) (a .pre .1 (l .i) t),
     )
-
-add-i : tie.Need-add-i Inv-loop μ-loop
-add-i c = search needs
-
-loop-less : tie.Need-loop-less Inv-loop μ-loop
-loop-less c = search needs
 
 loop-again : tie.Need-loop-again Inv-loop μ-loop
 loop-again c =
@@ -72,4 +57,17 @@ returns c =
     l .inv .1 ∙ ap (λ k. axesOf (map (surfaceOn (a .args .b) (a .args .direction)) (take k (a .args .t2 .entry)))) e
 
 pub added-spec : {M : Type 1} → statement M
-added-spec = tie.close (tie.spec Inv-loop μ-loop loop-holds mul-f element-copy-out-f surface-on-requires with-surface-requires add-i loop-less loop-again returns)
+added-spec =
+    tie.close
+    (tie.spec
+    Inv-loop
+    μ-loop
+    loop-holds
+    (λ c. search needs)
+    (λ c. search needs)
+    (λ c κs. search needs)
+    with-surface-requires
+    (λ c. search needs)
+    (λ c. search needs)
+    loop-again
+    returns)

@@ -7,9 +7,6 @@ use Rattle.worst.proofs.Kept.{short-read}
 use Rattle.worst.proofs.sums.alternative.Statement.{statement}
 use Rattle.worst.proofs.sums.alternative.Tie as tie
 
-falls-short-requires : tie.Need-falls-short-requires
-falls-short-requires c κs = search needs
-
 tested : (c : tie.After-falls-short) → c .falls-short .result ≡ short (c .before .args .side) (c .before .args .first) (c .before .args .second)
 tested c = c .falls-short .ensures ∙ short-read (c .before .args .side) (c .before .fits .first) (c .before .fits .second)
 
@@ -22,4 +19,4 @@ unfolding which
 returns-2 c = rw (sym (tested (c .before)) ∙ c .if1 .left)
 
 pub alternative-spec : {M : Type 1} → statement M
-alternative-spec = tie.close (tie.spec falls-short-requires returns returns-2)
+alternative-spec = tie.close (tie.spec (λ c κs. search needs) returns returns-2)

@@ -6,15 +6,6 @@ use borrow.Author.Needs.{needs}
 use Rattle.worst.proofs.sums.area.Statement.{statement}
 use Rattle.worst.proofs.sums.area.Tie as tie
 
-enum-told : tie.Need-enum-told
-enum-told c = search needs
-
-enum-told-2 : tie.Need-enum-told-2
-enum-told-2 c = search needs
-
-enum-told-3 : tie.Need-enum-told-3
-enum-told-3 c = search needs
-
 returns : tie.Need-returns
 returns c =
     let a = c .before .before .before in
@@ -34,4 +25,4 @@ returns-3 c =
     simp (toZ-ofZ w64 (a .args .f .z) f, c .before .enum-told3 .given .1)
 
 pub area-spec : {M : Type 1} → statement M
-area-spec = tie.close (tie.spec enum-told enum-told-2 enum-told-3 returns returns-2 returns-3)
+area-spec = tie.close (tie.spec (λ c. search needs) (λ c. search needs) (λ c. search needs) returns returns-2 returns-3)

@@ -9,9 +9,6 @@ use Rattle.worst.proofs.Kept.{short-read}
 use Rattle.worst.proofs.sums.the_further.Statement.{statement}
 use Rattle.worst.proofs.sums.the_further.Tie as tie
 
-falls-short-requires : tie.Need-falls-short-requires
-falls-short-requires c κs = search needs
-
 tested : (c : tie.After-falls-short) → c .falls-short .result ≡ short (c .before .args .side) (c .before .args .first) (c .before .args .second)
 tested c = c .falls-short .ensures ∙ short-read (c .before .args .side) (c .before .fits .first) (c .before .fits .second)
 
@@ -28,4 +25,4 @@ returns-2 c =
     rw (sym (tested (c .before)) ∙ c .if1 .left) (toZ-ofZ w64 (a .args .first) (a .fits .first))
 
 pub the-further-spec : {M : Type 1} → statement M
-the-further-spec = tie.close (tie.spec falls-short-requires returns returns-2)
+the-further-spec = tie.close (tie.spec (λ c κs. search needs) returns returns-2)

@@ -14,9 +14,6 @@ use Rattle.worst.proofs.Added.{area-small, reach-small}
 use Rattle.worst.proofs.sums.with_face.Statement.{statement}
 use Rattle.worst.proofs.sums.with_face.Tie as tie
 
-area-requires : tie.Need-area-requires
-area-requires c κs = search needs
-
 module _ (d : tie.After-area) where
   abbrev a : tie.Start
   a = d .before
@@ -52,9 +49,6 @@ mul-first c = fit {w = w64} (first (c .before .before)) tt
 mul-second : tie.Need-mul-second
 mul-second c = fit {w = w64} (second (c .before .before .before .before)) tt
 
-the-further-requires : tie.Need-the-further-requires
-the-further-requires c κs = search needs
-
 abbrev greatest : tie.After-the-further → Num
 greatest c =
     let d = c .before .before .before .before .before in
@@ -62,9 +56,6 @@ greatest c =
 
 add-t13 : tie.Need-add-t13
 add-t13 c = fit {w = w64} (greatest (c .before .before)) tt
-
-the-further-requires-2 : tie.Need-the-further-requires-2
-the-further-requires-2 c κs = search needs
 
 abbrev least : tie.After-the-further2 → Num
 least c =
@@ -79,9 +70,6 @@ add-t17 c =
     let d = c .before .before .before .before .before .before .before .before .before .before .before .before in
     fit {w = w64} (wider d) tt
 
-alternative-requires : tie.Need-alternative-requires
-alternative-requires c κs = search needs
-
 -- the calls before the alternatives
 abbrev lowered : tie.After-alternative → tie.After-the-further2
 lowered c = c .before .before .before .before .before .before
@@ -94,9 +82,6 @@ met c = raised c .before .before .before .before .before
 
 array-write-high : tie.Need-array-write-high
 array-write-high c = a (met c) .pre .0
-
-alternative-requires-2 : tie.Need-alternative-requires-2
-alternative-requires-2 c κs = search needs
 
 array-write-low : tie.Need-array-write-low
 array-write-low c = a (met (c .before .before)) .pre .0
@@ -112,4 +97,19 @@ returns c =
     }
 
 pub with-face-spec : {M : Type 1} → statement M
-with-face-spec = tie.close (tie.spec area-requires mul-first mul-second the-further-requires add-t13 the-further-requires-2 add-t16 add-t17 alternative-requires array-write-high alternative-requires-2 array-write-low returns)
+with-face-spec =
+    tie.close
+    (tie.spec
+    (λ c κs. search needs)
+    mul-first
+    mul-second
+    (λ c κs. search needs)
+    add-t13
+    (λ c κs. search needs)
+    add-t16
+    add-t17
+    (λ c κs. search needs)
+    array-write-high
+    (λ c κs. search needs)
+    array-write-low
+    returns)

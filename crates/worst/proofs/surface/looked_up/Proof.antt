@@ -12,35 +12,11 @@ use borrow.Author.Needs.{needs}
 use Rattle.worst.proofs.surface.looked_up.Statement.{statement}
 use Rattle.worst.proofs.surface.looked_up.Tie as tie
 
-cast-outside : tie.Need-cast-outside
-cast-outside c = search needs
-
-outside-requires : tie.Need-outside-requires
-outside-requires c κs = search needs
-
 -- the question that was asked
 asked : (c : tie.After-outside) → outsideOf (c .before .args .b) (pos (c .before .args .direction)) (c .before .args .f .zone) ≡ c .outside .result
 asked c =
     let a = c .before in
     sym (c .outside .ensures ∙ ap (λ (z : ℤ). outsideOf (a .args .b) z (a .args .f .zone)) (toZ-pos w64 (a .args .direction) (omega (arith, a .fits .direction))))
-
-enum-known-answer : tie.Need-enum-known-answer
-enum-known-answer c = search needs
-
-with-outside-requires : tie.Need-with-outside-requires
-with-outside-requires c κs = search needs
-
-enum-known-answer-2 : tie.Need-enum-known-answer-2
-enum-known-answer-2 c = search needs
-
-with-outside-requires-2 : tie.Need-with-outside-requires-2
-with-outside-requires-2 c κs = search needs
-
-enum-told : tie.Need-enum-told
-enum-told c = search needs
-
-with-outside-requires-3 : tie.Need-with-outside-requires-3
-with-outside-requires-3 c κs = search needs
 
 returns : tie.Need-returns
 returns c =
@@ -72,4 +48,17 @@ returns-3 c =
     ∙ surface-none (a .args .b) (a .args .direction) (a .args .f) (a .pre) _ _ (asked o ∙ c .before .enum-told .given .1)
 
 pub looked-up-spec : {M : Type 1} → statement M
-looked-up-spec = tie.close (tie.spec cast-outside outside-requires enum-known-answer with-outside-requires enum-known-answer-2 with-outside-requires-2 enum-told with-outside-requires-3 returns returns-2 returns-3)
+looked-up-spec =
+    tie.close
+    (tie.spec
+    (λ c. search needs)
+    (λ c κs. search needs)
+    (λ c. search needs)
+    (λ c κs. search needs)
+    (λ c. search needs)
+    (λ c κs. search needs)
+    (λ c. search needs)
+    (λ c κs. search needs)
+    returns
+    returns-2
+    returns-3)

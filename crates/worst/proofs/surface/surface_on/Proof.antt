@@ -5,9 +5,6 @@ use Rattle.worst.proofs.Surfaces.{surface-aside}
 use Rattle.worst.proofs.surface.surface_on.Statement.{statement}
 use Rattle.worst.proofs.surface.surface_on.Tie as tie
 
-takes-part-requires : tie.Need-takes-part-requires
-takes-part-requires c κs = search needs
-
 looked-up-requires : tie.Need-looked-up-requires
 looked-up-requires c κs = sym (c .before .takes-part .ensures) ∙ c .if1 .taken
 
@@ -20,4 +17,4 @@ returns-2 c =
     surface-aside (a .args .b) (a .args .direction) (a .args .f) (sym (c .before .takes-part .ensures) ∙ c .if1 .left)
 
 pub surface-on-spec : {M : Type 1} → statement M
-surface-on-spec = tie.close (tie.spec takes-part-requires looked-up-requires returns returns-2)
+surface-on-spec = tie.close (tie.spec (λ c κs. search needs) looked-up-requires returns returns-2)

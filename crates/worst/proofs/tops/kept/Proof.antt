@@ -14,9 +14,6 @@ returns c =
     let a = c .before .before .before in
     kept-first (a .args .side) (a .args .top) (a .args .total) (a .args .wind) (a .args .internal) (a .fits .total) (a .pre) (c .if1 .taken)
 
-falls-short-requires : tie.Need-falls-short-requires
-falls-short-requires c κs = search needs
-
 -- the test is on the two totals
 tested : (c : tie.After-falls-short) → c .falls-short .result ≡ short (c .before .before .before .before .args .side) (c .before .before .before .before .args .top .total) (c .before .before .before .before .args .total)
 tested c =
@@ -37,4 +34,4 @@ returns-3 c =
     (sym (tested (c .before)) ∙ c .if2 .left)
 
 pub kept-spec : {M : Type 1} → statement M
-kept-spec = tie.close (tie.spec returns falls-short-requires returns-2 returns-3)
+kept-spec = tie.close (tie.spec returns (λ c κs. search needs) returns-2 returns-3)
