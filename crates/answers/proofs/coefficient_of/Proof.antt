@@ -8,15 +8,6 @@ use borrow.Author.Needs.{needs}
 use Rattle.answers.proofs.coefficient_of.Statement.{statement}
 use Rattle.answers.proofs.coefficient_of.Tie as tie
 
-enum-known-a : tie.Need-enum-known-a
-enum-known-a c = search needs
-
-enum-known-a-2 : tie.Need-enum-known-a-2
-enum-known-a-2 c = search needs
-
-enum-known-a-3 : tie.Need-enum-known-a-3
-enum-known-a-3 c = search needs
-
 returns : tie.Need-returns
 returns c =
     let a = c .before .a .given in
@@ -33,4 +24,4 @@ returns-3 c = ap coefficientOf (sym (c .before .a3 .given .1))
 
 pub coefficient-of-spec : {M : Type 1} → statement M
 coefficient-of-spec =
-    tie.close (tie.spec enum-known-a enum-known-a-2 enum-known-a-3 returns returns-2 returns-3)
+    tie.close (tie.spec (λ c. search needs) (λ c. search needs) (λ c. search needs) returns returns-2 returns-3)

@@ -23,27 +23,6 @@ unfolding onLine
 no-line s (pos n) a b c d e f = search tests
 no-line s (negsuc n) a b c d e f = refl
 
-extreme-of-requires : tie.Need-extreme-of-requires
-extreme-of-requires c κs = search needs
-
-extreme-of-requires-2 : tie.Need-extreme-of-requires-2
-extreme-of-requires-2 c κs = search needs
-
-extreme-of-requires-3 : tie.Need-extreme-of-requires-3
-extreme-of-requires-3 c κs = search needs
-
-extreme-of-requires-4 : tie.Need-extreme-of-requires-4
-extreme-of-requires-4 c κs = search needs
-
-extreme-of-requires-5 : tie.Need-extreme-of-requires-5
-extreme-of-requires-5 c κs = search needs
-
-extreme-of-requires-6 : tie.Need-extreme-of-requires-6
-extreme-of-requires-6 c κs = search needs
-
-no-extreme-requires : tie.Need-no-extreme-requires
-no-extreme-requires c κs = search needs
-
 returns : tie.Need-returns
 unfolding onLine
 returns c = c .extreme-of .ensures ∙ line (c .before .before) 1 (c .before .match .keys1)
@@ -78,13 +57,13 @@ pub line-of-spec : {M : Type 1} → statement M
 line-of-spec =
     tie.close
     (tie.spec
-    extreme-of-requires
-    extreme-of-requires-2
-    extreme-of-requires-3
-    extreme-of-requires-4
-    extreme-of-requires-5
-    extreme-of-requires-6
-    no-extreme-requires
+    (λ c κs. search needs)
+    (λ c κs. search needs)
+    (λ c κs. search needs)
+    (λ c κs. search needs)
+    (λ c κs. search needs)
+    (λ c κs. search needs)
+    (λ c κs. search needs)
     returns
     returns-2
     returns-3

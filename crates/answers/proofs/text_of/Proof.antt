@@ -5,15 +5,6 @@ use borrow.Author.Needs.{needs}
 use Rattle.answers.proofs.text_of.Statement.{statement}
 use Rattle.answers.proofs.text_of.Tie as tie
 
-enum-known-w : tie.Need-enum-known-w
-enum-known-w c = search needs
-
-enum-known-w-2 : tie.Need-enum-known-w-2
-enum-known-w-2 c = search needs
-
-no-text-requires : tie.Need-no-text-requires
-no-text-requires c κs = search needs
-
 returns : tie.Need-returns
 returns c = ap textOf (sym (c .before .w .given .1))
 
@@ -21,4 +12,4 @@ returns-2 : tie.Need-returns-2
 returns-2 c = c .no-text .ensures ∙ ap textOf (sym (c .before .before .w2 .given .1))
 
 pub text-of-spec : {M : Type 1} → statement M
-text-of-spec = tie.close (tie.spec enum-known-w enum-known-w-2 no-text-requires returns returns-2)
+text-of-spec = tie.close (tie.spec (λ c. search needs) (λ c. search needs) (λ c κs. search needs) returns returns-2)

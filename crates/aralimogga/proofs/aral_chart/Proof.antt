@@ -4,13 +4,10 @@ use borrow.Author.Needs.{needs}
 use Rattle.aralimogga.proofs.aral_chart.Statement.{statement}
 use Rattle.aralimogga.proofs.aral_chart.Tie as tie
 
-chart-requires : tie.Need-chart-requires
-chart-requires c κs = search needs
-
 returns : tie.Need-returns
 returns c =
     let f = c .before .fits in
     rw (param (f .x) .same, param (f .y) .same, param (f .z) .same) at (c .chart .ensures)
 
 pub aral-chart-spec : {M : Type 1} → statement M
-aral-chart-spec = tie.close (tie.spec chart-requires returns)
+aral-chart-spec = tie.close (tie.spec (λ c κs. search needs) returns)

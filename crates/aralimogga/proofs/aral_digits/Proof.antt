@@ -11,15 +11,6 @@ use borrow.Author.Needs.{needs}
 use Rattle.aralimogga.proofs.aral_digits.Statement.{statement}
 use Rattle.aralimogga.proofs.aral_digits.Tie as tie
 
-write-decimal-requires : tie.Need-write-decimal-requires
-write-decimal-requires c κs = search needs
-
-text-of-requires : tie.Need-text-of-requires
-text-of-requires c κs = search needs
-
-same-length : tie.Need-same-length
-same-length c = search needs
-
 returns : tie.Need-returns
 returns c =
     let w = c .before .before .before in
@@ -30,4 +21,4 @@ returns c =
     (c .text-of .ensures ∙ ap textOf (e .0 ∙ ap (λ (t : List ℕ). writing t buf) number), e .1 ∙ ap (λ (t : List ℕ). bufferAfter t buf) number)
 
 pub aral-digits-spec : {M : Type 1} → statement M
-aral-digits-spec = tie.close (tie.spec write-decimal-requires text-of-requires same-length returns)
+aral-digits-spec = tie.close (tie.spec (λ c κs. search needs) (λ c κs. search needs) (λ c. search needs) returns)

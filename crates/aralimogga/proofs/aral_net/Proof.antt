@@ -6,12 +6,6 @@ use borrow.Author.Needs.{needs}
 use Rattle.aralimogga.proofs.aral_net.Statement.{statement}
 use Rattle.aralimogga.proofs.aral_net.Tie as tie
 
-net-requires : tie.Need-net-requires
-net-requires c κs = search needs
-
-coefficient-of-requires : tie.Need-coefficient-of-requires
-coefficient-of-requires c κs = search needs
-
 returns : tie.Need-returns
 returns c =
     let g = c .before in
@@ -22,4 +16,4 @@ returns c =
     c .coefficient-of .ensures ∙ ap coefficientOf e
 
 pub aral-net-spec : {M : Type 1} → statement M
-aral-net-spec = tie.close (tie.spec net-requires coefficient-of-requires returns)
+aral-net-spec = tie.close (tie.spec (λ c κs. search needs) (λ c κs. search needs) returns)

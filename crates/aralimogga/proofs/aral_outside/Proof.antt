@@ -9,12 +9,6 @@ use borrow.Author.Needs.{needs}
 use Rattle.aralimogga.proofs.aral_outside.Statement.{statement}
 use Rattle.aralimogga.proofs.aral_outside.Tie as tie
 
-outside-requires : tie.Need-outside-requires
-outside-requires c κs = search needs
-
-coefficient-of-requires : tie.Need-coefficient-of-requires
-coefficient-of-requires c κs = search needs
-
 returns : tie.Need-returns
 returns c =
     let g = c .before in
@@ -27,4 +21,4 @@ returns c =
     c .coefficient-of .ensures ∙ ap coefficientOf (e ∙ ap (λ (z : ℤ). outsideOf building z (a .place)) (param (f .direction) .same))
 
 pub aral-outside-spec : {M : Type 1} → statement M
-aral-outside-spec = tie.close (tie.spec outside-requires coefficient-of-requires returns)
+aral-outside-spec = tie.close (tie.spec (λ c κs. search needs) (λ c κs. search needs) returns)

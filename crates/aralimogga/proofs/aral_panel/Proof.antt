@@ -7,16 +7,10 @@ use borrow.Author.Needs.{needs}
 use Rattle.aralimogga.proofs.aral_panel.Statement.{statement}
 use Rattle.aralimogga.proofs.aral_panel.Tie as tie
 
-panel-of-requires : tie.Need-panel-of-requires
-panel-of-requires c κs = search needs
-
-double-of-requires : tie.Need-double-of-requires
-double-of-requires c κs = search needs
-
 returns : tie.Need-returns
 returns c =
     let p = c .before in
     c .double-of .ensures ∙ ap doubleOf (p .panel-of .ensures ∙ ap panelOf (param (p .before .fits .total) .same))
 
 pub aral-panel-spec : {M : Type 1} → statement M
-aral-panel-spec = tie.close (tie.spec panel-of-requires double-of-requires returns)
+aral-panel-spec = tie.close (tie.spec (λ c κs. search needs) (λ c κs. search needs) returns)

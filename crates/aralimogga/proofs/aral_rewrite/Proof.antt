@@ -7,12 +7,6 @@ use borrow.Author.Needs.{needs}
 use Rattle.aralimogga.proofs.aral_rewrite.Statement.{statement}
 use Rattle.aralimogga.proofs.aral_rewrite.Tie as tie
 
-read-sheet-requires : tie.Need-read-sheet-requires
-read-sheet-requires c κs = search needs
-
-no-text-requires : tie.Need-no-text-requires
-no-text-requires c κs = search needs
-
 returns : tie.Need-returns
 returns c =
     let t = c .before in
@@ -20,15 +14,6 @@ returns c =
     let a = r .before .before .before .args in
     let u = text-refused (now (a .sheet)) (r .read-sheet .result) (r .read-sheet .ensures) sheetText (now (a .out)) (t .if1 .taken) in
     (c .no-text .ensures ∙ u .0, u .1)
-
-write-sheet-requires : tie.Need-write-sheet-requires
-write-sheet-requires c κs = search needs
-
-text-of-requires : tie.Need-text-of-requires
-text-of-requires c κs = search needs
-
-same-length : tie.Need-same-length
-same-length c = search needs
 
 returns-2 : tie.Need-returns-2
 returns-2 c =
@@ -42,10 +27,10 @@ pub aral-rewrite-spec : {M : Type 1} → statement M
 aral-rewrite-spec =
     tie.close
     (tie.spec
-    read-sheet-requires
-    no-text-requires
+    (λ c κs. search needs)
+    (λ c κs. search needs)
     returns
-    write-sheet-requires
-    text-of-requires
-    same-length
+    (λ c κs. search needs)
+    (λ c κs. search needs)
+    (λ c. search needs)
     returns-2)

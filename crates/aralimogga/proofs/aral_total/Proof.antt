@@ -8,24 +8,12 @@ use borrow.Author.Needs.{needs}
 use Rattle.aralimogga.proofs.aral_total.Statement.{statement}
 use Rattle.aralimogga.proofs.aral_total.Tie as tie
 
-read-sheet-requires : tie.Need-read-sheet-requires
-read-sheet-requires c κs = search needs
-
-no-extreme-requires : tie.Need-no-extreme-requires
-no-extreme-requires c κs = search needs
-
 returns : tie.Need-returns
 returns c =
     let t = c .before in
     let r = t .before .before in
     let a = r .before .before .args in
     c .no-extreme .ensures ∙ total-refused (now (a .sheet)) (r .read-sheet .result) (r .read-sheet .ensures) (a .line) (t .if1 .taken)
-
-worst-cases-requires : tie.Need-worst-cases-requires
-worst-cases-requires c κs = search needs
-
-line-of-requires : tie.Need-line-of-requires
-line-of-requires c κs = search needs
 
 returns-2 : tie.Need-returns-2
 returns-2 c =
@@ -41,9 +29,9 @@ pub aral-total-spec : {M : Type 1} → statement M
 aral-total-spec =
     tie.close
     (tie.spec
-    read-sheet-requires
-    no-extreme-requires
+    (λ c κs. search needs)
+    (λ c κs. search needs)
     returns
-    worst-cases-requires
-    line-of-requires
+    (λ c κs. search needs)
+    (λ c κs. search needs)
     returns-2)

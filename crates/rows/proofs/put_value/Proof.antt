@@ -8,11 +8,5 @@ use Rattle.rows.proofs.put_value.Tie as tie
 cast-put : tie.Need-cast-put
 cast-put c = fit (param {w = w32} (c .fits .v)) tt
 
-put-requires : tie.Need-put-requires
-put-requires c κs = search needs
-
-returns : tie.Need-returns
-returns c = search needs
-
 pub put-value-spec : {M : Type 1} → statement M
-put-value-spec = tie.close (tie.spec cast-put put-requires returns)
+put-value-spec = tie.close (tie.spec cast-put (λ c κs. search needs) (λ c. search needs))

@@ -8,11 +8,5 @@ use Rattle.cases.proofs.ask.print_value.Tie as tie
 cast-print-number : tie.Need-cast-print-number
 cast-print-number c = fit (param {w = w32} (c .fits .v)) tt
 
-print-number-requires : tie.Need-print-number-requires
-print-number-requires c κs = search needs
-
-returns : tie.Need-returns
-returns c = search needs
-
 pub print-value-spec : {M : Type 1} → statement M
-print-value-spec = tie.close (tie.spec cast-print-number print-number-requires returns)
+print-value-spec = tie.close (tie.spec cast-print-number (λ c κs. search needs) (λ c. search needs))
