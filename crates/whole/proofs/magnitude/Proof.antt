@@ -1,6 +1,6 @@
 -- `magnitude`: of a negative z, -1 - z is one less than its size, and fits, at the least number too.
 use borrow.Author.Needs.{needs}
-use Prim.Native.Nat.{_+_, _-_, _<_}
+use Prim.Native.Nat.{_+_}
 use mathlib.Core.Path.{_≡_, ap}
 use native.Mathlib.Omega.{arith}
 use lib.IntN.{ℤ, pos, negsuc, natAbs, _-ℤ_}
@@ -43,8 +43,5 @@ cast-result-2 c = unsigned (param (c .before .fits .z)) (lt-no (param (c .before
 returns : tie.Need-returns
 returns c = omega (arith, size (back w64 (other c) tt), rest c, one-less (c .before .args .z) (below c) .1)
 
-returns-2 : tie.Need-returns-2
-returns-2 c = search needs
-
 pub magnitude-spec : {M : Type 1} → statement M
-magnitude-spec = tie.close (tie.spec sub-result cast-result add-result cast-result-2 returns returns-2)
+magnitude-spec = tie.close (tie.spec sub-result cast-result add-result cast-result-2 returns (λ c. search needs))
