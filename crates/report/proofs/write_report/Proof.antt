@@ -8,29 +8,11 @@ use Rattle.report.proofs.Reports.{report-refused, report-accepted}
 use Rattle.report.proofs.write_report.Statement.{statement}
 use Rattle.report.proofs.write_report.Tie as tie
 
-worst-cases-requires : tie.Need-worst-cases-requires
-worst-cases-requires c κs = search needs
-
 returns : tie.Need-returns
 returns c =
     let w = c .before .before in
     let a = w .before .before .args in
     report-refused (a .j) (w .worst-cases .result) (w .worst-cases .ensures) (now (a .buf)) (c .if1 .taken)
-
-slice-aggregate-put-six : tie.Need-slice-aggregate-put-six
-slice-aggregate-put-six c = search needs
-
-put-six-requires : tie.Need-put-six-requires
-put-six-requires c κs = search needs
-
-slice-aggregate-emit : tie.Need-slice-aggregate-emit
-slice-aggregate-emit c = search needs
-
-emit-requires : tie.Need-emit-requires
-emit-requires c κs = search needs
-
-same-length : tie.Need-same-length
-same-length c = search needs
 
 returns-2 : tie.Need-returns-2
 returns-2 c =
@@ -47,11 +29,11 @@ pub write-report-spec : {M : Type 1} → statement M
 write-report-spec =
     tie.close
     (tie.spec
-    worst-cases-requires
+    (λ c κs. search needs)
     returns
-    slice-aggregate-put-six
-    put-six-requires
-    slice-aggregate-emit
-    emit-requires
-    same-length
+    (λ c. search needs)
+    (λ c κs. search needs)
+    (λ c. search needs)
+    (λ c κs. search needs)
+    (λ c. search needs)
     returns-2)

@@ -10,15 +10,6 @@ use Rattle.report.proofs.Reports.{totals-refused, totals-accepted}
 use Rattle.report.proofs.write_totals.Statement.{statement}
 use Rattle.report.proofs.write_totals.Tie as tie
 
-read-sheet-requires : tie.Need-read-sheet-requires
-read-sheet-requires c κs = search needs
-
-write-refused-requires : tie.Need-write-refused-requires
-write-refused-requires c κs = search needs
-
-same-length : tie.Need-same-length
-same-length c = search needs
-
 returns : tie.Need-returns
 returns c =
     let w = c .before .before in
@@ -28,12 +19,6 @@ returns c =
     let b = now (a .buf) in
     let e = totals-refused (now (a .s)) (r .read-sheet .result) (r .read-sheet .ensures) (t .if1 .taken) in
     rw e (w .write-refused .ensures)
-
-write-report-requires : tie.Need-write-report-requires
-write-report-requires c κs = search needs
-
-same-length-2 : tie.Need-same-length-2
-same-length-2 c = search needs
 
 returns-2 : tie.Need-returns-2
 returns-2 c =
@@ -51,10 +36,10 @@ pub write-totals-spec : {M : Type 1} → statement M
 write-totals-spec =
     tie.close
     (tie.spec
-    read-sheet-requires
-    write-refused-requires
-    same-length
+    (λ c κs. search needs)
+    (λ c κs. search needs)
+    (λ c. search needs)
     returns
-    write-report-requires
-    same-length-2
+    (λ c κs. search needs)
+    (λ c. search needs)
     returns-2)

@@ -8,21 +8,6 @@ use borrow.Author.Needs.{needs}
 use Rattle.text.proofs.write_decimal.Statement.{statement}
 use Rattle.text.proofs.write_decimal.Tie as tie
 
-slice-aggregate-put-decimal : tie.Need-slice-aggregate-put-decimal
-slice-aggregate-put-decimal c = search needs
-
-put-decimal-requires : tie.Need-put-decimal-requires
-put-decimal-requires c κs = search needs
-
-slice-aggregate-emit : tie.Need-slice-aggregate-emit
-slice-aggregate-emit c = search needs
-
-emit-requires : tie.Need-emit-requires
-emit-requires c κs = search needs
-
-same-length : tie.Need-same-length
-same-length c = search needs
-
 returns : tie.Need-returns
 returns c =
     let e = c .before .before in
@@ -34,9 +19,9 @@ pub write-decimal-spec : {M : Type 1} → statement M
 write-decimal-spec =
     tie.close
     (tie.spec
-    slice-aggregate-put-decimal
-    put-decimal-requires
-    slice-aggregate-emit
-    emit-requires
-    same-length
+    (λ c. search needs)
+    (λ c κs. search needs)
+    (λ c. search needs)
+    (λ c κs. search needs)
+    (λ c. search needs)
     returns)

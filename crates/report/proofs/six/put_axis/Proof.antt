@@ -5,19 +5,10 @@ use Rattle.report.proofs.Lines.{axis-parts}
 use Rattle.report.proofs.six.put_axis.Statement.{statement}
 use Rattle.report.proofs.six.put_axis.Tie as tie
 
-put-line-requires : tie.Need-put-line-requires
-put-line-requires c κs = search needs
-
-put-line-requires-2 : tie.Need-put-line-requires-2
-put-line-requires-2 c κs = search needs
-
-same-length : tie.Need-same-length
-same-length c = search needs
-
 returns : tie.Need-returns
 returns c =
     let least = c .before .before in
     rw axis-parts (then (least .before .before .before .before .before .put-line .ensures) (least .put-line2 .ensures))
 
 pub put-axis-spec : {M : Type 1} → statement M
-put-axis-spec = tie.close (tie.spec put-line-requires put-line-requires-2 same-length returns)
+put-axis-spec = tie.close (tie.spec (λ c κs. search needs) (λ c κs. search needs) (λ c. search needs) returns)

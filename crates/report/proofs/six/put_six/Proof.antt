@@ -5,18 +5,6 @@ use Rattle.report.proofs.Lines.{six-parts}
 use Rattle.report.proofs.six.put_six.Statement.{statement}
 use Rattle.report.proofs.six.put_six.Tie as tie
 
-put-axis-requires : tie.Need-put-axis-requires
-put-axis-requires c κs = search needs
-
-put-axis-requires-2 : tie.Need-put-axis-requires-2
-put-axis-requires-2 c κs = search needs
-
-put-axis-requires-3 : tie.Need-put-axis-requires-3
-put-axis-requires-3 c κs = search needs
-
-same-length : tie.Need-same-length
-same-length c = search needs
-
 returns : tie.Need-returns
 returns c =
     let z = c .before .before in
@@ -27,4 +15,9 @@ returns c =
 pub put-six-spec : {M : Type 1} → statement M
 put-six-spec =
     tie.close
-    (tie.spec put-axis-requires put-axis-requires-2 put-axis-requires-3 same-length returns)
+    (tie.spec
+    (λ c κs. search needs)
+    (λ c κs. search needs)
+    (λ c κs. search needs)
+    (λ c. search needs)
+    returns)

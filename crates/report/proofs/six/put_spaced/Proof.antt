@@ -5,15 +5,6 @@ use Rattle.report.proofs.Lines.{spaced-one}
 use Rattle.report.proofs.six.put_spaced.Statement.{statement}
 use Rattle.report.proofs.six.put_spaced.Tie as tie
 
-put-byte-requires : tie.Need-put-byte-requires
-put-byte-requires c κs = search needs
-
-put-natural-requires : tie.Need-put-natural-requires
-put-natural-requires c κs = search needs
-
-same-length : tie.Need-same-length
-same-length c = search needs
-
 returns : tie.Need-returns
 returns c =
     let g = c .before .before in
@@ -21,4 +12,4 @@ returns c =
     rw spaced-one (then (s .put-byte .ensures) (g .put-natural .ensures))
 
 pub put-spaced-spec : {M : Type 1} → statement M
-put-spaced-spec = tie.close (tie.spec put-byte-requires put-natural-requires same-length returns)
+put-spaced-spec = tie.close (tie.spec (λ c κs. search needs) (λ c κs. search needs) (λ c. search needs) returns)
