@@ -1,4 +1,5 @@
--- The records of include/aralimogga.h for each answer: 0 and 0 with what was asked for, or a refusal's number and line with zeros.
+-- The records of include/aralimogga.h for each answer: 0 and 0 with what was asked for, or a refusal's number and
+-- line with zeros.
 use Prim.Native.Nat.{ℕ}
 use mathlib.Core.Bool.{cond}
 use mathlib.Core.List.{[], _∷_}
@@ -39,7 +40,8 @@ textOf (written.Refused number line) = noText number line
 abbrev pub coefficientOf : book.Answer → Coefficient
 coefficientOf (asked.One v) = record { number = 0; line = 0; count = 1; value = v ∷ pos 0 ∷ [] }
 coefficientOf (asked.Two v w) = record { number = 0; line = 0; count = 2; value = v ∷ w ∷ [] }
-coefficientOf (asked.Refused number line) = record { number = number; line = line; count = 0; value = pos 0 ∷ pos 0 ∷ [] }
+coefficientOf (asked.Refused number line) =
+    record { number = number; line = line; count = 0; value = pos 0 ∷ pos 0 ∷ [] }
 
 -- ---- a double
 

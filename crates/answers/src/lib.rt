@@ -1,4 +1,5 @@
-// The records that a host program in C gets, as include/aralimogga.h lays them out, and how an answer is turned into one.
+// The records that a host program in C gets, as include/aralimogga.h lays them out, and how an answer is turned into
+// one.
 use page::Writing;
 use panel::Panel;
 ghost use mathlib.Core.Path.{_≡_};

@@ -1,4 +1,5 @@
--- What comes of a sheet that was read: its refusal, or an answer about the job that it carries. `text` is any text about a job.
+-- What comes of a sheet that was read: its refusal, or an answer about the job that it carries. `text` is any text
+-- about a job.
 use Prim.Native.Nat.{ℕ}
 use mathlib.Core.Path.{_≡_, refl, sym, ap, _∙_}
 use mathlib.Core.List.{List}
@@ -34,7 +35,8 @@ module _ (s : List ℕ) (r : Read) (e : r ≡ answer (reading s)) where
   -- ---- a text about the job
 
   module _ (text : Carried → List ℕ) (buf : List ℕ) where
-    pub text-refused : (r .number ≡ 0 → ⊥) → (noText (r .number) (r .line) ≡ textOf (jobWriting text (reading s) buf)) × (buf ≡ jobBuffer text (reading s) buf)
+    pub text-refused : (r .number ≡ 0 → ⊥)
+        → (noText (r .number) (r .line) ≡ textOf (jobWriting text (reading s) buf)) × (buf ≡ jobBuffer text (reading s) buf)
     text-refused h = rw (read-refused h) (refl, refl)
 
     pub text-accepted : r .number ≡ 0 → {t : Text} {w : Writing} {after : List ℕ}
@@ -53,8 +55,10 @@ module _ (s : List ℕ) (r : Read) (e : r ≡ answer (reading s)) where
     pub total-refused : (r .number ≡ 0 → ⊥) → noExtreme (r .number) (r .line) ≡ totalOf (reading s) line
     total-refused h = sym (ap (λ (x : Reading). totalOf x line) (read-refused h))
 
-    pub total-accepted : r .number ≡ 0 → {w : Reckoning} → w ≡ worstOf (r .job) → lineOf (w .six) line ≡ totalOf (reading s) line
+    pub total-accepted : r .number ≡ 0 → {w : Reckoning} → w ≡ worstOf (r .job)
+        → lineOf (w .six) line ≡ totalOf (reading s) line
     unfolding worstOf
     total-accepted z worst =
         let a = totals-accepted s r e z in
-        ap (λ (v : Reckoning). lineOf (v .six) line) (worst ∙ ap reckoned (a .2)) ∙ sym (ap (λ (x : Reading). totalOf x line) (a .1))
+        ap (λ (v : Reckoning). lineOf (v .six) line) (worst ∙ ap reckoned (a .2))
+        ∙ sym (ap (λ (x : Reading). totalOf x line) (a .1))

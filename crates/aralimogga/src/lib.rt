@@ -1,4 +1,5 @@
-// The entry points for a host program in C (include/aralimogga.h). None trusts its caller, and none keeps anything between calls.
+// The entry points for a host program in C (include/aralimogga.h). None trusts its caller, and none keeps anything
+// between calls.
 use building::Building;
 use panel::Point;
 ghost use mathlib.Core.Path.{_≡_};
@@ -28,7 +29,8 @@ pub extern "C" fn aral_read(sheet: &[u8]) -> answers::Answer
 // The sheet read, and written again.
 #[no_mangle]
 pub extern "C" fn aral_rewrite(sheet: &[u8], out: &mut [u8]) -> answers::Text
-    ensures { λ r. ⌜ (r ≡ textOf (jobWriting sheetText (reading (now (sheet .entry))) (now (out .entry)))) × (now (out .exit) ≡ jobBuffer sheetText (reading (now (sheet .entry))) (now (out .entry))) ⌝ }
+    ensures { λ r. ⌜ (r ≡ textOf (jobWriting sheetText (reading (now (sheet .entry))) (now (out .entry))))
+        × (now (out .exit) ≡ jobBuffer sheetText (reading (now (sheet .entry))) (now (out .entry))) ⌝ }
 {
     let read = sheet::read::read_sheet(sheet);
     if read.number != 0 {
@@ -40,7 +42,8 @@ pub extern "C" fn aral_rewrite(sheet: &[u8], out: &mut [u8]) -> answers::Text
 // Its report.
 #[no_mangle]
 pub extern "C" fn aral_report(sheet: &[u8], out: &mut [u8]) -> answers::Text
-    ensures { λ r. ⌜ (r ≡ textOf (jobWriting reportText (reading (now (sheet .entry))) (now (out .entry)))) × (now (out .exit) ≡ jobBuffer reportText (reading (now (sheet .entry))) (now (out .entry))) ⌝ }
+    ensures { λ r. ⌜ (r ≡ textOf (jobWriting reportText (reading (now (sheet .entry))) (now (out .entry))))
+        × (now (out .exit) ≡ jobBuffer reportText (reading (now (sheet .entry))) (now (out .entry))) ⌝ }
 {
     let r = sheet::read::read_sheet(sheet);
     if r.number != 0 {
@@ -75,7 +78,8 @@ pub extern "C" fn aral_outside(
     direction: i64,
     place: u8,
 ) -> answers::Coefficient
-    ensures { λ r. ⌜ r ≡ coefficientOf (outsideOf (record { h = h; a = a; b = b; density = density; kind = kind; x = x }) direction place) ⌝ }
+    ensures { λ r. ⌜ r ≡ coefficientOf
+        (outsideOf (record { h = h; a = a; b = b; density = density; kind = kind; x = x }) direction place) ⌝ }
 {
     let g = Building {
         h: h,
@@ -100,7 +104,8 @@ pub extern "C" fn aral_net(
     place: u8,
     internal: i64,
 ) -> answers::Coefficient
-    ensures { λ r. ⌜ r ≡ coefficientOf (netOf (record { h = h; a = a; b = b; density = density; kind = kind; x = x }) direction place internal) ⌝ }
+    ensures { λ r. ⌜ r ≡ coefficientOf
+        (netOf (record { h = h; a = a; b = b; density = density; kind = kind; x = x }) direction place internal) ⌝ }
 {
     let g = Building {
         h: h,
@@ -118,7 +123,8 @@ pub extern "C" fn aral_net(
 // A number in decimal.
 #[no_mangle]
 pub extern "C" fn aral_digits(number: i64, out: &mut [u8]) -> answers::Text
-    ensures { λ r. ⌜ (r ≡ textOf (writing (decimal number) (now (out .entry)))) × (now (out .exit) ≡ bufferAfter (decimal number) (now (out .entry))) ⌝ }
+    ensures { λ r. ⌜ (r ≡ textOf (writing (decimal number) (now (out .entry))))
+        × (now (out .exit) ≡ bufferAfter (decimal number) (now (out .entry))) ⌝ }
 {
     answers::text_of(text::write_decimal(number, out))
 }

@@ -1,4 +1,5 @@
--- Laws of a field: what each way through the code finds, and that a number of at most 7 digits, written, is read as itself.
+-- Laws of a field: what each way through the code finds, and that a number of at most 7 digits, written, is read as
+-- itself.
 use Prim.Native.Nat.{ℕ, zero, suc, _+_, _-_, _*_, _^_, _≤_, _<_}
 use mathlib.Core.Path.{_≡_, refl, ap, _∙_, sym}
 use mathlib.Core.Bool.{true, false, cond, not, _&&_}
@@ -26,7 +27,8 @@ readAfter v ds = cond (allDigits ds) (Plus (valueAfter v ds)) Bad
 
 module _ (s : List ℕ) (i v : ℕ) where
   module _ (h : i < length s) where
-    read-step : readAfter v (drop i s) ≡ cond (isDigit (getD s i 0) && allDigits (drop (i + 1) s)) (Plus (valueAfter (v * 10 + (getD s i 0 - 48)) (drop (i + 1) s))) Bad
+    read-step : readAfter v (drop i s) ≡ cond (isDigit (getD s i 0) && allDigits (drop (i + 1) s))
+        (Plus (valueAfter (v * 10 + (getD s i 0 - 48)) (drop (i + 1) s))) Bad
     unfolding allDigits valueAfter
     read-step = rw (add-one, drop-cons s i 0)
 
@@ -36,7 +38,8 @@ module _ (s : List ℕ) (i v : ℕ) where
     pub read-high : 48 ≤ getD s i 0 → 57 < getD s i 0 → readAfter v (drop i s) ≡ Bad
     read-high lo hi = read-step ∙ rw (le-leb _ _ lo, lt-leb _ _ hi)
 
-    pub read-next : 48 ≤ getD s i 0 → getD s i 0 ≤ 57 → readAfter v (drop i s) ≡ readAfter (v * 10 + (getD s i 0 - 48)) (drop (i + 1) s)
+    pub read-next : 48 ≤ getD s i 0 → getD s i 0 ≤ 57
+        → readAfter v (drop i s) ≡ readAfter (v * 10 + (getD s i 0 - 48)) (drop (i + 1) s)
     read-next lo hi = read-step ∙ rw (le-leb _ _ lo, le-leb _ _ hi)
 
   pub read-end : length s ≤ i → readAfter v (drop i s) ≡ Plus v
@@ -116,7 +119,8 @@ module _ (s : List ℕ) where
       (λ t. (t, cc (unsigned-yes t)))
       (λ t. let z : _≡_ {A = ℕ} 0 1 = cc (unsigned-no t) in absurd (omega arith))
 
-  pub unsigned-plain : (length s ≡ 0 → ⊥) → length s ≤ 7 → (first s ≡ 48 → ⊥) → cond (allDigits s) (Plus (value s)) Bad ≡ unsigned s
+  pub unsigned-plain : (length s ≡ 0 → ⊥) → length s ≤ 7 → (first s ≡ 48 → ⊥)
+      → cond (allDigits s) (Plus (value s)) Bad ≡ unsigned s
   unfolding unsigned
   unsigned-plain some short z = rw (form-plain s some short z)
 
@@ -164,7 +168,8 @@ module _ (s : List ℕ) where
 
     pub field-letter : (first s ≡ 45 → ⊥) → 65 ≤ first s → first s ≤ 90 → Letter (first s) ≡ field s
     unfolding field
-    field-letter d k m = rw (eq-eqb (length s) 1 h, ne-eqb (first s) 45 d, le-leb 65 (first s) k, le-leb (first s) 90 m)
+    field-letter d k m =
+        rw (eq-eqb (length s) 1 h, ne-eqb (first s) 45 d, le-leb 65 (first s) k, le-leb (first s) 90 m)
 
 -- ---- written, then read
 
@@ -180,16 +185,22 @@ digits-form zero h = refl
 digits-form (suc k) h =
     let b = digits-lead (suc k) (omega arith) in
     let some = begins-some (digits (suc k)) 49 b in
-    form-plain (digits (suc k)) (λ e. omega arith) (digits-length 6 (suc k) h) (λ e. omega (arith, begins-first (digits (suc k)) 49 b .0)) ∙ digits-all (suc k)
+    form-plain (digits (suc k)) (λ e. omega arith) (digits-length 6 (suc k) h)
+    (λ e. omega (arith, begins-first (digits (suc k)) 49 b .0))
+    ∙ digits-all (suc k)
 
 pub field-digits : (n : ℕ) → n < 10 ^ 7 → field (digits n) ≡ Plus n
 field-digits n h =
     let b = begins-first (digits n) 48 (digits-begin n) in
-    sym (as-number (b .0) (b .1)) ∙ sym (number-plus (digits n) (λ e. omega (arith, b .0))) ∙ sym (unsigned-yes (digits n) (digits-form n h)) ∙ ap Plus (digits-read n)
+    sym (as-number (b .0) (b .1))
+    ∙ sym (number-plus (digits n) (λ e. omega (arith, b .0)))
+    ∙ sym (unsigned-yes (digits n) (digits-form n h))
+    ∙ ap Plus (digits-read n)
   where
     as-number : 48 ≤ first (digits n) → first (digits n) ≤ 57 → number (digits n) ≡ field (digits n)
     as-number lo hi =
-        by-test (eqb (length (digits n)) 1) (λ e. field-low (digits n) (eqb-true _ _ e) (λ q. omega arith) (omega arith))
+        by-test (eqb (length (digits n)) 1)
+        (λ e. field-low (digits n) (eqb-true _ _ e) (λ q. omega arith) (omega arith))
         (λ e. field-many (digits n) (eqb-false _ _ e))
 
 pub field-minus : (n : ℕ) → 0 < n → n < 10 ^ 7 → field (45 ∷ digits n) ≡ Minus n

@@ -1,4 +1,5 @@
--- The form of a field: a dash, a capital letter, or a number with no plus, no leading zero, no -0 and at most 7 digits.
+-- The form of a field: a dash, a capital letter, or a number with no plus, no leading zero, no -0 and at most 7
+-- digits.
 use Prim.Native.Nat.{ℕ}
 use mathlib.Core.Bool.{Bool, cond, not, _&&_}
 use mathlib.Core.List.{List}

@@ -15,7 +15,8 @@ unfolding lineText
 line-first [] = refl
 line-first (f ∷ fs) = refl
 
-line-later : (fs : List Field) (i : ℕ) → suc i < length fs → lineText (take (suc (suc i)) fs) ≡ lineText (take (suc i) fs) ++ (32 ∷ fieldText (getD fs (suc i) Bad))
+line-later : (fs : List Field) (i : ℕ) → suc i < length fs
+    → lineText (take (suc (suc i)) fs) ≡ lineText (take (suc i) fs) ++ (32 ∷ fieldText (getD fs (suc i) Bad))
 unfolding lineText
 line-later [] i h = absurd (omega arith)
 line-later (f ∷ []) i h = absurd (omega arith)
@@ -23,7 +24,8 @@ line-later (f ∷ g ∷ fs) zero h = refl
 line-later (f ∷ g ∷ fs) (suc i) h =
     ap (λ (t : List ℕ). fieldText f ++ (32 ∷ t)) (line-later (g ∷ fs) i (omega arith)) ∙ rw append-assoc
 
-pub line-next : (fs : List Field) (i : ℕ) → 0 < i → i < length fs → lineText (take (i + 1) fs) ≡ lineText (take i fs) ++ (32 ∷ fieldText (getD fs i Bad))
+pub line-next : (fs : List Field) (i : ℕ) → 0 < i → i < length fs
+    → lineText (take (i + 1) fs) ≡ lineText (take i fs) ++ (32 ∷ fieldText (getD fs i Bad))
 line-next fs zero h k = absurd (omega arith)
 line-next fs (suc i) h k = rw add-one (line-later fs i k)
 
@@ -31,4 +33,6 @@ line-next fs (suc i) h k = rw add-one (line-later fs i k)
 pub textOf-append : (xs ys : List (List Field)) → textOf (xs ++ ys) ≡ textOf xs ++ textOf ys
 unfolding textOf
 textOf-append [] ys = refl
-textOf-append (x ∷ xs) ys = ap (λ (t : List ℕ). lineText x ++ (10 ∷ t)) (textOf-append xs ys) ∙ sym (append-assoc (lineText x) (10 ∷ textOf xs) (textOf ys))
+textOf-append (x ∷ xs) ys =
+    ap (λ (t : List ℕ). lineText x ++ (10 ∷ t)) (textOf-append xs ys)
+    ∙ sym (append-assoc (lineText x) (10 ∷ textOf xs) (textOf ys))

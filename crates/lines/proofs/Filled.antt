@@ -17,12 +17,14 @@ use Rattle.lines.specs.declared.Line.{Line}
 use Rattle.form.specs.Field.{field}
 use Rattle.lines.specs.Lines.{split, fieldsOf}
 use Rattle.lines.specs.Held.{slot, blank, noLine, lineOf, firstLine, lineAt, until, fieldLength}
-use Rattle.lines.proofs.Lines.{Free, until-at, until-take, split-until, split-last, split-seam, split-past, split-one}
+use Rattle.lines.proofs.Lines.{Free, until-at, until-take, split-until, split-last, split-seam, split-past}
+use Rattle.lines.proofs.Lines.{split-one}
 
 -- the line that comes of k fields in their places, and more
 lineFrom : ℕ → ℕ → List Slot → List Field → Line
 lineFrom next k v fs =
-    cond (leb (k + length fs) 6) (record { count = k + length fs; next = next; fields = sets v k (map slot fs) }) noLine
+    cond (leb (k + length fs) 6)
+    (record { count = k + length fs; next = next; fields = sets v k (map slot fs) }) noLine
 
 from-start : (next : ℕ) (fs : List Field) → lineOf next fs ≡ lineFrom next 0 blank fs
 unfolding lineOf lineFrom
@@ -50,7 +52,8 @@ from-line-full next k v s h = rw (split-until 32 s) (from-full next k v _ _ h)
 
 -- ---- from a place of the text on
 
--- the line that comes of k fields in their places, and those from a place on; the parts between LFs are those from there on
+-- the line that comes of k fields in their places, and those from a place on; the parts between LFs are those from
+-- there on
 pub lineOn : ℕ → List Slot → ℕ → List (List ℕ) → Line
 lineOn k v at [] = noLine
 lineOn k v at (l ∷ []) = noLine
@@ -91,10 +94,12 @@ module _ (s : List ℕ) (at e : ℕ) (he : e ≡ at + fieldLength (drop at s)) (
     seam : (b : ℕ) → getD s e 0 ≡ b → drop at s ≡ part ++ (b ∷ drop (e + 1) s)
     seam b g =
         let q : at + (e - at) ≡ e = omega arith in
-        sym (take-append-drop (e - at) (drop at s)) ∙ ap (λ (t : List ℕ). part ++ t) (drop-drop (e - at) at s ∙ rw (q, add-one, drop-cons s e 0, g))
+        sym (take-append-drop (e - at) (drop at s))
+        ∙ ap (λ (t : List ℕ). part ++ t) (drop-drop (e - at) at s ∙ rw (q, add-one, drop-cons s e 0, g))
 
     byte-at : (b : ℕ) → e ≡ at + until b (drop at s) → getD s e 0 ≡ b
-    byte-at b q = rw q (sym (getD-drop at s (until b (drop at s)) 0) ∙ until-at b (drop at s) (rw length-drop (omega arith)))
+    byte-at b q =
+        rw q (sym (getD-drop at s (until b (drop at s)) 0) ∙ until-at b (drop at s) (rw length-drop (omega arith)))
 
     -- where no LF stands, a space does
     space : (getD s e 0 ≡ 10 → ⊥) → getD s e 0 ≡ 32
@@ -105,7 +110,8 @@ module _ (s : List ℕ) (at e : ℕ) (he : e ≡ at + fieldLength (drop at s)) (
         (λ t. absurd (n (byte-at 10 (omega (arith, ltb-false x y t)))))
 
     module _ (c : Slot) (hc : c ≡ slot (field part)) where
-      pub on-ended : k < 6 → getD s e 0 ≡ 10 → lineOn k v at (split 10 (drop at s)) ≡ record { count = k + 1; next = e + 1; fields = set v k c }
+      pub on-ended : k < 6 → getD s e 0 ≡ 10
+          → lineOn k v at (split 10 (drop at s)) ≡ record { count = k + 1; next = e + 1; fields = set v k c }
       unfolding lineOn fieldsOf
       on-ended l ten =
           let q : at + length part + 1 ≡ e + 1 = omega (arith, part-length) in
@@ -113,15 +119,20 @@ module _ (s : List ℕ) (at e : ℕ) (he : e ≡ at + fieldLength (drop at s)) (
           ∙ rw (split-seam 10 part (drop (e + 1) s) (part-free 10 (omega arith)), split-until 10 (drop (e + 1) s))
           (rw (q, split-one 32 part (part-free 32 (omega arith)), hc) (from-last (e + 1) k v (field part) l))
 
-      on-both : (q : List ℕ) (qs : List (List ℕ)) → lineOn k v at ((part ++ (32 ∷ q)) ∷ qs) ≡ lineOn (k + 1) (set v k c) (e + 1) (q ∷ qs)
+      on-both : (q : List ℕ) (qs : List (List ℕ))
+          → lineOn k v at ((part ++ (32 ∷ q)) ∷ qs) ≡ lineOn (k + 1) (set v k c) (e + 1) (q ∷ qs)
       unfolding lineOn fieldsOf
       on-both q [] = refl
       on-both q (m ∷ qs) =
-          let n : at + length (part ++ (32 ∷ q)) + 1 ≡ e + 1 + length q + 1 = omega (arith, length-append part (32 ∷ q), part-length) in
-          rw (n, split-seam 32 part q (part-free 32 (omega arith)), hc) (from-more (e + 1 + length q + 1) k v (field part) (fieldsOf q))
+          let n : at + length (part ++ (32 ∷ q)) + 1 ≡ e + 1 + length q + 1 =
+          omega (arith, length-append part (32 ∷ q), part-length) in
+          rw (n, split-seam 32 part q (part-free 32 (omega arith)), hc)
+          (from-more (e + 1 + length q + 1) k v (field part) (fieldsOf q))
 
-      pub on-more : (getD s e 0 ≡ 10 → ⊥) → lineOn k v at (split 10 (drop at s)) ≡ lineOn (k + 1) (set v k c) (e + 1) (split 10 (drop (e + 1) s))
+      pub on-more : (getD s e 0 ≡ 10 → ⊥)
+          → lineOn k v at (split 10 (drop at s)) ≡ lineOn (k + 1) (set v k c) (e + 1) (split 10 (drop (e + 1) s))
       on-more n =
           let u = split-until 10 (drop (e + 1) s) in
           ap (λ (t : List ℕ). lineOn k v at (split 10 t)) (seam 32 (space n))
-          ∙ rw (split-past 10 part 32 (drop (e + 1) s) _ _ (part-free 10 (omega arith)) (λ z. omega arith) u) (rw u (on-both _ _))
+          ∙ rw (split-past 10 part 32 (drop (e + 1) s) _ _ (part-free 10 (omega arith)) (λ z. omega arith) u)
+          (rw u (on-both _ _))

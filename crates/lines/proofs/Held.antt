@@ -14,7 +14,8 @@ use Rattle.lines.specs.declared.Slot.{Slot}
 use Rattle.lines.specs.declared.Line.{Line}
 use Rattle.lines.specs.Lines.{fieldsOf, rows}
 use Rattle.lines.specs.Held.{slot, blank, noLine, lineOf, firstLine, lineAt, held, until}
-use Rattle.lines.proofs.Lines.{Free, until-le, split-until, split-more, split-last, rows-more, rows-none, rows-open}
+use Rattle.lines.proofs.Lines.{Free, until-le, split-until, split-more, split-last, rows-more, rows-none}
+use Rattle.lines.proofs.Lines.{rows-open}
 
 -- ---- a line by where its LF stands
 
@@ -73,13 +74,15 @@ module _ (next : ℕ) (fs : List Field) where
 
 -- ---- a place of a text
 
--- What the line at a place says of the text from there on: it is the first line; or nothing is held, and no line is left, or one that
+-- What the line at a place says of the text from there on: it is the first line; or nothing is held, and no line is
+-- left, or one that
 -- is not ended, or a first line of more than six fields.
 pub data At (s : List ℕ) (at : ℕ) (x : Line) : Type 0 where
   taken : rows (drop at s) ≡ held x ∷ rows (drop (x .next) s) → At s at x
   gone : held x ≡ [] → rows (drop at s) ≡ [] → At s at x
   unended : held x ≡ [] → rows (drop at s) ≡ (Bad ∷ []) ∷ [] → At s at x
-  long : (fs : List Field) (rest : List (List Field)) → held x ≡ [] → rows (drop at s) ≡ fs ∷ rest → 6 < length fs → At s at x
+  long : (fs : List Field) (rest : List (List Field)) → held x ≡ [] → rows (drop at s) ≡ fs ∷ rest → 6 < length fs
+      → At s at x
 
 module _ (s : List ℕ) (at : ℕ) where
   at-open : (t : List ℕ) → drop at s ≡ t → Free 10 t → held (lineAt s at) ≡ [] → At s at (lineAt s at)
@@ -92,7 +95,8 @@ module _ (s : List ℕ) (at : ℕ) where
       let fs = fieldsOf (take u (drop at s)) in
       let q : at + suc u ≡ at + u + 1 = omega arith in
       let l = line-in s at h in
-      let r : rows (drop at s) ≡ fs ∷ rows (drop (at + u + 1) s) = rows-more (drop at s) (rw length-drop (omega arith)) ∙ rw (drop-drop, q) in
+      let r : rows (drop at s) ≡ fs ∷ rows (drop (at + u + 1) s) =
+      rows-more (drop at s) (rw length-drop (omega arith)) ∙ rw (drop-drop, q) in
       by-test (leb (length fs) 6)
       (λ t.
       let g = held-all (at + u + 1) fs (leb-true (length fs) 6 t) in

@@ -1,4 +1,5 @@
--- Laws of `split` and `rows`: the first part of a text ends where its first separator stands, and the rest is split alike.
+-- Laws of `split` and `rows`: the first part of a text ends where its first separator stands, and the rest is split
+-- alike.
 use Prim.Native.Nat.{ℕ, zero, suc, _+_, _≤_, _<_}
 use mathlib.Core.Path.{_≡_, refl, ap, _∙_, sym}
 use mathlib.Core.Logic.{⊎-elim}
@@ -36,10 +37,12 @@ module _ (s : List ℕ) (i : ℕ) where
   module _ (h : i < length s) where
     pub end-here : (eqb (getD s i 0) 32 || eqb (getD s i 0) 10) ≡ true → fieldLength (drop i s) ≡ 0
     end-here t =
-        ⊎-elim (λ e. omega (arith, until-here 32 s i h (eqb-true _ _ e))) (λ e. omega (arith, until-here 10 s i h (eqb-true _ _ e)))
+        ⊎-elim (λ e. omega (arith, until-here 32 s i h (eqb-true _ _ e)))
+        (λ e. omega (arith, until-here 10 s i h (eqb-true _ _ e)))
         (or-true (eqb (getD s i 0) 32) (eqb (getD s i 0) 10) t)
 
-    pub end-on : (eqb (getD s i 0) 32 || eqb (getD s i 0) 10) ≡ false → fieldLength (drop i s) ≡ suc (fieldLength (drop (i + 1) s))
+    pub end-on : (eqb (getD s i 0) 32 || eqb (getD s i 0) 10) ≡ false
+        → fieldLength (drop i s) ≡ suc (fieldLength (drop (i + 1) s))
     end-on t =
         let e = or-false (eqb (getD s i 0) 32) (eqb (getD s i 0) 10) t in
         omega (arith, until-on 32 s i h (eqb-false _ _ (e .0)), until-on 10 s i h (eqb-false _ _ (e .1)))
@@ -53,14 +56,16 @@ until-le b (x ∷ xs) = by-test (eqb x b) (λ e. rw e (omega arith)) (λ e. rw e
 pub until-at : (b : ℕ) (s : List ℕ) → until b s < length s → getD s (until b s) 0 ≡ b
 unfolding until
 until-at b [] h = absurd (omega arith)
-until-at b (x ∷ xs) h = by-test (eqb x b) (λ e. rw e (eqb-true x b e)) (λ e. let k = rw e at h in rw e (until-at b xs (omega arith)))
+until-at b (x ∷ xs) h =
+    by-test (eqb x b) (λ e. rw e (eqb-true x b e)) (λ e. let k = rw e at h in rw e (until-at b xs (omega arith)))
 
 pub until-take : (b : ℕ) (s : List ℕ) (n : ℕ) → n ≤ until b s → until b (take n s) ≡ n
 unfolding until
 until-take b s zero h = refl
 until-take b [] (suc n) h = absurd (omega arith)
 until-take b (x ∷ xs) (suc n) h =
-    by-test (eqb x b) (λ e. let k = rw e at h in absurd (omega arith)) (λ e. let k = rw e at h in rw e (ap suc (until-take b xs n (omega arith))))
+    by-test (eqb x b) (λ e. let k = rw e at h in absurd (omega arith))
+    (λ e. let k = rw e at h in rw e (ap suc (until-take b xs n (omega arith))))
 
 -- ---- parts
 
@@ -73,7 +78,8 @@ split-until b (x ∷ xs) =
     by-test (eqb x b) (λ e. rw (e, lt-ltb 0 (suc (length xs)) (omega arith)))
     (λ e. rw e (rw (split-until b xs, leb·suc-suc) refl))
 
-pub split-more : (b : ℕ) (s : List ℕ) → until b s < length s → split b s ≡ take (until b s) s ∷ split b (drop (suc (until b s)) s)
+pub split-more : (b : ℕ) (s : List ℕ) → until b s < length s
+    → split b s ≡ take (until b s) s ∷ split b (drop (suc (until b s)) s)
 split-more b s h = rw (split-until b s, lt-ltb (until b s) (length s) h)
 
 pub split-last : (b : ℕ) (s : List ℕ) → length s ≤ until b s → split b s ≡ s ∷ []
@@ -111,7 +117,8 @@ split-seam b s t h =
     ∙ rw (u, take-append-seam, ← add-one, drop-append-add)
 
 -- behind a byte that is not b
-pub split-past : (b : ℕ) (s : List ℕ) (x : ℕ) (t q : List ℕ) (qs : List (List ℕ)) → Free b s → (x ≡ b → ⊥) → split b t ≡ q ∷ qs
+pub split-past : (b : ℕ) (s : List ℕ) (x : ℕ) (t q : List ℕ) (qs : List (List ℕ)) → Free b s → (x ≡ b → ⊥)
+    → split b t ≡ q ∷ qs
     → split b (s ++ (x ∷ t)) ≡ (s ++ (x ∷ q)) ∷ qs
 unfolding split
 split-past b [] x t q qs h n e = rw (ne-eqb x b n, e)
@@ -152,7 +159,8 @@ unfolding rowsOf
 rowsOf-more l t = rw (split-until 10 t)
 
 -- the first line, and those behind its LF
-pub rows-more : (s : List ℕ) → until 10 s < length s → rows s ≡ fieldsOf (take (until 10 s) s) ∷ rows (drop (suc (until 10 s)) s)
+pub rows-more : (s : List ℕ) → until 10 s < length s
+    → rows s ≡ fieldsOf (take (until 10 s) s) ∷ rows (drop (suc (until 10 s)) s)
 unfolding rows
 rows-more s h = ap rowsOf (split-more 10 s h) ∙ rowsOf-more (take (until 10 s) s) (drop (suc (until 10 s)) s)
 
@@ -173,7 +181,8 @@ rows-seam l t h = ap rowsOf (split-seam 10 l t h) ∙ rowsOf-more l t
 pub rows-end : (s : List ℕ) (at : ℕ) → length s ≤ at → rows (drop at s) ≡ []
 rows-end s at h = ap rows (drop-of-length-le s h) ∙ rows-none
 
-pub rows-some : (s : List ℕ) (at : ℕ) → at < length s → (x : List Field) × (xs : List (List Field)) × (rows (drop at s) ≡ x ∷ xs)
+pub rows-some : (s : List ℕ) (at : ℕ) → at < length s
+    → (x : List Field) × (xs : List (List Field)) × (rows (drop at s) ≡ x ∷ xs)
 rows-some s at h = go (drop at s) (rw length-drop (omega arith))
   where
     go : (t : List ℕ) → 0 < length t → (x : List Field) × (xs : List (List Field)) × (rows t ≡ x ∷ xs)

@@ -14,12 +14,14 @@ use Rattle.form.specs.declared.Field.the-variants.{Bad, Plus, Minus, Letter, Da
 use Rattle.text.specs.Digits.{digits, isDigit, allDigits, valueAfter, value}
 use Rattle.form.specs.Field.{first, digitsInForm, unsigned, negative, number, field, isDash, isCapital}
 use Rattle.whole.specs.Lists.{Every}
-use Rattle.lines.specs.Lines.{split, fieldsOf, rowsOf, rows, fieldText, lineText, textOf, InForm, LinesInForm, NotBad}
+use Rattle.lines.specs.Lines.{split, fieldsOf, rowsOf, rows, fieldText, lineText, textOf, InForm, LinesInForm}
+use Rattle.lines.specs.Lines.{NotBad}
 use Rattle.text.proofs.Digits.{by-tens, digits-small, digits-more, digits-length}
 use Rattle.text.proofs.Meaning.{digits-back}
 use Rattle.form.proofs.Fields.{form-parts, field-digits, field-minus, field-dash, field-letter, value-grows}
 use Rattle.lines.specs.Held.{until}
-use Rattle.lines.proofs.Lines.{Free, free-append, free-one, split-until, split-seam, split-one, joined, split-joined, rows-none, rows-seam}
+use Rattle.lines.proofs.Lines.{Free, free-append, free-one, split-until, split-seam, split-one, joined}
+use Rattle.lines.proofs.Lines.{split-joined, rows-none, rows-seam}
 
 -- ---- a field written, then read
 
@@ -39,7 +41,8 @@ digits-free b h = by-tens (λ n. Free b (digits n))
 field-free : (f : Field) (b : ℕ) → b < 45 → InForm f → Free b (fieldText f)
 field-free Bad b h i = absurd i
 field-free (Plus n) b h i = digits-free b (omega arith) n
-field-free (Minus n) b h i = free-append b (45 ∷ []) (digits n) (free-one b 45 (λ e. omega arith)) (digits-free b (omega arith) n)
+field-free (Minus n) b h i =
+    free-append b (45 ∷ []) (digits n) (free-one b 45 (λ e. omega arith)) (digits-free b (omega arith) n)
 field-free (Letter c) b h i = free-one b c (λ e. omega (arith, i .0))
 field-free Dash b h i = free-one b 45 (λ e. omega arith)
 
@@ -54,7 +57,8 @@ line-free (f ∷ g ∷ fs) a =
 line-fields : (f : Field) (fs : List Field) → Every InForm (f ∷ fs) → fieldsOf (lineText (f ∷ fs)) ≡ f ∷ fs
 unfolding fieldsOf lineText
 line-fields f [] a =
-    ap (map field) (split-one 32 (fieldText f) (field-free f 32 (omega arith) (a .0))) ∙ ap (λ (x : Field). x ∷ []) (field-text f (a .0))
+    ap (map field) (split-one 32 (fieldText f) (field-free f 32 (omega arith) (a .0)))
+    ∙ ap (λ (x : Field). x ∷ []) (field-text f (a .0))
 line-fields f (g ∷ fs) a =
     ap (map field) (split-seam 32 (fieldText f) (lineText (g ∷ fs)) (field-free f 32 (omega arith) (a .0)))
     ∙ ap (λ (x : Field). x ∷ fieldsOf (lineText (g ∷ fs))) (field-text f (a .0))
@@ -148,7 +152,8 @@ form-value : (ds : List ℕ) → digitsInForm ds ≡ true → value ds < 10 ^ 7
 unfolding value
 form-value ds t =
     let p = form-parts ds t in
-    lt-of-lt-of-le (value-below ds 0 0 (omega arith) (p .all)) (pow-le-pow-right {n = 10} (lit< tt) {i = 0 + length ds} {j = 7} (omega (arith, p .short)))
+    lt-of-lt-of-le (value-below ds 0 0 (omega arith) (p .all))
+    (pow-le-pow-right {n = 10} (lit< tt) {i = 0 + length ds} {j = 7} (omega (arith, p .short)))
 
 number-form : (s : List ℕ) → NotBad (number s) → InForm (number s)
 unfolding number unsigned negative
@@ -165,7 +170,9 @@ field-form s h =
     by-test (isDash s) (λ t. rw t tt)
     (λ t. by-test (isCapital s)
     (λ u.
-    let e = and-true (leb 65 (first s)) (leb (first s) 90) (and-true (eqb (length s) 1) (leb 65 (first s) && leb (first s) 90) u .1) in
+    let e =
+    and-true (leb 65 (first s)) (leb (first s) 90)
+    (and-true (eqb (length s) 1) (leb 65 (first s) && leb (first s) 90) u .1) in
     rw (t, u) (leb-true _ _ (e .0), leb-true _ _ (e .1)))
     (λ u. rw (t, u) (number-form s (rw (t, u) at h))))
 
@@ -178,7 +185,8 @@ unfolding rowsOf fieldsOf
 lines-form [] a = tt
 lines-form ([] ∷ []) a = tt
 lines-form ((b ∷ l) ∷ []) a = absurd (a .0 .0)
-lines-form (l ∷ m ∷ ls) a = ((rw (split-until 32 l) (omega arith), parts-form (split 32 l) (a .0)), lines-form (m ∷ ls) (a .1))
+lines-form (l ∷ m ∷ ls) a =
+    ((rw (split-until 32 l) (omega arith), parts-form (split 32 l) (a .0)), lines-form (m ∷ ls) (a .1))
 
 pub rows-form : (s : List ℕ) → Every (Every NotBad) (rows s) → LinesInForm (rows s)
 unfolding rows

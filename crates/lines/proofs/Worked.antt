@@ -16,6 +16,7 @@ two-spaces : rows (66 ∷ 32 ∷ 32 ∷ 49 ∷ 10 ∷ []) ≡ (Letter 66 ∷ Bad
 unfolding rows rowsOf fieldsOf split field number unsigned digitsInForm allDigits valueAfter value
 two-spaces = refl
 
-written : textOf ((Letter 66 ∷ Dash ∷ Minus 10 ∷ Plus 0 ∷ []) ∷ []) ≡ 66 ∷ 32 ∷ 45 ∷ 32 ∷ 45 ∷ 49 ∷ 48 ∷ 32 ∷ 48 ∷ 10 ∷ []
+written : textOf
+    ((Letter 66 ∷ Dash ∷ Minus 10 ∷ Plus 0 ∷ []) ∷ []) ≡ 66 ∷ 32 ∷ 45 ∷ 32 ∷ 45 ∷ 49 ∷ 48 ∷ 32 ∷ 48 ∷ 10 ∷ []
 unfolding textOf lineText digits
 written = refl

@@ -1,4 +1,5 @@
--- How a line is held: up to six fields and the place after its LF. A line with more, or with no LF, is held as no line.
+-- How a line is held: up to six fields and the place after its LF. A line with more, or with no LF, is held as no
+-- line.
 use Prim.Native.Nat.{ℕ, suc, _+_, min}
 use mathlib.Core.Bool.{cond}
 use mathlib.Core.List.{List, [], _∷_, map}

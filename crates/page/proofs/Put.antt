@@ -1,4 +1,5 @@
--- Laws of texts put into a buffer: one after another is both at once, whether or not there is room; and a text that finds room stands there whole, to be put into another.
+-- Laws of texts put into a buffer: one after another is both at once, whether or not there is room; and a text that
+-- finds room stands there whole, to be put into another.
 use mathlib.Core.Path.{_≡_, refl, sym, ap, _∙_}
 use mathlib.Core.List.{List, [], _∷_, _++_}
 use Prim.Native.Nat.{ℕ, suc, _+_, _≤_, _<_, min}
@@ -43,7 +44,11 @@ then {l} {m} {n} {at} {r} {r′} {s} {t} v w =
     let k : length (sets l at s) ≡ length l = length-sets l at s in
     record {
       end = omega (arith, v .end, w .end, put-length v, length-append s t);
-      bytes = w .bytes ∙ ap (λ (x : List ℕ). sets x r t) (v .bytes) ∙ sets-clipped (sets l at s) (at + length s) r t (omega (arith, v .end)) ∙ sets-append l at s t;
+      bytes =
+          w .bytes
+          ∙ ap (λ (x : List ℕ). sets x r t) (v .bytes)
+          ∙ sets-clipped (sets l at s) (at + length s) r t (omega (arith, v .end))
+          ∙ sets-append l at s t;
     }
 
 pub put-nothing : (l : List ℕ) (at : ℕ) → at ≤ length l → Put l at [] l at
@@ -53,10 +58,12 @@ pub put-past : (l : List ℕ) (at : ℕ) (s : List ℕ) → length l ≤ at → 
 put-past l at s h = record { end = omega arith; bytes = sym (sets-out l at s h) }
 
 -- one more byte of a text
-pub put-more : {l m n : List ℕ} {at r r′ : ℕ} (s : List ℕ) (i : ℕ) → i < length s → Put l at (take i s) m r → Put m r (getD s i 0 ∷ []) n r′
+pub put-more : {l m n : List ℕ} {at r r′ : ℕ} (s : List ℕ) (i : ℕ) → i < length s → Put l at (take i s) m r
+    → Put m r (getD s i 0 ∷ []) n r′
     → Put l at (take (i + 1) s) n r′
 put-more s i h v w =
-    let e : take (i + 1) s ≡ take i s ++ (getD s i 0 ∷ []) = ap (λ (k : ℕ). take k s) (add-one i) ∙ take-suc s i 0 h in
+    let e : take (i + 1) s ≡ take i s ++ (getD s i 0 ∷ []) =
+    ap (λ (k : ℕ). take k s) (add-one i) ∙ take-suc s i 0 h in
     rw e (then v w)
 
 -- ---- with room for all of it
@@ -75,6 +82,7 @@ module _ {l m : List ℕ} {r : ℕ} {s : List ℕ} (w : Put l 0 s m r) (h : leng
   put-whole = ap (take r) put-start ∙ take-at s (drop (length s) l) r (sym put-ends)
 
   -- and what comes of it there, put into a buffer, is what comes of the text
-  pub emitted : {o : Writing} {after : List ℕ} (buf : List ℕ) → (o ≡ writing (take r m) buf) × (after ≡ bufferAfter (take r m) buf)
+  pub emitted : {o : Writing} {after : List ℕ} (buf : List ℕ)
+      → (o ≡ writing (take r m) buf) × (after ≡ bufferAfter (take r m) buf)
       → (o ≡ writing s buf) × (after ≡ bufferAfter s buf)
   emitted buf e = rw put-whole at e

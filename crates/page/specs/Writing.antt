@@ -17,7 +17,8 @@ writing text buf = cond (leb (length text) (length buf)) (Length (length text)) 
 abbrev pub bufferAfter : List ℕ → List ℕ → List ℕ
 bufferAfter text buf = cond (leb (length text) (length buf)) (text ++ drop (length text) buf) buf
 
--- A text put into the bytes `before` from the place `at` on, as far as there is room: `after` is what they are then, and `next` the
+-- A text put into the bytes `before` from the place `at` on, as far as there is room: `after` is what they are then,
+-- and `next` the
 -- place after it. What finds no room is dropped.
 pub record Put (before : List ℕ) (at : ℕ) (text : List ℕ) (after : List ℕ) (next : ℕ) : Type 0 where
   pub end : next ≡ min (at + length text) (length before)

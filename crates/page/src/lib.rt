@@ -45,7 +45,8 @@ pub fn put_bytes(buf: &mut [u8], at: usize, s: &[u8]) -> usize
 
 // The first n bytes of `text`, or all where it has fewer, at the start of `buf`.
 pub fn emit(text: &[u8], n: usize, buf: &mut [u8]) -> Writing
-    ensures { λ r. ⌜ (r ≡ writing (take n (now (text .entry))) (now (buf .entry))) × (now (buf .exit) ≡ bufferAfter (take n (now (text .entry))) (now (buf .entry))) ⌝ }
+    ensures { λ r. ⌜ (r ≡ writing (take n (now (text .entry))) (now (buf .entry)))
+        × (now (buf .exit) ≡ bufferAfter (take n (now (text .entry))) (now (buf .entry))) ⌝ }
 {
     let size = lesser(n, text.len());
     if buf.len() < size {

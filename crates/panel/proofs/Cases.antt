@@ -1,4 +1,5 @@
--- The panel at its edges, row by row: computed, and equal to what is written here. `fin s m e` is m * 2 ^ e, negative where s is true.
+-- The panel at its edges, row by row: computed, and equal to what is written here. `fin s m e` is m * 2 ^ e, negative
+-- where s is true.
 use mathlib.Core.Path.{_≡_, refl}
 use mathlib.Core.Bool.{true, false}
 use mathlib.Core.List.{List, [], _∷_, map}

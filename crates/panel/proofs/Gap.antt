@@ -1,7 +1,9 @@
--- The laws of `gap`: what the loop that finds it needs, and that what it leaves of a number has at most 53 binary digits.
+-- The laws of `gap`: what the loop that finds it needs, and that what it leaves of a number has at most 53 binary
+-- digits.
 use mathlib.Core.Path.{_≡_, sym, ap}
 use Prim.Native.Nat.{ℕ, _+_, _*_, _-_, _/_, _%_, _^_, _≤_, _<_}
-use native.Mathlib.Nat.{le-div-iff-mul-le, div-lt-iff-lt-mul, lt-of-lt-of-le, le-trans, le-of-eq, not-le-of-lt, lt-of-not-le, div-add-mod', mod-lt, mod-one}
+use native.Mathlib.Nat.{le-div-iff-mul-le, div-lt-iff-lt-mul, lt-of-lt-of-le, le-trans, le-of-eq, not-le-of-lt}
+use native.Mathlib.Nat.{lt-of-not-le, div-add-mod', mod-lt, mod-one}
 use native.Mathlib.Omega.{arith}
 use native.Mathlib.Decide.{decLt}
 use lib.Pow.{pow-pos, pow-mono, pow-add}
@@ -17,7 +19,8 @@ pub gap-more : (m k : ℕ) → 2 ^ 53 ≤ m / 2 ^ k → k + 1 ≤ size m - 53
 gap-more m k h =
     let a : 2 ^ 53 * 2 ^ k ≤ m = le-div-iff-mul-le (pow-pos k) .0 h in
     let b : 2 ^ (53 + k) ≤ m = rw pow-add a in
-    let c : 53 + k < size m = lt-of-not-le (λ (g : size m ≤ 53 + k). not-le-of-lt (lt-of-lt-of-le (size-lt m) (pow-mono g)) b) in
+    let c : 53 + k < size m =
+    lt-of-not-le (λ (g : size m ≤ 53 + k). not-le-of-lt (lt-of-lt-of-le (size-lt m) (pow-mono g)) b) in
     omega arith
 
 -- where it has not, that is all
@@ -60,7 +63,8 @@ pub kept-full : (m : ℕ) → 1 ≤ size m - 53 → 2 ^ 52 ≤ m / gap m
 unfolding gap
 kept-full m s =
     let k = size m - 53 in
-    le-div-iff-mul-le (pow-pos k) .1 (le-trans (le-of-eq (sym (pow-add 2 52 k))) (size-reaches m (52 + k) (omega arith)))
+    le-div-iff-mul-le (pow-pos k) .1
+    (le-trans (le-of-eq (sym (pow-add 2 52 k))) (size-reaches m (52 + k) (omega arith)))
 
 -- ---- the multiples on either side
 

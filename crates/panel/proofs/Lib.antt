@@ -1,4 +1,5 @@
--- For the code: the gap between doubles, and products that lose nothing. For the reader: what doubles are worth and how they are ordered, that the panel is right, that nothing else is, and the panel at its edges.
+-- For the code: the gap between doubles, and products that lose nothing. For the reader: what doubles are worth and
+-- how they are ordered, that the panel is right, that nothing else is, and the panel at its edges.
 pub mod Gap
 pub mod Product
 pub mod Worth

@@ -1,8 +1,11 @@
--- The order of doubles beside whole numbers: what is worth a whole number stands where that number stands, and between two neighbours of 53 digits there is no room.
+-- The order of doubles beside whole numbers: what is worth a whole number stands where that number stands, and
+-- between two neighbours of 53 digits there is no room.
 use mathlib.Core.Path.{_≡_, refl, sym, ap, _∙_}
 use mathlib.Core.Bool.{Bool, true, false, not, _&&_, true≢false}
 use Prim.Native.Nat.{ℕ, zero, suc, _+_, _*_, _-_, _%_, _^_, _≤_, _<_}
-use native.Mathlib.Nat.{mul-one, mul-assoc, mul-right-comm, mul-pos, zero-mul, add-mul, le-trans, le-of-eq, mul-le-mul, mul-le-mul-left, mul-le-mul-right, mul-lt-mul-of-pos-right, lt-of-mul-lt-mul-right, pow-suc, sub-add-cancel}
+use native.Mathlib.Nat.{mul-one, mul-assoc, mul-right-comm, mul-pos, zero-mul, add-mul, le-trans, le-of-eq}
+use native.Mathlib.Nat.{mul-le-mul, mul-le-mul-left, mul-le-mul-right, mul-lt-mul-of-pos-right}
+use native.Mathlib.Nat.{lt-of-mul-lt-mul-right, pow-suc, sub-add-cancel}
 use native.Mathlib.Omega.{arith}
 use native.Mathlib.Decide.{decLt}
 use borrow.Author.Tests.{lt-ltb, le-ltb, ltb-false}
@@ -28,7 +31,10 @@ ltb-scale a b k h = go (decLt a b)
 below-scale : (s : Bool) (a : ℕ) (t : Bool) (b k : ℕ) → 0 < k → below s (a * k) t (b * k) ≡ below s a t b
 below-scale false a false b k h = ltb-scale a b k h
 below-scale false a true b k h = refl
-below-scale true a false b k h = ap (λ (j : ℕ). ltb j (a * k + b * k)) (sym (zero-mul k)) ∙ ap (ltb (0 * k)) (sym (add-mul a b k)) ∙ ltb-scale 0 (a + b) k h
+below-scale true a false b k h =
+    ap (λ (j : ℕ). ltb j (a * k + b * k)) (sym (zero-mul k))
+    ∙ ap (ltb (0 * k)) (sym (add-mul a b k))
+    ∙ ltb-scale 0 (a + b) k h
 below-scale true a true b k h = ltb-scale b a k h
 
 -- by both denominators: m / 1 with the factor x
@@ -62,20 +68,24 @@ unfolding lt
 lt-number-le nan a b h t = t
 lt-number-le (inf s) a b h t = t
 lt-number-le (fin false m e) a b h t =
-    lt→ltb (m * up e * 1) (b * 1 * down e) (omega (arith, ltb→lt (m * up e * 1) (a * 1 * down e) t, mul-le-mul-right (down e) h))
+    lt→ltb (m * up e * 1) (b * 1 * down e)
+    (omega (arith, ltb→lt (m * up e * 1) (a * 1 * down e) t, mul-le-mul-right (down e) h))
 lt-number-le (fin true m e) a b h t =
-    lt→ltb 0 (m * up e * 1 + b * 1 * down e) (omega (arith, ltb→lt 0 (m * up e * 1 + a * 1 * down e) t, mul-le-mul-right (down e) h))
+    lt→ltb 0 (m * up e * 1 + b * 1 * down e)
+    (omega (arith, ltb→lt 0 (m * up e * 1 + a * 1 * down e) t, mul-le-mul-right (down e) h))
 
 pub le-number-lt : (w : Float) (a b : ℕ) → a ≤ b → T (lt (number (pos b)) w) → T (lt (number (pos a)) w)
 unfolding lt
 le-number-lt nan a b h t = t
 le-number-lt (inf s) a b h t = t
 le-number-lt (fin false m e) a b h t =
-    lt→ltb (a * 1 * down e) (m * up e * 1) (omega (arith, ltb→lt (b * 1 * down e) (m * up e * 1) t, mul-le-mul-right (down e) h))
+    lt→ltb (a * 1 * down e) (m * up e * 1)
+    (omega (arith, ltb→lt (b * 1 * down e) (m * up e * 1) t, mul-le-mul-right (down e) h))
 le-number-lt (fin true m e) a b h t = t
 
 -- a number that stands neither below a nor above it is worth a
-pub worth-by-order : (w : Float) (a : ℕ) → 0 < a → (w ≡ nan → ⊥) → lt w (number (pos a)) ≡ false → lt (number (pos a)) w ≡ false → Worth (pos a) w
+pub worth-by-order : (w : Float) (a : ℕ) → 0 < a → (w ≡ nan → ⊥) → lt w (number (pos a)) ≡ false
+    → lt (number (pos a)) w ≡ false → Worth (pos a) w
 unfolding lt
 worth-by-order nan a p n u o = n refl
 worth-by-order (inf true) a p n u o = true≢false u
@@ -94,10 +104,13 @@ double-digits : (s : Bool) (n : ℕ) (e : ℤ) → IsDouble (fin s n e) → n < 
 unfolding fits
 double-digits s zero e t = omega arith
 double-digits s (suc n) e t =
-    ltb→lt (suc n) (2 ^ 53) (second (eqb (suc n % 2) 1) (ltb (suc n) (2 ^ 53)) (leb (down e) (2 ^ 1074)) (ltb (suc n * up e) (2 ^ 1024 * down e)) t)
+    ltb→lt (suc n) (2 ^ 53)
+    (second (eqb (suc n % 2) 1) (ltb (suc n) (2 ^ 53)) (leb (down e) (2 ^ 1074)) (ltb (suc n * up e) (2 ^ 1024 * down e)) t)
 
--- n * 2 ^ d, with n of 53 digits, does not lie strictly between q * 2 ^ k and (q + 1) * 2 ^ k, with a q that has all of 53
-no-room : (n : ℕ) (d : ℤ) (q k : ℕ) → n < 2 ^ 53 → 2 ^ 52 ≤ q → 1 ≤ k → q * 2 ^ k * down d < n * up d → n * up d < (q + 1) * 2 ^ k * down d → ⊥
+-- n * 2 ^ d, with n of 53 digits, does not lie strictly between q * 2 ^ k and (q + 1) * 2 ^ k, with a q that has all
+-- of 53
+no-room : (n : ℕ) (d : ℤ) (q k : ℕ) → n < 2 ^ 53 → 2 ^ 52 ≤ q → 1 ≤ k → q * 2 ^ k * down d < n * up d
+    → n * up d < (q + 1) * 2 ^ k * down d → ⊥
 no-room n (negsuc j) q k h a b l g =
     omega (
       arith,
@@ -111,7 +124,10 @@ no-room n (pos j) q k h a b l g = go (decLt j k)
         let y : 2 ^ j * 2 ≤ 2 ^ k = le-trans (le-of-eq (sym (pow-suc 2 j))) (pow-mono s) in
         omega (arith, l, mul-lt-mul-of-pos-right h (pow-pos j), mul-le-mul-right (2 ^ k) a)
     go (no f) =
-        let e : n * 2 ^ (j - k) * 2 ^ k ≡ n * 2 ^ j = mul-assoc n (2 ^ (j - k)) (2 ^ k) ∙ ap (λ (i : ℕ). n * i) (sym (pow-add 2 (j - k) k) ∙ ap (λ (i : ℕ). 2 ^ i) (sub-add-cancel (omega arith))) in
+        let e : n * 2 ^ (j - k) * 2 ^ k ≡ n * 2 ^ j =
+        mul-assoc n (2 ^ (j - k)) (2 ^ k)
+        ∙ ap (λ (i : ℕ). n * i)
+        (sym (pow-add 2 (j - k) k) ∙ ap (λ (i : ℕ). 2 ^ i) (sub-add-cancel (omega arith))) in
         let x : q < n * 2 ^ (j - k) = lt-of-mul-lt-mul-right (2 ^ k) (omega (arith, l)) in
         let y : n * 2 ^ (j - k) < q + 1 = lt-of-mul-lt-mul-right (2 ^ k) (omega (arith, g)) in
         omega arith

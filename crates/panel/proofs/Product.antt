@@ -1,4 +1,5 @@
--- A product of two doubles that are whole numbers up to 2 ^ 53 is the double of the product, so the code's products are those of `ofSize`.
+-- A product of two doubles that are whole numbers up to 2 ^ 53 is the double of the product, so the code's products
+-- are those of `ofSize`.
 use mathlib.Core.Path.{_≡_, refl, sym, ap, _∙_}
 use mathlib.Core.Bool.{Bool, false}
 use Prim.Native.Nat.{ℕ, _+_, _*_, _/_, _%_, _^_, _≤_, _<_}
@@ -30,16 +31,20 @@ value-mul (fin s m e) (inf t) a b p q = absurd q
 value-mul (fin s m e) (fin t n d) a b p q =
     let u : m * up e ≡ a * down e = simp mul-one at (p .1) in
     let v : n * up d ≡ b * down d = simp mul-one at (q .1) in
-    let w : m * up e * (n * up d) * 1 ≡ a * b * (down e * down d) = rw (u, v) (simp (mul-one, mul-assoc, mul-left-comm)) in
+    let w : m * up e * (n * up d) * 1 ≡ a * b * (down e * down d) =
+    rw (u, v) (simp (mul-one, mul-assoc, mul-left-comm)) in
     ap (λ (r : Bool). round binary64 r (m * up e * (n * up d)) (down e * down d)) (rw (p .0, q .0) refl)
-    ∙ round-same binary64 false (m * up e * (n * up d)) (down e * down d) (a * b) 1 (mul-pos (down-pos e) (down-pos d)) (zero-lt-suc 0) w
+    ∙ round-same binary64 false (m * up e * (n * up d)) (down e * down d) (a * b) 1
+    (mul-pos (down-pos e) (down-pos d)) (zero-lt-suc 0) w
 
 abbrev pub scaled : ℕ → ℕ → Float
 scaled q p = mul binary64 (ofInt binary64 (pos q)) (ofInt binary64 (pos p))
 
 scaled-is : (q p : ℕ) → q ≤ 2 ^ 53 → p ≤ 2 ^ 53 → scaled q p ≡ double (q * p)
 unfolding ofInt
-scaled-is q p h k = value-mul (round binary64 false q 1) (round binary64 false p 1) q p (round-whole binary64 false q h) (round-whole binary64 false p k)
+scaled-is q p h k =
+    value-mul (round binary64 false q 1) (round binary64 false p 1) q p (round-whole binary64 false q h)
+    (round-whole binary64 false p k)
 
 -- ---- the two cases of `ofSize`, as defined and as the code returns them for its p, which is the gap
 
@@ -63,5 +68,6 @@ module _ (m : ℕ) (h : m < 2 ^ 64) where
       let r : m % gap m ≡ 0 = rw e at z in
       rw e (ap Exact (low-is ∙ ap double (lower-is m r)) ∙ sym (size-exact m r))
 
-  pub between-is : (p : ℕ) → p ≡ gap m → (m % p ≡ 0 → ⊥) → Between (scaled (m / p) p) (scaled (m / p + 1) p) ≡ ofSize m
+  pub between-is : (p : ℕ) → p ≡ gap m → (m % p ≡ 0 → ⊥)
+      → Between (scaled (m / p) p) (scaled (m / p + 1) p) ≡ ofSize m
   between-is p e z = rw e (rw (low-is, high-is) (sym (size-between m (rw e at z))))

@@ -1,4 +1,5 @@
--- The reckoned panel is right: it is the double that equals the total, or two doubles with the total between them and no double between the two.
+-- The reckoned panel is right: it is the double that equals the total, or two doubles with the total between them and
+-- no double between the two.
 use mathlib.Core.Path.{_≡_, subst}
 use mathlib.Core.Bool.{false}
 use Prim.Native.Nat.{ℕ, suc, _+_, _*_, _-_, _/_, _%_, _^_, _<_}
@@ -36,9 +37,12 @@ module _ (n : ℕ) (h : n < 2 ^ 64) where
   upper-worth = double-worth (n / gap n + 1) (size n - 53) (omega (arith, kept-small n)) (dropped-few n h)
 
   pub exact-right : n % gap n ≡ 0 → IsExact (pos n) (double n)
-  exact-right e = worth-exact (pos n) (double n) (is-double n) (subst (λ (m : ℕ). Worth (pos m) (double m)) (lower-is n e) lower-worth)
+  exact-right e =
+      worth-exact (pos n) (double n) (is-double n)
+      (subst (λ (m : ℕ). Worth (pos m) (double m)) (lower-is n e) lower-worth)
 
-  nearest : (n % gap n ≡ 0 → ⊥) → (x : Float) → IsDouble x → T (lt (number (pos (lower n))) x) → T (lt x (number (pos (upper n)))) → ⊥
+  nearest : (n % gap n ≡ 0 → ⊥) → (x : Float) → IsDouble x → T (lt (number (pos (lower n))) x)
+      → T (lt x (number (pos (upper n)))) → ⊥
   unfolding gap
   nearest f = none-between (n / gap n) (size n - 53) (kept-full n (some-dropped n f)) (some-dropped n f)
 
@@ -47,8 +51,12 @@ module _ (n : ℕ) (h : n < 2 ^ 64) where
       record {
         low-double = is-double (lower n);
         high-double = is-double (upper n);
-        below = rw (worth-lt (pos (lower n)) (double (lower n)) (number (pos n)) lower-worth) (numbers-lt (lower n) n (lower-lt n f));
-        above = rw (lt-worth (pos (upper n)) (number (pos n)) (double (upper n)) upper-worth) (numbers-lt n (upper n) (upper-gt n));
+        below =
+            rw (worth-lt (pos (lower n)) (double (lower n)) (number (pos n)) lower-worth)
+            (numbers-lt (lower n) n (lower-lt n f));
+        above =
+            rw (lt-worth (pos (upper n)) (number (pos n)) (double (upper n)) upper-worth)
+            (numbers-lt n (upper n) (upper-gt n));
         nearest = λ x d l g. nearest f x d
             (rw (worth-lt (pos (lower n)) (double (lower n)) x lower-worth) at l)
             (rw (lt-worth (pos (upper n)) x (double (upper n)) upper-worth) at g);

@@ -1,4 +1,5 @@
--- What is right leaves no choice: whatever is right for a total is the reckoned panel, so any two that are right are equal.
+-- What is right leaves no choice: whatever is right for a total is the reckoned panel, so any two that are right are
+-- equal.
 use mathlib.Core.Path.{_≡_, sym, ap, _∙_, subst}
 use Prim.Native.Nat.{ℕ, suc, _%_, _^_, _<_}
 use native.Mathlib.Nat.{le-of-lt, mul-le-mul}
@@ -27,7 +28,8 @@ not-both total x low high e b =
     b .nearest x (e .double) (rw (lt-worth total low x v) (b .below)) (rw (worth-lt total x high v) (b .above))
 
 -- two doubles, neither below the other
-one-place : (a : ℕ) (x y : Float) → 0 < a → IsDouble x → IsDouble y → Worth (pos a) y → (x ≡ nan → ⊥) → (T (lt x y) → ⊥) → (T (lt y x) → ⊥) → x ≡ y
+one-place : (a : ℕ) (x y : Float) → 0 < a → IsDouble x → IsDouble y → Worth (pos a) y → (x ≡ nan → ⊥)
+    → (T (lt x y) → ⊥) → (T (lt y x) → ⊥) → x ≡ y
 one-place a x y h d e v n l g =
     worth-unique (pos a) x y d e
     (worth-by-order x a h n
@@ -73,16 +75,20 @@ size-only n p h r = go (ℕ-discrete (n % gap n) 0) p r
     go : Dec (n % gap n ≡ 0) → (p : Panel) → Right (pos n) p → p ≡ ofSize n
     go (yes e) (Exact x) r =
         let s = exact-right n h e in
-        ap Exact (worth-unique (pos n) x (double n) (r .double) (s .double) (exact-worth (pos n) x r) (exact-worth (pos n) (double n) s)) ∙ sym (size-exact n e)
+        ap Exact
+        (worth-unique (pos n) x (double n) (r .double) (s .double) (exact-worth (pos n) x r) (exact-worth (pos n) (double n) s))
+        ∙ sym (size-exact n e)
     go (yes e) (Between low high) r = absurd (not-both (pos n) (double n) low high (exact-right n h e) r)
     go (no f) (Exact x) r = absurd (not-both (pos n) x (double (lower n)) (double (upper n)) r (between-right n h f))
-    go (no f) (Between low high) r = (λ i. Between (low-is n h f low high r i) (high-is n h f low high r i)) ∙ sym (size-between n f)
+    go (no f) (Between low high) r =
+        (λ i. Between (low-is n h f low high r i) (high-is n h f low high r i)) ∙ sym (size-between n f)
 
 pub right-only : (total : ℤ) (p : Panel) → natAbs total < 2 ^ 64 → Right total p → p ≡ panelOf total
 unfolding panelOf
 right-only (pos n) p h r = size-only n p h r
 right-only (negsuc n) p h r =
-    sym (mirrored-mirrored p) ∙ ap mirrored (size-only (suc n) (mirrored p) h (right-mirrored (negsuc n) p (omega arith) r))
+    sym (mirrored-mirrored p)
+    ∙ ap mirrored (size-only (suc n) (mirrored p) h (right-mirrored (negsuc n) p (omega arith) r))
 
 pub right-unique : (total : ℤ) (p q : Panel) → natAbs total < 2 ^ 64 → Right total p → Right total q → p ≡ q
 right-unique total p q h r s = right-only total p h r ∙ sym (right-only total q h s)

@@ -1,4 +1,5 @@
--- What a double is worth: `HasValue x s a 1` says that x is the whole number a with the sign s. A double is right for z exactly where it is worth z.
+-- What a double is worth: `HasValue x s a 1` says that x is the whole number a with the sign s. A double is right for
+-- z exactly where it is worth z.
 use mathlib.Core.Path.{_≡_, refl, sym, ap, _∙_, subst}
 use mathlib.Core.Bool.{Bool, true, false}
 use mathlib.Core.Logic.{_⊎_, inl, inr}
@@ -36,8 +37,10 @@ worth-unique z x y = whole-unique binary64 x y (negative z) (natAbs z)
 level-same : (s t : Bool) (a b : ℕ) → 0 < b → T (level s a t b) → (s ≡ t) × (a ≡ b)
 level-same false false a b h g = (refl, eqb→eq a b (and-l (eqb a b) true g))
 level-same true true a b h g = (refl, eqb→eq a b (and-l (eqb a b) true g))
-level-same false true a b h g = absurd (omega (arith, eqb→eq a b (and-l (eqb a b) (eqb a 0) g), eqb→eq a 0 (and-r (eqb a b) (eqb a 0) g)))
-level-same true false a b h g = absurd (omega (arith, eqb→eq a b (and-l (eqb a b) (eqb a 0) g), eqb→eq a 0 (and-r (eqb a b) (eqb a 0) g)))
+level-same false true a b h g =
+    absurd (omega (arith, eqb→eq a b (and-l (eqb a b) (eqb a 0) g), eqb→eq a 0 (and-r (eqb a b) (eqb a 0) g)))
+level-same true false a b h g =
+    absurd (omega (arith, eqb→eq a b (and-l (eqb a b) (eqb a 0) g), eqb→eq a 0 (and-r (eqb a b) (eqb a 0) g)))
 
 same-level : (s : Bool) (a b : ℕ) → a ≡ b → T (level s a s b)
 same-level false a b e = and-i (eqb a b) true (eq→eqb e) tt
@@ -48,7 +51,8 @@ unfolding eq
 equal-value nan t n h = absurd h
 equal-value (inf s) t n h = absurd h
 equal-value (fin s m e) t n h =
-    rw (mul-one (suc n)) at (level-same s t (m * up e * 1) (suc n * 1 * down e) (rw (mul-one (suc n)) (mul-pos (zero-lt-suc n) (down-pos e))) h)
+    rw (mul-one (suc n)) at
+    (level-same s t (m * up e * 1) (suc n * 1 * down e) (rw (mul-one (suc n)) (mul-pos (zero-lt-suc n) (down-pos e))) h)
 
 value-equal : (x : Float) (t : Bool) (n : ℕ) → HasValue x t n 1 → T (eq x (fin t n (pos 0)))
 unfolding eq
@@ -84,6 +88,7 @@ double-worth q k h l = go (eq-or-lt-of-le h)
   where
     go : (q ≡ 2 ^ 53) ⊎ (q < 2 ^ 53) → Worth (pos (q * 2 ^ k)) (double (q * 2 ^ k))
     go (inl e) =
-        subst (λ (n : ℕ). Worth (pos n) (double n)) (one-mul (2 ^ (53 + k)) ∙ pow-add 2 53 k ∙ ap (λ (j : ℕ). j * 2 ^ k) (sym e))
+        subst (λ (n : ℕ). Worth (pos n) (double n))
+        (one-mul (2 ^ (53 + k)) ∙ pow-add 2 53 k ∙ ap (λ (j : ℕ). j * 2 ^ k) (sym e))
         (kept-worth 1 (53 + k) (omega arith) (omega arith))
     go (inr g) = kept-worth q k g (omega arith)

@@ -1,4 +1,5 @@
--- What a double is, and a whole number to compare it with. `lib.Ieee` has IEEE 754: its `fin s m e` is the number m * 2 ^ e, negative where s is true, and `eq` and `lt` are a machine's `==` and `<`.
+-- What a double is, and a whole number to compare it with. `lib.Ieee` has IEEE 754: its `fin s m e` is the number m *
+-- 2 ^ e, negative where s is true, and `eq` and `lt` are a machine's `==` and `<`.
 use lib.Dec.{T}
 use lib.IntN.{ℤ, pos, negsuc}
 use lib.Ieee.{Float, fin, binary64, fits}

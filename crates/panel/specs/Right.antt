@@ -1,5 +1,7 @@
--- What the panel must get for a total: "either the one double equal to it, or, if there is none, the nearest double below and the nearest above. Zero is positive zero."
--- That this leaves no choice is `right-unique` (proofs/Unique.antt), and that the reckoned panel is right is `panel-right` (proofs/Right.antt).
+-- What the panel must get for a total: "either the one double equal to it, or, if there is none, the nearest double
+-- below and the nearest above. Zero is positive zero."
+-- That this leaves no choice is `right-unique` (proofs/Unique.antt), and that the reckoned panel is right is
+-- `panel-right` (proofs/Right.antt).
 use mathlib.Core.Path.{_≡_}
 use lib.Dec.{T}
 use lib.IntN.{ℤ, pos}

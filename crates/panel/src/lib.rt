@@ -1,4 +1,5 @@
-// The panel's doubles: for any signed 64-bit total the double that equals it, or the two on either side; and the chart point of three totals.
+// The panel's doubles: for any signed 64-bit total the double that equals it, or the two on either side; and the
+// chart point of three totals.
 ghost use mathlib.Core.Path.{_≡_};
 ghost use Rattle.panel.specs.Bracket.{gap, ofSize, mirrored, panelOf};
 ghost use Rattle.panel.specs.Chart.{lowOf, highOf, pointOf};

@@ -29,7 +29,8 @@ pub spaced-append : (ns ms : List ℕ) → spaced (ns ++ ms) ≡ spaced ns ++ sp
 unfolding spaced
 spaced-append [] ms = refl
 spaced-append (n ∷ ns) ms =
-    ap (λ (l : List ℕ). 32 ∷ digits n ++ l) (spaced-append ns ms) ∙ ap (λ (l : List ℕ). 32 ∷ l) (sym (append-assoc (digits n) (spaced ns) (spaced ms)))
+    ap (λ (l : List ℕ). 32 ∷ digits n ++ l) (spaced-append ns ms)
+    ∙ ap (λ (l : List ℕ). 32 ∷ l) (sym (append-assoc (digits n) (spaced ns) (spaced ms)))
 
 pub spaced-case : (w i : ℕ) (ks : List ℕ) → spaced (w ∷ i ∷ ks) ≡ (spaced (w ∷ []) ++ spaced (i ∷ [])) ++ spaced ks
 spaced-case w i ks =
@@ -41,7 +42,8 @@ pub line-parts : (axis : ℕ) (word : List ℕ) (e : Extreme)
 unfolding lineText
 line-parts axis word e = simp append-assoc
 
-pub axis-parts : (axis : ℕ) (e : Extremes) → axisText axis e ≡ lineText axis max (e .greatest) ++ lineText axis min (e .least)
+pub axis-parts : (axis : ℕ) (e : Extremes)
+    → axisText axis e ≡ lineText axis max (e .greatest) ++ lineText axis min (e .least)
 unfolding axisText
 axis-parts axis e = refl
 
@@ -51,6 +53,9 @@ six-parts s = sym (append-assoc (axisText x (s .x)) (axisText y (s .y)) (axisTex
 
 -- one number more
 pub numbers-more : {l m n : List ℕ} {at r r′ : ℕ} (ns : List ℕ) (i : ℕ) → i < length ns
-    → Put l at (spaced (take i ns)) m r → Put m r (spaced (getD ns i 0 ∷ [])) n r′ → Put l at (spaced (take (i + 1) ns)) n r′
+    → Put l at (spaced (take i ns)) m r → Put m r (spaced (getD ns i 0 ∷ [])) n r′
+    → Put l at (spaced (take (i + 1) ns)) n r′
 numbers-more ns i h p q =
-    rw (ap (λ (k : ℕ). spaced (take k ns)) (add-one i) ∙ ap spaced (take-suc ns i 0 h) ∙ spaced-append (take i ns) (getD ns i 0 ∷ [])) (then p q)
+    rw
+    (ap (λ (k : ℕ). spaced (take k ns)) (add-one i) ∙ ap spaced (take-suc ns i 0 h) ∙ spaced-append (take i ns) (getD ns i 0 ∷ []))
+    (then p q)

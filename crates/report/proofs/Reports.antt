@@ -20,7 +20,8 @@ use Rattle.report.specs.Lines.{spaced, sixText}
 use Rattle.report.specs.Report.{reportText, refused, refusedText, totalsText}
 use Rattle.report.proofs.Lines.{spaced-append}
 
-pub refused-parts : (number line : ℕ) → refusedText number line ≡ ((refused ++ spaced (number ∷ [])) ++ spaced (line ∷ [])) ++ (10 ∷ [])
+pub refused-parts : (number line : ℕ)
+    → refusedText number line ≡ ((refused ++ spaced (number ∷ [])) ++ spaced (line ∷ [])) ++ (10 ∷ [])
 unfolding refusedText
 refused-parts number line = rw (spaced-append (number ∷ []) (line ∷ [])) (simp append-assoc)
 

@@ -1,4 +1,5 @@
--- The six lines: x, y and z, each with its greatest and its least total. After the total come wind, internal and each face's alternative.
+-- The six lines: x, y and z, each with its greatest and its least total. After the total come wind, internal and each
+-- face's alternative.
 use Prim.Native.Nat.{ℕ}
 use mathlib.Core.List.{List, [], _∷_, _++_}
 use lib.ListN.{take}

@@ -1,4 +1,5 @@
--- The report of what a sheet carries, and what the program `totals` writes for a text: the report, or `refused`, number and line.
+-- The report of what a sheet carries, and what the program `totals` writes for a text: the report, or `refused`,
+-- number and line.
 use Prim.Native.Nat.{ℕ}
 use mathlib.Core.List.{List, [], _∷_, _++_}
 use Rattle.job.specs.Carried.{Carried}

@@ -12,7 +12,8 @@ mod six;
 
 // The report of j at the start of `buf`. None is longer than 474 bytes.
 pub fn write_report(j: Job, buf: &mut [u8]) -> Writing
-    ensures { λ r. ⌜ (r ≡ jobWriting reportText (judged j) (now (buf .entry))) × (now (buf .exit) ≡ jobBuffer reportText (judged j) (now (buf .entry))) ⌝ }
+    ensures { λ r. ⌜ (r ≡ jobWriting reportText (judged j) (now (buf .entry)))
+        × (now (buf .exit) ≡ jobBuffer reportText (judged j) (now (buf .entry))) ⌝ }
 {
     let w = worst::worst_cases(j);
     if w.number != 0 {
@@ -25,7 +26,8 @@ pub fn write_report(j: Job, buf: &mut [u8]) -> Writing
 
 // What the program `totals` writes for the sheet s: its report, or one line that refuses it.
 pub fn write_totals(s: &[u8], buf: &mut [u8]) -> Writing
-    ensures { λ r. ⌜ (r ≡ writing (totalsText (reading (now (s .entry)))) (now (buf .entry))) × (now (buf .exit) ≡ bufferAfter (totalsText (reading (now (s .entry)))) (now (buf .entry))) ⌝ }
+    ensures { λ r. ⌜ (r ≡ writing (totalsText (reading (now (s .entry)))) (now (buf .entry)))
+        × (now (buf .exit) ≡ bufferAfter (totalsText (reading (now (s .entry)))) (now (buf .entry))) ⌝ }
 {
     let r = sheet::read::read_sheet(s);
     if r.number != 0 {

@@ -14,7 +14,8 @@ fn put_refused(buf: &mut [u8], number: u32, line: u32) -> usize
 }
 
 pub(crate) fn write_refused(number: u32, line: u32, buf: &mut [u8]) -> Writing
-    ensures { λ r. ⌜ (r ≡ writing (refusedText number line) (now (buf .entry))) × (now (buf .exit) ≡ bufferAfter (refusedText number line) (now (buf .entry))) ⌝ }
+    ensures { λ r. ⌜ (r ≡ writing (refusedText number line) (now (buf .entry)))
+        × (now (buf .exit) ≡ bufferAfter (refusedText number line) (now (buf .entry))) ⌝ }
 {
     let mut text = [0u8; 30];
     let n = put_refused(&mut text, number, line);

@@ -34,7 +34,8 @@ within-agree (suc j) k zero d hj hk = sym (within-none k d)
 within-agree (suc j) zero (suc t) d hj hk = absurd (omega arith)
 within-agree (suc j) (suc k) (suc t) d hj hk =
     within-some j (suc t) d (omega arith)
-    ∙ ap (λ (l : List ℕ). l ++ ((48 + d) ∷ [])) (within-agree j k (suc t / 10) (suc t % 10) (omega arith) (omega arith))
+    ∙ ap (λ (l : List ℕ). l ++ ((48 + d) ∷ []))
+    (within-agree j k (suc t / 10) (suc t % 10) (omega arith) (omega arith))
     ∙ sym (within-some k (suc t) d (omega arith))
 
 pub digits-small : (n : ℕ) → n < 10 → digits n ≡ (48 + n) ∷ []
@@ -49,7 +50,8 @@ unfolding digits
 digits-more zero h = absurd (omega arith)
 digits-more (suc k) h =
     within-some k (suc k / 10) (suc k % 10) (omega arith)
-    ∙ ap (λ (l : List ℕ). l ++ ((48 + suc k % 10) ∷ [])) (within-agree k (suc k / 10) (suc k / 10 / 10) (suc k / 10 % 10) (omega arith) (omega arith))
+    ∙ ap (λ (l : List ℕ). l ++ ((48 + suc k % 10) ∷ []))
+    (within-agree k (suc k / 10) (suc k / 10 / 10) (suc k / 10 % 10) (omega arith) (omega arith))
 
 -- what holds of each number below ten, and of each other if of its tenth, holds of every number
 pub by-tens : (P : ℕ → Type 0) → ((n : ℕ) → n < 10 → P n) → ((n : ℕ) → 10 ≤ n → P (n / 10) → P n) → (n : ℕ) → P n

@@ -17,7 +17,8 @@ plain : (n : ℕ) → leadingZero (digits n) ≡ false
 plain n =
     by-test (ltb n 10) (λ e. rw (digits-small n (ltb-true n 10 e)))
     (λ e. let b = digits-lead n (omega (arith, ltb-false n 10 e)) in
-    rw (b .is) (by-test (ltb 1 (length (b .head ∷ b .rest))) (λ t. rw (t, ne-eqb (b .head) 48 (λ q. omega (arith, b .least)))) (λ t. rw t)))
+    rw (b .is)
+    (by-test (ltb 1 (length (b .head ∷ b .rest))) (λ t. rw (t, ne-eqb (b .head) 48 (λ q. omega (arith, b .least)))) (λ t. rw t)))
 
 pub digits-are : (n : ℕ) → AreDigits n (digits n)
 digits-are n =
@@ -44,7 +45,8 @@ after-digits v (d ∷ ds) h a =
     ∙ rw (digits-behind v d h (e .0), append-assoc)
 
 -- digits with no leading zero are those of the number that they stand for
-pub digits-back : (ds : List ℕ) → 1 ≤ length ds → leadingZero ds ≡ false → allDigits ds ≡ true → digits (value ds) ≡ ds
+pub digits-back : (ds : List ℕ) → 1 ≤ length ds → leadingZero ds ≡ false → allDigits ds ≡ true
+    → digits (value ds) ≡ ds
 unfolding value valueAfter allDigits
 digits-back [] some lead all = absurd (omega arith)
 digits-back (d ∷ ds) some lead all =
@@ -56,7 +58,8 @@ digits-back (d ∷ ds) some lead all =
     let r : 48 + (d - 48) ≡ d = omega arith in
     rw q (go ds lead (e .1) lo hi (digits-small (d - 48) (omega arith) ∙ rw r))
   where
-    go : (es : List ℕ) → leadingZero (d ∷ es) ≡ false → allDigits es ≡ true → 48 ≤ d → d ≤ 57 → digits (d - 48) ≡ d ∷ [] → digits (valueAfter (d - 48) es) ≡ d ∷ es
+    go : (es : List ℕ) → leadingZero (d ∷ es) ≡ false → allDigits es ≡ true → 48 ≤ d → d ≤ 57
+        → digits (d - 48) ≡ d ∷ [] → digits (valueAfter (d - 48) es) ≡ d ∷ es
     go [] l a lo hi one = one
     go (x ∷ es) l a lo hi one =
         after-digits (d - 48) (x ∷ es)

@@ -40,7 +40,8 @@ pub record AreDigits (n : ℕ) (ds : List ℕ) : Type 0 where
   pub plain : leadingZero ds ≡ false
   pub stand : value ds ≡ n
 
--- the last k + 1 digits of a number of t tens and d, or all where it has no more: those of t, where it is not 0, and then d
+-- the last k + 1 digits of a number of t tens and d, or all where it has no more: those of t, where it is not 0, and
+-- then d
 unfoldable pub digitsWithin : (k t d : ℕ) → List ℕ
 digitsWithin zero t d = (48 + d) ∷ []
 digitsWithin (suc k) zero d = (48 + d) ∷ []

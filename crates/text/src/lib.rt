@@ -38,7 +38,8 @@ pub fn put_decimal(buf: &mut [u8], at: usize, z: i64) -> usize
 
 // z in decimal at the start of `buf`.
 pub fn write_decimal(z: i64, buf: &mut [u8]) -> Writing
-    ensures { λ r. ⌜ (r ≡ writing (decimal z) (now (buf .entry))) × (now (buf .exit) ≡ bufferAfter (decimal z) (now (buf .entry))) ⌝ }
+    ensures { λ r. ⌜ (r ≡ writing (decimal z) (now (buf .entry)))
+        × (now (buf .exit) ≡ bufferAfter (decimal z) (now (buf .entry))) ⌝ }
 {
     let mut text = [0u8; 20];
     let n = put_decimal(&mut text, 0, z);

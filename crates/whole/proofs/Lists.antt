@@ -33,15 +33,18 @@ every-member P (y ∷ l) h m =
     ⊎-elim (λ e. subst P (sym e) (h .0)) (λ n. every-member P l (h .1) n) (List·Memᴰ·cases-cons m)
 
 -- one more of the first so many
-every-take-suc : {A : Type 0} (P : A → Type 0) (l : List A) (d : A) (i : ℕ) → Every P (take i l) → P (getD l i d) → Every P (take (suc i) l)
+every-take-suc : {A : Type 0} (P : A → Type 0) (l : List A) (d : A) (i : ℕ) → Every P (take i l) → P (getD l i d)
+    → Every P (take (suc i) l)
 every-take-suc P [] d i a p = tt
 every-take-suc P (x ∷ l) d zero a p = (p, tt)
 every-take-suc P (x ∷ l) d (suc i) a p = (a .0, every-take-suc P l d i (a .1) p)
 
-pub every-take : {A : Type 0} (P : A → Type 0) (l : List A) (d : A) (i : ℕ) → Every P (take i l) → P (getD l i d) → Every P (take (i + 1) l)
+pub every-take : {A : Type 0} (P : A → Type 0) (l : List A) (d : A) (i : ℕ) → Every P (take i l) → P (getD l i d)
+    → Every P (take (i + 1) l)
 every-take P l d i a p = rw add-one (every-take-suc P l d i a p)
 
-pub getD-map : {A C : Type 0} (f : A → C) (l : List A) (i : ℕ) (d : A) (e : C) → i < length l → getD (map f l) i e ≡ f (getD l i d)
+pub getD-map : {A C : Type 0} (f : A → C) (l : List A) (i : ℕ) (d : A) (e : C) → i < length l
+    → getD (map f l) i e ≡ f (getD l i d)
 getD-map f [] i d e h = absurd (omega arith)
 getD-map f (x ∷ l) zero d e h = refl
 getD-map f (x ∷ l) (suc i) d e h = getD-map f l i d e (omega arith)
@@ -103,7 +106,8 @@ module _ {A : Type 0} (d : A) where
   firstOf-getD (suc n) (suc i) (x ∷ l) h = firstOf-getD n i l (omega arith)
 
   -- one more at the end of the list takes the place of the first that it lacked
-  pub firstOf-more : (n : ℕ) (l : List A) (x : A) → length l < n → firstOf d n (l ++ (x ∷ [])) ≡ set (firstOf d n l) (length l) x
+  pub firstOf-more : (n : ℕ) (l : List A) (x : A) → length l < n
+      → firstOf d n (l ++ (x ∷ [])) ≡ set (firstOf d n l) (length l) x
   unfolding firstOf
   firstOf-more zero l x h = absurd (omega arith)
   firstOf-more (suc n) [] x h = refl

@@ -45,7 +45,8 @@ roundAway-nearest (negsuc n) d h =
 -- ---- and no other number is
 
 module _ (z : ℤ) (d : ℕ) (h : 0 < d) where
-  -- of two such numbers neither is the less: it would lie a half below z / d and the other a half above, so that one of the two is nearer to zero
+  -- of two such numbers neither is the less: it would lie a half below z / d and the other a half above, so that one
+  -- of the two is nearer to zero
   module _ (r s : ℤ) (v : Nearest z d r) (w : Nearest z d s) (l : r <ℤ s) where
     lesser-half : 2 * natAbs (r *ℤ pos d -ℤ z) ≡ d
     lesser-half = omega (arith, mul-le-mul-right d (lt-at r s l), off z d r, off z d s)

@@ -13,7 +13,8 @@ remainder-small z = leftOver-small z newton (omega arith)
 pub newtons-and-remainder : (z : ℤ) → newtons z *ℤ pos newton +ℤ pos (remainder z) ≡ z
 newtons-and-remainder z = down-and-left z newton (omega arith)
 
-pub newtons-unique : (q : ℤ) (r : ℕ) (z : ℤ) → r < newton → q *ℤ pos newton +ℤ pos r ≡ z → (q ≡ newtons z) × (r ≡ remainder z)
+pub newtons-unique : (q : ℤ) (r : ℕ) (z : ℤ) → r < newton → q *ℤ pos newton +ℤ pos r ≡ z
+    → (q ≡ newtons z) × (r ≡ remainder z)
 newtons-unique q r z = down-unique q r z newton
 
 -- minus one unit is -1 N and 19,999,999,999 units

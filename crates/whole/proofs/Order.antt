@@ -7,7 +7,8 @@ use native.Mathlib.Nat.{mul-le-mul-right}
 use native.Mathlib.Omega.{arith}
 use lib.IntN.{ℤ, pos, _+ℤ_, _*ℤ_}
 use lib.Signed.{ltZ, _≤ℤ_, _<ℤ_, ltZ-yes, ltZ-no, clashℤ}
-use Rattle.whole.proofs.Parts.{up, down, order, add-law, up-mul, down-mul, up-scale, down-scale, eq-by, le-at, le-by, lt-by}
+use Rattle.whole.proofs.Parts.{up, down, order, add-law, up-mul, down-mul, up-scale, down-scale, eq-by, le-at}
+use Rattle.whole.proofs.Parts.{le-by, lt-by}
 use Rattle.whole.proofs.Tests.{holds, fails, is-true, is-false}
 
 -- ---- a signed test, and the order that it decides

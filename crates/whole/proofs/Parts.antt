@@ -1,5 +1,6 @@
 -- A whole number as two naturals: z is `up z` minus `down z`, and one of the two is 0.
--- `omega` does not read ℤ: each law here says what an operation does to the two naturals, so that a fact of ℤ becomes one fact of ℕ for each operation in it.
+-- `omega` does not read ℤ: each law here says what an operation does to the two naturals, so that a fact of ℤ becomes
+-- one fact of ℕ for each operation in it.
 use mathlib.Core.Path.{_≡_, refl, _∙_, ap, subst}
 use mathlib.Core.Logic.{_⊎_, inl, inr}
 use mathlib.Core.Bool.{Bool, true, false, not, cond}
@@ -123,7 +124,8 @@ lt-by′ (negsuc a) (negsuc b) h = lt→ltb b a (omega arith)
 pub lt-by : (x y : ℤ) → up x + down y < up y + down x → x <ℤ y
 lt-by x y h = record { lt = lt-by′ x y h }
 
--- what a call of `omega` lists to read and to prove the orders and the equality of ℤ: `omega (arith, order, add-law x y, ..)`
+-- what a call of `omega` lists to read and to prove the orders and the equality of ℤ: `omega (arith, order, add-law x
+-- y, ..)`
 pub ruleset order = (le-at, lt-at, le-by, lt-by, eq-by)
 
 pub natAbs-is : (z : ℤ) → natAbs z ≡ up z + down z

@@ -1,4 +1,5 @@
--- Rounding keeps the order, moves no whole number, and a quotient rounded down is the one that leaves less than the divisor.
+-- Rounding keeps the order, moves no whole number, and a quotient rounded down is the one that leaves less than the
+-- divisor.
 use mathlib.Core.Path.{_≡_, refl, sym, _∙_, ap}
 use mathlib.Core.Logic.{_⊎_, inl, inr}
 use Prim.Native.Nat.{ℕ, zero, suc, _+_, _-_, _*_, _/_, _%_, _≤_, _<_}
@@ -7,7 +8,8 @@ use native.Mathlib.Omega.{arith}
 use lib.IntN.{ℤ, pos, negsuc, negℤ, natAbs, _+ℤ_, _-ℤ_, _*ℤ_, +ℤ-idl}
 use lib.Signed.{_≤ℤ_, _<ℤ_}
 use Rattle.whole.specs.Round.{halfUp, roundAway, roundDown, leftOver}
-use Rattle.whole.proofs.Parts.{order, add-law, up-neg, down-neg, up-scale, down-scale, le-by, lt-at, eq-by, eq-at}
+use Rattle.whole.proofs.Parts.{order, add-law, up-neg, down-neg, up-scale, down-scale, le-by, lt-at, eq-by}
+use Rattle.whole.proofs.Parts.{eq-at}
 use Rattle.whole.proofs.Order.{≤ℤ-or-<ℤ, ≤ℤ-antisym}
 use Rattle.whole.proofs.Size.{div-mono}
 
@@ -54,7 +56,8 @@ roundAway-neg (suc n) d h = refl
 pub roundAway-exact : (z : ℤ) (d : ℕ) → 0 < d → roundAway (z *ℤ pos d) d ≡ z
 unfolding roundAway
 roundAway-exact (pos k) d h = ap pos (halfUp-exact k d h)
-roundAway-exact (negsuc k) d h = roundAway-neg (suc k * d) d h ∙ ap (λ (n : ℕ). negℤ (pos n)) (halfUp-exact (suc k) d h)
+roundAway-exact (negsuc k) d h =
+    roundAway-neg (suc k * d) d h ∙ ap (λ (n : ℕ). negℤ (pos n)) (halfUp-exact (suc k) d h)
 
 -- the two branches of code that rounds sizes
 pub round-below : (z : ℤ) (d : ℕ) → z <ℤ pos 0 → roundAway z d ≡ pos 0 -ℤ pos (halfUp (natAbs z) d)
@@ -111,9 +114,13 @@ quotient-le x y r s d h e = go (≤ℤ-or-<ℤ x y)
 sum-cancel : (x : ℤ) (r s : ℕ) → x +ℤ pos r ≡ x +ℤ pos s → r ≡ s
 sum-cancel x r s e = omega (arith, eq-at e, add-law x (pos r), add-law x (pos s))
 
-pub down-unique : (q : ℤ) (r : ℕ) (z : ℤ) (d : ℕ) → r < d → q *ℤ pos d +ℤ pos r ≡ z → (q ≡ roundDown z d) × (r ≡ leftOver z d)
+pub down-unique : (q : ℤ) (r : ℕ) (z : ℤ) (d : ℕ) → r < d → q *ℤ pos d +ℤ pos r ≡ z
+    → (q ≡ roundDown z d) × (r ≡ leftOver z d)
 down-unique q r z d h e =
-    let f : q *ℤ pos d +ℤ pos r ≡ roundDown z d *ℤ pos d +ℤ pos (leftOver z d) = e ∙ sym (down-and-left z d (omega arith)) in
+    let f : q *ℤ pos d +ℤ pos r ≡ roundDown z d *ℤ pos d +ℤ pos (leftOver z d) =
+    e ∙ sym (down-and-left z d (omega arith)) in
     let s = leftOver-small z d (omega arith) in
-    let same = ≤ℤ-antisym (quotient-le q (roundDown z d) r (leftOver z d) d s f) (quotient-le (roundDown z d) q (leftOver z d) r d h (sym f)) in
+    let same =
+    ≤ℤ-antisym (quotient-le q (roundDown z d) r (leftOver z d) d s f)
+    (quotient-le (roundDown z d) q (leftOver z d) r d h (sym f)) in
     (same, sum-cancel (roundDown z d *ℤ pos d) r (leftOver z d) (ap (λ (x : ℤ). x *ℤ pos d +ℤ pos r) (sym same) ∙ f))

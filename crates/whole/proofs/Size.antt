@@ -1,5 +1,7 @@
--- How large a signed number is, and what the machine has of it. A signed local holds bits, so a goal shows it nested: `toZ w (ofZ w (toZ w (ofZ w x) *ℤ ..))`.
--- `Num` is such a value with the number that it is and the most that it is in size. It is built as the code is, one law for each operation, and then answers that the result fits (`fit`) and what it is (`.same`).
+-- How large a signed number is, and what the machine has of it. A signed local holds bits, so a goal shows it nested:
+-- `toZ w (ofZ w (toZ w (ofZ w x) *ℤ ..))`.
+-- `Num` is such a value with the number that it is and the most that it is in size. It is built as the code is, one
+-- law for each operation, and then answers that the result fits (`fit`) and what it is (`.same`).
 use mathlib.Core.Path.{_≡_, refl, sym, _∙_, ap, ap₂, subst, subst₂}
 use mathlib.Core.Logic.{_⊎_, ⊎-elim}
 use Prim.Native.Nat.{ℕ, zero, suc, _+_, _-_, _*_, _/_, _^_, _≤_, _<_}
@@ -12,7 +14,8 @@ use lib.Signed.{mag, quotZ, natAbs-le, nonNeg, yes-nonNeg, _≤ℤ_, _<ℤ_, ltZ
 use mir.Syntax.{Width, w64}
 use mir.Val.{SFits, Fits, hbits, bits, toZ, ofZ}
 use mir.Facts.{toZ-ofZ, toZ-pos}
-use Rattle.whole.proofs.Parts.{le-at, le-by, add-law, up-neg, down-neg, up-mul, down-mul, one-is-zero, natAbs-is}
+use Rattle.whole.proofs.Parts.{le-at, le-by, add-law, up-neg, down-neg, up-mul, down-mul, one-is-zero}
+use Rattle.whole.proofs.Parts.{natAbs-is}
 use Rattle.whole.proofs.Order.{lt-true, lt-false}
 
 pub natAbs-neg : (z : ℤ) → natAbs (negℤ z) ≡ natAbs z
@@ -52,7 +55,8 @@ pub mag-le : (z : ℤ) → mag z ≤ natAbs z
 mag-le (pos n) = le-refl n
 mag-le (negsuc n) = omega arith
 
--- a machine's number: what stands in the code's goals (`has`), the number that it is (`is`), and the most that it is in size (`most`)
+-- a machine's number: what stands in the code's goals (`has`), the number that it is (`is`), and the most that it is
+-- in size (`most`)
 pub record Num : Type 0 where
   pub has : ℤ
   pub is : ℤ
@@ -60,15 +64,18 @@ pub record Num : Type 0 where
   pub same : has ≡ is
   pub small : natAbs is ≤ most
 
--- the two answers: it fits; and what a local that holds it is read back as (`back w n t .same`). The bound is a comparison of literals, or a fact (`fit<`, `back<`), as in a loop.
+-- the two answers: it fits; and what a local that holds it is read back as (`back w n t .same`). The bound is a
+-- comparison of literals, or a fact (`fit<`, `back<`), as in a loop.
 pub fit< : {w : Width} (n : Num) → n .most < 2 ^ hbits w → SFits w (n .has)
 fit< {w} n h =
-    subst (λ (v : ℤ). SFits w v) (sym (n .same)) (record { sfits = lt-of-le-of-lt (le-trans (mag-le (n .is)) (n .small)) h })
+    subst (λ (v : ℤ). SFits w v) (sym (n .same))
+    (record { sfits = lt-of-le-of-lt (le-trans (mag-le (n .is)) (n .small)) h })
 
 pub fit : {w : Width} (n : Num) → T (ltb (n .most) (2 ^ hbits w)) → SFits w (n .has)
 fit {w} n t = fit< n (ltb→lt (n .most) (2 ^ hbits w) t)
 
--- the ends: a signed parameter with a bound of its own, or that of its width; a natural that was cast; a number as it is
+-- the ends: a signed parameter with a bound of its own, or that of its width; a natural that was cast; a number as it
+-- is
 abbrev pub param≤ : {w : Width} {z : ℤ} {k : ℕ} → SFits w z → natAbs z ≤ k → Num
 param≤ {w} {z} {k} f h = record { has = toZ w (ofZ w z); is = z; most = k; same = toZ-ofZ f; small = h }
 
@@ -147,7 +154,8 @@ pub lt-no : (m n : Num) → ltZ (m .has) (n .has) ≡ false → n .is ≤ℤ m .
 lt-no m n e = subst₂ (λ (x y : ℤ). y ≤ℤ x) (m .same) (n .same) (lt-false (m .has) (n .has) e)
 
 -- a number that is not negative, cast to an unsigned type
-pub unsigned : {w : Width} (n : Num) → pos 0 ≤ℤ n .is → T (ltb (n .most) (2 ^ bits w)) → T (nonNeg (n .has)) × Fits w (natAbs (n .has))
+pub unsigned : {w : Width} (n : Num) → pos 0 ≤ℤ n .is → T (ltb (n .most) (2 ^ bits w))
+    → T (nonNeg (n .has)) × Fits w (natAbs (n .has))
 unsigned {w} n h t =
     (subst (λ (v : ℤ). T (nonNeg v)) (sym (n .same)) (yes-nonNeg h), record { fits = lt-of-le-of-lt (bound n) (ltb→lt (n .most) (2 ^ bits w) t) })
 

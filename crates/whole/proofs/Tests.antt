@@ -1,4 +1,5 @@
--- A test as an equation and as a fact, and the laws by which a branch of the code meets a definition that goes by tests.
+-- A test as an equation and as a fact, and the laws by which a branch of the code meets a definition that goes by
+-- tests.
 use mathlib.Core.Path.{_≡_, refl, sym, subst}
 use mathlib.Core.Logic.{_⊎_, inl, inr}
 use mathlib.Core.Bool.{Bool, true, false, not, _&&_, _||_}

@@ -1,4 +1,5 @@
--- Rounding a quotient to a whole number: to the nearest with a half away from zero, and down, towards minus infinity. The divisor d is above 0.
+-- Rounding a quotient to a whole number: to the nearest with a half away from zero, and down, towards minus infinity.
+-- The divisor d is above 0.
 use mathlib.Core.Path.{_≡_}
 use Prim.Native.Nat.{ℕ, suc, _+_, _-_, _*_, _/_, _%_, _≤_}
 use lib.IntN.{ℤ, pos, negsuc, negℤ, natAbs, _-ℤ_, _*ℤ_}
@@ -12,7 +13,8 @@ unfoldable pub roundAway : ℤ → ℕ → ℤ
 roundAway (pos n) d = pos (halfUp n d)
 roundAway (negsuc n) d = negℤ (pos (halfUp (suc n) d))
 
--- what that is: r is z / d so rounded if it is off by no more than a half and, where by just a half, is not nearer to zero than z / d
+-- what that is: r is z / d so rounded if it is off by no more than a half and, where by just a half, is not nearer to
+-- zero than z / d
 pub record Nearest (z : ℤ) (d : ℕ) (r : ℤ) : Type 0 where
   pub near : 2 * natAbs (r *ℤ pos d -ℤ z) ≤ d
   pub away : 2 * natAbs (r *ℤ pos d -ℤ z) ≡ d → natAbs z ≤ natAbs r * d

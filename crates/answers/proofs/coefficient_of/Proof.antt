@@ -17,7 +17,8 @@ returns-2 : tie.Need-returns-2
 returns-2 c =
     let a = c .before .a2 .given in
     let k = c .known-told2 .given in
-    ap coefficientOf (ap₂ Two (returned w32 (a .0 .0) (k .0 .1) .same) (returned w32 (a .0 .1 .0) (k .1 .0 .1) .same) ∙ sym (a .1))
+    ap coefficientOf
+    (ap₂ Two (returned w32 (a .0 .0) (k .0 .1) .same) (returned w32 (a .0 .1 .0) (k .1 .0 .1) .same) ∙ sym (a .1))
 
 returns-3 : tie.Need-returns-3
 returns-3 c = ap coefficientOf (sym (c .before .a3 .given .1))

@@ -13,11 +13,13 @@ use Rattle.answers.proofs.line_of.Statement.{statement}
 use Rattle.answers.proofs.line_of.Tie as tie
 
 -- an arm's own number
-line : (t : tie.Start) (n : ℕ) → ofZ w64 (t .args .line) ≡ n → lineOf (t .args .six) (toZ w64 n) ≡ lineOf (t .args .six) (t .args .line)
+line : (t : tie.Start) (n : ℕ) → ofZ w64 (t .args .line) ≡ n
+    → lineOf (t .args .six) (toZ w64 n) ≡ lineOf (t .args .six) (t .args .line)
 line t n e = ap (lineOf (t .args .six)) (sym (ap (toZ w64) e) ∙ toZ-ofZ (t .fits .line))
 
 -- none of the six
-no-line : (s : Six) (z : ℤ) → (ofZ w64 z ≡ 1 → ⊥) → (ofZ w64 z ≡ 2 → ⊥) → (ofZ w64 z ≡ 3 → ⊥) → (ofZ w64 z ≡ 4 → ⊥) → (ofZ w64 z ≡ 5 → ⊥) → (ofZ w64 z ≡ 6 → ⊥)
+no-line : (s : Six) (z : ℤ) → (ofZ w64 z ≡ 1 → ⊥) → (ofZ w64 z ≡ 2 → ⊥) → (ofZ w64 z ≡ 3 → ⊥) → (ofZ w64 z ≡ 4 → ⊥)
+    → (ofZ w64 z ≡ 5 → ⊥) → (ofZ w64 z ≡ 6 → ⊥)
     → noExtreme 3 0 ≡ lineOf s z
 unfolding onLine
 no-line s (pos n) a b c d e f = search tests
@@ -51,7 +53,9 @@ returns-7 : tie.Need-returns-7
 returns-7 c =
     let a = c .before .before .args in
     let r = c .before .match .rest in
-    c .no-extreme .ensures ∙ no-line (a .six) (a .line) (r .0 .0 .0 .0 .0 .1) (r .0 .0 .0 .0 .1) (r .0 .0 .0 .1) (r .0 .0 .1) (r .0 .1) (r .1)
+    c .no-extreme .ensures
+    ∙ no-line (a .six) (a .line) (r .0 .0 .0 .0 .0 .1) (r .0 .0 .0 .0 .1) (r .0 .0 .0 .1) (r .0 .0 .1) (r .0 .1)
+    (r .1)
 
 pub line-of-spec : {M : Type 1} → statement M
 line-of-spec =

@@ -12,7 +12,9 @@ returns c =
     let t = c .before in
     let r = t .before .before in
     let a = r .before .before .before .args in
-    let u = text-refused (now (a .sheet)) (r .read-sheet .result) (r .read-sheet .ensures) sheetText (now (a .out)) (t .if1 .taken) in
+    let u =
+    text-refused (now (a .sheet)) (r .read-sheet .result) (r .read-sheet .ensures) sheetText (now (a .out))
+    (t .if1 .taken) in
     (c .no-text .ensures ∙ u .0, u .1)
 
 returns-2 : tie.Need-returns-2
@@ -21,7 +23,8 @@ returns-2 c =
     let t = w .before .before in
     let r = t .before .before in
     let a = r .before .before .before .args in
-    text-accepted (now (a .sheet)) (r .read-sheet .result) (r .read-sheet .ensures) sheetText (now (a .out)) (t .if1 .left) (c .text-of .ensures) (w .write-sheet .ensures)
+    text-accepted (now (a .sheet)) (r .read-sheet .result) (r .read-sheet .ensures) sheetText (now (a .out))
+    (t .if1 .left) (c .text-of .ensures) (w .write-sheet .ensures)
 
 pub aral-rewrite-spec : {M : Type 1} → statement M
 aral-rewrite-spec =

@@ -13,7 +13,8 @@ returns c =
     let t = c .before in
     let r = t .before .before in
     let a = r .before .before .args in
-    c .no-extreme .ensures ∙ total-refused (now (a .sheet)) (r .read-sheet .result) (r .read-sheet .ensures) (a .line) (t .if1 .taken)
+    c .no-extreme .ensures
+    ∙ total-refused (now (a .sheet)) (r .read-sheet .result) (r .read-sheet .ensures) (a .line) (t .if1 .taken)
 
 returns-2 : tie.Need-returns-2
 returns-2 c =
@@ -23,7 +24,8 @@ returns-2 c =
     let s = r .before .before in
     let a = s .args in
     c .line-of .ensures ∙ ap (lineOf (w .worst-cases .result .six)) (param (s .fits .line) .same)
-    ∙ total-accepted (now (a .sheet)) (r .read-sheet .result) (r .read-sheet .ensures) (a .line) (t .if1 .left) (w .worst-cases .ensures)
+    ∙ total-accepted (now (a .sheet)) (r .read-sheet .result) (r .read-sheet .ensures) (a .line) (t .if1 .left)
+    (w .worst-cases .ensures)
 
 pub aral-total-spec : {M : Type 1} → statement M
 aral-total-spec =

@@ -1,4 +1,5 @@
--- `digits_of` meets its contract: after i digits the number is below 10 ^ i, and what the rest say after it is what all say.
+-- `digits_of` meets its contract: after i digits the number is below 10 ^ i, and what the rest say after it is what
+-- all say.
 use Prim.Native.Nat.{_≤_, _<_, _-_, _^_}
 use mathlib.Core.Path.{_≡_, refl, sym, _∙_}
 use native.Mathlib.Omega.{arith}
@@ -22,19 +23,25 @@ returns : tie.Need-returns Inv-loop μ-loop
 unfolding value
 returns c =
     let l = c .before .before .before in
-    sym (l .loop .inv .3 ∙ read-low (l .before .args .s .now) (l .loop .i) (l .loop .v) (search needs) (c .if1 .taken))
+    sym
+    (l .loop .inv .3 ∙ read-low (l .before .args .s .now) (l .loop .i) (l .loop .v) (search needs) (c .if1 .taken))
 
 returns-2 : tie.Need-returns-2 Inv-loop μ-loop
 unfolding value
 returns-2 c =
     let l = c .before .before .before .before in
-    sym (l .loop .inv .3 ∙ read-high (l .before .args .s .now) (l .loop .i) (l .loop .v) (search needs) (c .before .if1 .left) (c .if2 .taken))
+    sym
+    (l .loop .inv .3 ∙ read-high (l .before .args .s .now) (l .loop .i) (l .loop .v) (search needs) (c .before .if1 .left) (c .if2 .taken))
 
 mul-v : tie.Need-mul-v Inv-loop μ-loop
-mul-v c = let l = c .before .before .before .before .loop in omega (arith, value-room (l .v) (l .i) (l .inv .2) (omega arith))
+mul-v c =
+    let l =
+    c .before .before .before .before .loop in omega (arith, value-room (l .v) (l .i) (l .inv .2) (omega arith))
 
 add-v : tie.Need-add-v Inv-loop μ-loop
-add-v c = let l = c .before .before .before .before .loop in omega (arith, value-room (l .v) (l .i) (l .inv .2) (omega arith))
+add-v c =
+    let l =
+    c .before .before .before .before .loop in omega (arith, value-room (l .v) (l .i) (l .inv .2) (omega arith))
 
 loop-again : tie.Need-loop-again Inv-loop μ-loop
 loop-again c =

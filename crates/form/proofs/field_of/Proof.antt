@@ -19,7 +19,9 @@ returns-3 c =
 returns-4 : tie.Need-returns-4
 returns-4 c =
     let e = c .before .before .before in
-    c .number-of3 .ensures ∙ field-high _ (e .before .before .if1 .left) (e .if2 .left) (c .before .before .if3 .left) (c .before .if4 .taken)
+    c .number-of3 .ensures
+    ∙ field-high _ (e .before .before .if1 .left) (e .if2 .left) (c .before .before .if3 .left)
+    (c .before .if4 .taken)
 
 returns-5 : tie.Need-returns-5
 returns-5 c =

@@ -23,7 +23,9 @@ returns c =
     let f = c .before .before in
     let l = f .before .before in
     let s = l .before .before .args .s .now in
-    c .no-line .ensures ∙ sym (l .loop .inv ∙ on-open s (l .loop .next) (f .end-of .result) (f .end-of .ensures .0) (l .loop .k) (l .loop .fields) (c .before .if1 .taken))
+    c .no-line .ensures
+    ∙ sym
+    (l .loop .inv ∙ on-open s (l .loop .next) (f .end-of .result) (f .end-of .ensures .0) (l .loop .k) (l .loop .fields) (c .before .if1 .taken))
 
 returns-2 : tie.Need-returns-2 Inv-loop μ-loop
 returns-2 c =
@@ -31,7 +33,8 @@ returns-2 c =
     let f = p .before .before in
     let l = f .before .before in
     let s = l .before .before .args .s .now in
-    sym (l .loop .inv ∙ on-ended s (l .loop .next) (f .end-of .result) (f .end-of .ensures .0) (l .loop .k) (l .loop .fields) (p .before .if1 .left) (p .slot-of .result) (p .slot-of .ensures) (search needs) (c .if2 .taken))
+    sym
+    (l .loop .inv ∙ on-ended s (l .loop .next) (f .end-of .result) (f .end-of .ensures .0) (l .loop .k) (l .loop .fields) (p .before .if1 .left) (p .slot-of .result) (p .slot-of .ensures) (search needs) (c .if2 .taken))
 
 loop-again : tie.Need-loop-again Inv-loop μ-loop
 loop-again c =
@@ -39,12 +42,15 @@ loop-again c =
     let f = p .before .before in
     let l = f .before .before in
     let s = l .before .before .args .s .now in
-    l .loop .inv ∙ on-more s (l .loop .next) (f .end-of .result) (f .end-of .ensures .0) (l .loop .k) (l .loop .fields) (p .before .if1 .left) (p .slot-of .result) (p .slot-of .ensures) (c .if2 .left)
+    l .loop .inv
+    ∙ on-more s (l .loop .next) (f .end-of .result) (f .end-of .ensures .0) (l .loop .k) (l .loop .fields)
+    (p .before .if1 .left) (p .slot-of .result) (p .slot-of .ensures) (c .if2 .left)
 
 returns-3 : tie.Need-returns-3 Inv-loop μ-loop
 returns-3 c =
     let l = c .before .before in
-    c .no-line2 .ensures ∙ sym (l .loop .inv ∙ on-full (l .loop .k) (l .loop .fields) (l .loop .next) _ (c .before .loop-test .left))
+    c .no-line2 .ensures
+    ∙ sym (l .loop .inv ∙ on-full (l .loop .k) (l .loop .fields) (l .loop .next) _ (c .before .loop-test .left))
 
 pub line-at-spec : {M : Type 1} → statement M
 line-at-spec =

@@ -29,7 +29,8 @@ sized c = let a = c .before .before .before .args in length-take (a .n) (now (a 
 returns : tie.Need-returns Inv-loop μ-loop
 returns c =
     let e = c .before in
-    let t = lt-leb (length (asked e)) (length (now (e .before .before .before .args .buf))) (omega (arith, sized e)) in
+    let t =
+    lt-leb (length (asked e)) (length (now (e .before .before .before .args .buf))) (omega (arith, sized e)) in
     (simp t, simp t)
 
 loop-holds : tie.Need-loop-holds Inv-loop μ-loop
@@ -57,7 +58,8 @@ returns-2 c =
     let e = l .before .before in
     let a = e .before .before .before .args in
     let all : take (l .loop .i) (now (a .text)) ≡ asked e =
-    sym (take-take (l .loop .i) (a .n) (now (a .text)) (omega (arith, e .lesser .ensures))) ∙ take-all (l .loop .i) (asked e) (omega (arith, sized e)) in
+    sym (take-take (l .loop .i) (a .n) (now (a .text)) (omega (arith, e .lesser .ensures)))
+    ∙ take-all (l .loop .i) (asked e) (omega (arith, sized e)) in
     let room : length (asked e) ≤ length (now (a .buf)) = omega (arith, sized e) in
     (simp (sized e, le-leb _ _ (l .before .if1 .left)), simp (le-leb _ _ room) (put-start (rw all at (l .loop .inv .1)) room))
 

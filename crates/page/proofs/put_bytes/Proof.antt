@@ -32,7 +32,8 @@ same-length c = put-length (c .before .loop .inv .1)
 returns : tie.Need-returns Inv-loop μ-loop
 returns c =
     let l = c .before in
-    rw (take-all (l .loop .i) (now (l .before .before .before .before .args .s)) (c .loop-test .left)) at (l .loop .inv .1)
+    rw (take-all (l .loop .i) (now (l .before .before .before .before .args .s)) (c .loop-test .left)) at
+    (l .loop .inv .1)
 
 pub put-bytes-spec : {M : Type 1} → statement M
 put-bytes-spec =

@@ -1,4 +1,5 @@
--- `of_size`: the unit and what is left of m by it are small enough for both casts, and the products are those of `ofSize`.
+-- `of_size`: the unit and what is left of m by it are small enough for both casts, and the products are those of
+-- `ofSize`.
 use borrow.Author.Needs.{needs}
 use Prim.Native.Nat.{_≤_, _<_, _/_, _^_}
 use native.Mathlib.Nat.{le-of-lt}
@@ -47,7 +48,8 @@ int-to-float-high-2 c = cast-exact _ (small (c .before .before .before .before .
 returns-2 : tie.Need-returns-2
 returns-2 c =
     let u = c .before .before .before .before .before in
-    between-is (u .before .args .m) (u .before .fits .m .fits) (u .unit .result) (u .unit .ensures) (c .before .before .if1 .left)
+    between-is (u .before .args .m) (u .before .fits .m .fits) (u .unit .result) (u .unit .ensures)
+    (c .before .before .if1 .left)
 
 pub of-size-spec : {M : Type 1} → statement M
 of-size-spec =

@@ -35,7 +35,8 @@ more c = gap-more (c .before .before .args .m) (k c) (rw (c .before .loop .inv .
 mul-p : tie.Need-mul-p Inv-loop μ-loop
 mul-p c =
     let e : c .before .loop .p * 2 ≡ 2 ^ (k c + 1) = doubled c in
-    let h = pow-mono (le-trans (more c) (dropped-few (c .before .before .args .m) (c .before .before .fits .m .fits))) in
+    let h =
+    pow-mono (le-trans (more c) (dropped-few (c .before .before .args .m) (c .before .before .fits .m .fits))) in
     omega arith
 
 loop-less : tie.Need-loop-less Inv-loop μ-loop

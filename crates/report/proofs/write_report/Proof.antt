@@ -1,4 +1,5 @@
--- `write_report` meets its contract: a job's own refusal, or its report, which finds room and so is handed to `emit` whole.
+-- `write_report` meets its contract: a job's own refusal, or its report, which finds room and so is handed to `emit`
+-- whole.
 use denote.Ref.{now}
 use borrow.Author.Needs.{needs}
 use Rattle.page.proofs.Put.{emitted}

@@ -28,8 +28,12 @@ returns-2 c =
     let a = r .before .before .before .args in
     let b = now (a .buf) in
     let e = totals-accepted (now (a .s)) (r .read-sheet .result) (r .read-sheet .ensures) (t .if1 .left) in (
-      w .write-report .ensures .0 ∙ ap (λ (x : Reading). jobWriting reportText x b) (e .2) ∙ sym (ap (λ (x : Reading). writing (totalsText x) b) (e .1)),
-      w .write-report .ensures .1 ∙ ap (λ (x : Reading). jobBuffer reportText x b) (e .2) ∙ sym (ap (λ (x : Reading). bufferAfter (totalsText x) b) (e .1)),
+      w .write-report .ensures .0
+          ∙ ap (λ (x : Reading). jobWriting reportText x b) (e .2)
+          ∙ sym (ap (λ (x : Reading). writing (totalsText x) b) (e .1)),
+      w .write-report .ensures .1
+          ∙ ap (λ (x : Reading). jobBuffer reportText x b) (e .2)
+          ∙ sym (ap (λ (x : Reading). bufferAfter (totalsText x) b) (e .1)),
     )
 
 pub write-totals-spec : {M : Type 1} → statement M

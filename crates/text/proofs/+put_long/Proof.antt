@@ -50,7 +50,8 @@ module _ (t : ℕ) where
   add-put-byte-2 : lts.Need-add-put-byte-2 (put-byte.Asked, put-byte.Learnt, below t, f.Post) (at-t t) f.Post
   add-put-byte-2 c = search needs
 
-  put-byte-requires-2 : lts.Need-put-byte-requires-2 (put-byte.Asked, put-byte.Learnt, below t, f.Post) (at-t t) f.Post
+  put-byte-requires-2 : lts.Need-put-byte-requires-2 (put-byte.Asked, put-byte.Learnt, below t, f.Post)
+      (at-t t) f.Post
   put-byte-requires-2 c κs = search needs
 
   same-length-2 : lts.Need-same-length-2 (put-byte.Asked, put-byte.Learnt, below t, f.Post) (at-t t) f.Post
@@ -61,7 +62,8 @@ module _ (t : ℕ) where
       let p = c .before .before in
       let g = p .before .before .before .before in
       let b = g .before .before in
-      rw (digits-more (b .before .before .args .n) (b .if1 .left)) (then (g .put-long .ensures) (p .put-byte2 .ensures))
+      rw (digits-more (b .before .before .args .n) (b .if1 .left))
+      (then (g .put-long .ensures) (p .put-byte2 .ensures))
 
 pub +put-long-spec : {M : Type 1} → statement M
 +put-long-spec =

@@ -13,7 +13,8 @@ returns c =
     let e = c .before .before in
     let p = e .before .before .before .before in
     let s = p .before .before .before in
-    emitted (rw (toZ-ofZ w64 (s .args .z) (s .fits .z)) at (p .put-decimal .ensures)) (decimal-length (s .args .z) (s .fits .z .sfits)) (now (s .args .buf)) (e .emit .ensures)
+    emitted (rw (toZ-ofZ w64 (s .args .z) (s .fits .z)) at (p .put-decimal .ensures))
+    (decimal-length (s .args .z) (s .fits .z .sfits)) (now (s .args .buf)) (e .emit .ensures)
 
 pub write-decimal-spec : {M : Type 1} → statement M
 write-decimal-spec =

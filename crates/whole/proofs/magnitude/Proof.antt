@@ -38,7 +38,8 @@ add-result : tie.Need-add-result
 add-result c = omega (arith, bound (back w64 (other c) tt))
 
 cast-result-2 : tie.Need-cast-result-2
-cast-result-2 c = unsigned (param (c .before .fits .z)) (lt-no (param (c .before .fits .z)) (num (pos 0)) (c .if1 .left)) tt
+cast-result-2 c =
+    unsigned (param (c .before .fits .z)) (lt-no (param (c .before .fits .z)) (num (pos 0)) (c .if1 .left)) tt
 
 returns : tie.Need-returns
 returns c = omega (arith, size (back w64 (other c) tt), rest c, one-less (c .before .args .z) (below c) .1)

@@ -11,7 +11,9 @@ returns c =
     let e = c .before .before in
     let p = e .before .before .before .before in
     let s = p .before .before .before in
-    emitted (p .put-refused .ensures) (refused-most (s .args .number) (s .args .line) (s .fits .number) (s .fits .line)) (now (s .args .buf)) (e .emit .ensures)
+    emitted (p .put-refused .ensures)
+    (refused-most (s .args .number) (s .args .line) (s .fits .number) (s .fits .line)) (now (s .args .buf))
+    (e .emit .ensures)
 
 pub write-refused-spec : {M : Type 1} → statement M
 write-refused-spec =

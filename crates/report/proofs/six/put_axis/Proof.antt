@@ -8,7 +8,8 @@ use Rattle.report.proofs.six.put_axis.Tie as tie
 returns : tie.Need-returns
 returns c =
     let least = c .before .before in
-    rw axis-parts (then (least .before .before .before .before .before .put-line .ensures) (least .put-line2 .ensures))
+    rw axis-parts
+    (then (least .before .before .before .before .before .put-line .ensures) (least .put-line2 .ensures))
 
 pub put-axis-spec : {M : Type 1} → statement M
 put-axis-spec = tie.close (tie.spec (λ c κs. search needs) (λ c κs. search needs) (λ c. search needs) returns)
