@@ -53,11 +53,27 @@ doubleOf (Between low high) = record { exact = 0; low = low; high = high }
 
 abbrev pub noExtreme : ℕ → ℕ → Extreme
 noExtreme number line =
-    record { number = number; line = line; total = pos 0; wind = 0; internal = 0; faces = 0; alternative = replicate 24 0 }
+    record {
+      number = number;
+      line = line;
+      total = pos 0;
+      wind = 0;
+      internal = 0;
+      faces = 0;
+      alternative = replicate 24 0;
+    }
 
 abbrev pub extremeOf : worst.Extreme → Extreme
 extremeOf e =
-    record { number = 0; line = 0; total = e .total; wind = e .wind; internal = e .internal; faces = e .faces; alternative = e .alternative }
+    record {
+      number = 0;
+      line = 0;
+      total = e .total;
+      wind = e .wind;
+      internal = e .internal;
+      faces = e .faces;
+      alternative = e .alternative;
+    }
 
 -- x max, x min, y max, y min, z max, z min; no other line
 unfoldable pub onLine : Six → ℕ → Extreme

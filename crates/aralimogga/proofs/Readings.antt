@@ -36,7 +36,8 @@ module _ (s : List ℕ) (r : Read) (e : r ≡ answer (reading s)) where
 
   module _ (text : Carried → List ℕ) (buf : List ℕ) where
     pub text-refused : (r .number ≡ 0 → ⊥)
-        → (noText (r .number) (r .line) ≡ textOf (jobWriting text (reading s) buf)) × (buf ≡ jobBuffer text (reading s) buf)
+        → (noText (r .number) (r .line) ≡ textOf (jobWriting text (reading s) buf))
+        × (buf ≡ jobBuffer text (reading s) buf)
     text-refused h = rw (read-refused h) (refl, refl)
 
     pub text-accepted : r .number ≡ 0 → {t : Text} {w : Writing} {after : List ℕ}

@@ -28,7 +28,8 @@ module _ (text : Carried → List ℕ) {x : Reading} {c : Carried} (a : x ≡ Ac
 
 pub sheet-again : (s : List ℕ) (c : Carried) → reading s ≡ Accepted c
     → (before : List ℕ) {after : List ℕ} {w : Writing}
-    → (w ≡ jobWriting sheetText (judged (answer (reading s) .job)) before) × (after ≡ jobBuffer sheetText (judged (answer (reading s) .job)) before)
+    → (w ≡ jobWriting sheetText (judged (answer (reading s) .job)) before)
+    × (after ≡ jobBuffer sheetText (judged (answer (reading s) .job)) before)
     → Written s before after w
 sheet-again s c a before p =
     let e = read-rewritten s c a before in
@@ -50,7 +51,8 @@ written-start {text} {before} (put h e) =
 pub job-again : (j : Job) (c : Carried) → judged j ≡ Accepted c → (before : List ℕ) {after s : List ℕ} {n : ℕ}
     → (Length n ≡ jobWriting sheetText (judged j) before) × (after ≡ jobBuffer sheetText (judged j) before)
     → s ≡ take n after
-    → (answer (reading s) ≡ record { number = 0; line = 0; job = recorded (carried j) }) × SameJob j (answer (reading s) .job)
+    → (answer (reading s) ≡ record { number = 0; line = 0; job = recorded (carried j) })
+    × SameJob j (answer (reading s) .job)
 job-again j c a before p same =
     let w = job-written sheetText a before p in
     let text : _ ≡ sheetText (carried j) = same ∙ written-start w ∙ ap sheetText (judged-carried j c a) in

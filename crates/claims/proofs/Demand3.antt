@@ -112,8 +112,11 @@ reports-worst =
           (jobWriting reportText (reading (now (a .0))) out, told, p .0);
       aral-total = λ κ a r s p c e axis side n.
           let six = sixExtremes c in
-          let told = shown.six-shown c (sheet-in-order (now (a .0)) c e) axis side in
-          (shownIn six axis side, told, p ∙ ap (λ x. totalOf x (a .1 .0)) e ∙ ap (lineOf six) n ∙ line-is c axis side);
+          let told = shown.six-shown c (sheet-in-order (now (a .0)) c e) axis side in (
+            shownIn six axis side,
+            told,
+            p ∙ ap (λ x. totalOf x (a .1 .0)) e ∙ ap (lineOf six) n ∙ line-is c axis side,
+          );
     }
 
 pub shows-one : ShowsOne

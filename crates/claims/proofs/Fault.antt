@@ -68,5 +68,7 @@ module _ (j : Job) where
 
   pub job-accepted : (c : Carried) → judged j ≡ Accepted c → Faultless (linesOf (carried j)) × (c ≡ carried j)
   unfolding judged
-  job-accepted c e =
-      (accepted-answer (linesOf (carried j)) (judged j) (lines-answer (linesOf (carried j))) c e, judged-carried j c e)
+  job-accepted c e = (
+    accepted-answer (linesOf (carried j)) (judged j) (lines-answer (linesOf (carried j))) c e,
+    judged-carried j c e,
+  )

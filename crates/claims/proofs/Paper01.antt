@@ -87,8 +87,10 @@ same-number (Refused n l) = (refl, refl)
 pub job-as-sheet : JobAsSheet
 job-as-sheet κ a r s p κ′ b q t p′ f same =
     let x = judged (a .0) in
-    let e : q ≡ answer x = p′ ∙ ap (λ s. answer (reading s)) same ∙ ap answer (judge-is-reader (a .0) f) in
-    (ap (λ v. v .number) p ∙ sym (ap (λ v. v .number) e ∙ same-number x .0), ap (λ v. v .line) p ∙ sym (ap (λ v. v .line) e ∙ same-number x .1))
+    let e : q ≡ answer x = p′ ∙ ap (λ s. answer (reading s)) same ∙ ap answer (judge-is-reader (a .0) f) in (
+      ap (λ v. v .number) p ∙ sym (ap (λ v. v .number) e ∙ same-number x .0),
+      ap (λ v. v .line) p ∙ sym (ap (λ v. v .line) e ∙ same-number x .1),
+    )
 
 -- the length that a host is told of a report
 told-length : (x : Reading) (buf : List ℕ) → ((c : Carried) → x ≡ Accepted c → length (reportText c) ≤ 474)

@@ -101,7 +101,20 @@ printed =
     ∷ reads "B 1\n500 1200 1000 1250 0 0\nW 1\n0 400\nI 1\n0\nF 25\n" 2 7
     ∷ []
 
+-- row after row
+infixr 40 _and_
+_and_ : {P Q : Type 0} → P → Q → P × Q
+p and q = (p, q)
+
 pub printed-hold : Every Holds printed
-unfolding outsideOf askedOf buildingFault outOfForm outOfRange outOfWalls outOfRoof tooLong beyond zoneOn localOn roofOf coefficientOf wallColumn gableColumn flatColumn wallRow wallCells blockOf roofValue roofCells spotIn partAts firstRow spotFrom lineAt halfUp roundAway roundDown leftOver reading rows rowsOf split fieldsOf field number unsigned negative digitsInForm allDigits valueAfter value readLines walk lineFault fieldsFault lowest lower fieldFault
+unfolding outsideOf askedOf buildingFault outOfForm outOfRange outOfWalls outOfRoof tooLong beyond zoneOn localOn
+    roofOf coefficientOf wallColumn gableColumn flatColumn wallRow wallCells blockOf roofValue roofCells spotIn
+    partAts firstRow spotFrom lineAt halfUp roundAway roundDown leftOver reading rows rowsOf split fieldsOf field
+    number unsigned negative digitsInForm allDigits valueAfter value readLines walk lineFault fieldsFault lowest
+    lower fieldFault
 printed-hold =
-    (refl, (refl, (refl, (refl, (refl, (refl, (refl, (refl, (refl, (refl, (refl, (refl, (refl, ((refl, refl, refl), (refl, (refl, tt))))))))))))))))
+    refl and refl and refl and refl  -- P1 to P4
+    and refl and refl and refl and refl and refl  -- P5 to P7
+    and refl and refl and refl and refl  -- P8 to P11
+    and (refl, refl, refl)  -- P12
+    and refl and refl and tt

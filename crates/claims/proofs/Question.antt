@@ -143,7 +143,8 @@ module _ (g : Building) (direction : ℤ) (place : ℕ) where
         rw (then-told o _ i)
         (by-test (tooGreat internal)
         (λ e. rw e (bad-internal q e))
-        (λ e. rw e (less-internal q e outside-got (minus-number o .0 ∙ z .0) (minus-number o .1 ∙ z .1) (minus-values o)))))
+        (λ e.
+        rw e (less-internal q e outside-got (minus-number o .0 ∙ z .0) (minus-number o .1 ∙ z .1) (minus-values o)))))
 
     pub net-unique : {r r′ : book.Answer} → Net g direction place internal r → Net g direction place internal r′
         → r ≡ r′

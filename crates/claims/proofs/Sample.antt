@@ -48,5 +48,10 @@ lines =
     & "z min -200000000000000 1 2 1 1 1\n"
 
 pub sample : totalsText (reading (bytes sheet)) ≡ bytes lines
-unfolding halfUp roundAway digitsWithin digits decimal allDigits valueAfter value digitsInForm unsigned negative number field split fieldsOf rowsOf rows spotFrom lineAt wallRow wallCells blockOf outOfRoof roofOf roofCells partAts firstRow spotIn roofValue buildingFault outOfForm outOfRange outOfWalls tooLong zoneOn localOn wallColumn gableColumn flatColumn coefficientOf outsideOf askedOf beyond fieldFault lower lowest fieldsFault lineFault walk readLines reading better best numbers each choices total cases caseTotal worst padded shown sixExtremes spaced lineText axisText sixText reportText
+unfolding halfUp roundAway digitsWithin digits decimal allDigits valueAfter value digitsInForm unsigned negative
+    number field split fieldsOf rowsOf rows spotFrom lineAt wallRow wallCells blockOf outOfRoof roofOf roofCells
+    partAts firstRow spotIn roofValue buildingFault outOfForm outOfRange outOfWalls tooLong zoneOn localOn
+    wallColumn gableColumn flatColumn coefficientOf outsideOf askedOf beyond fieldFault lower lowest fieldsFault
+    lineFault walk readLines reading better best numbers each choices total cases caseTotal worst padded shown
+    sixExtremes spaced lineText axisText sixText reportText
 sample = refl

@@ -34,7 +34,8 @@ not-too-great (pos n) h = le-ltb 100 n h
 not-too-great (negsuc n) h = rw (le-ltb 99 n (omega arith))
 
 net-values : (r : book.Answer) (internal : ℤ) → tooGreat internal ≡ false
-    → valuesOf (then r (cond (tooGreat internal) (Refused 3 0) (minus r internal))) ≡ map (λ v. net v internal) (valuesOf r)
+    → valuesOf (then r (cond (tooGreat internal) (Refused 3 0) (minus r internal))) ≡ map (λ v. net v internal)
+    (valuesOf r)
 net-values (One v) internal e = rw e
 net-values (Two v w) internal e = rw e
 net-values (Refused n l) internal e = refl
@@ -65,7 +66,8 @@ module _ (c : Carried) (axis : Axis) (w : Wind) (internal : ℤ) where
     unfolding outs
     force-is f k m =
         by-test (acts f (w .direction))
-        (λ e. let b = numbers-member (length (outs f)) 1 (rw e at m) in force-acting f k e (omega arith) (omega arith))
+        (λ e.
+        let b = numbers-member (length (outs f)) 1 (rw e at m) in force-acting f k e (omega arith) (omega arith))
         (λ e. let o = List·Memᴰ·eq-of-singleton (rw e at m) in rw (e, o) (idle e))
 
     -- ---- the sum over the faces

@@ -17,7 +17,8 @@ module _ (text before : List ℕ) where
   writing-written = go (leb (length text) (length before)) refl
     where
       go : (t : Bool) → leb (length text) (length before) ≡ t
-          → Written text before (cond t (text ++ drop (length text) before) before) (cond t (Length (length text)) (Refused 7 0))
+          → Written text before (cond t (text ++ drop (length text) before) before)
+          (cond t (Length (length text)) (Refused 7 0))
       go true e = put (leb-true (length text) (length before) e) refl
       go false e = longer (leb-false (length text) (length before) e) refl
 

@@ -149,7 +149,9 @@ unfolding split joined
 split-joined b [] = refl
 split-joined b (x ∷ xs) =
     by-test (eqb x b)
-    (λ e. rw e (joined-more b [] xs ∙ ap (λ (l : List ℕ). b ∷ l) (split-joined b xs) ∙ ap (λ (y : ℕ). y ∷ xs) (sym (eqb-true x b e))))
+    (λ e.
+    rw e
+    (joined-more b [] xs ∙ ap (λ (l : List ℕ). b ∷ l) (split-joined b xs) ∙ ap (λ (y : ℕ). y ∷ xs) (sym (eqb-true x b e))))
     (λ e. rw e (joined-onto b x (split b xs) ∙ ap (λ (l : List ℕ). x ∷ l) (split-joined b xs)))
 
 -- ---- lines
@@ -189,5 +191,13 @@ rows-some s at h = go (drop at s) (rw length-drop (omega arith))
     go [] k = absurd (omega arith)
     go (y ∷ t) k =
         by-test (ltb (until 10 (y ∷ t)) (length (y ∷ t)))
-        (λ e. (fieldsOf (take (until 10 (y ∷ t)) (y ∷ t)), rows (drop (suc (until 10 (y ∷ t))) (y ∷ t)), rows-more (y ∷ t) (ltb-true _ _ e)))
-        (λ e. (Bad ∷ [], [], rows-open y t (omega (arith, until-le 10 (y ∷ t), ltb-false (until 10 (y ∷ t)) (length (y ∷ t)) e))))
+        (λ e. (
+          fieldsOf (take (until 10 (y ∷ t)) (y ∷ t)),
+          rows (drop (suc (until 10 (y ∷ t))) (y ∷ t)),
+          rows-more (y ∷ t) (ltb-true _ _ e),
+        ))
+        (λ e. (
+          Bad ∷ [],
+          [],
+          rows-open y t (omega (arith, until-le 10 (y ∷ t), ltb-false (until 10 (y ∷ t)) (length (y ∷ t)) e)),
+        ))

@@ -36,7 +36,9 @@ field-text Dash h = sym (field-dash (45 ∷ []) refl refl)
 digits-free : (b : ℕ) → b < 48 → (n : ℕ) → Free b (digits n)
 digits-free b h = by-tens (λ n. Free b (digits n))
     (λ n k. rw (digits-small n k) (free-one b (48 + n) (λ e. omega arith)))
-    (λ n k ih. rw (digits-more n k) (free-append b (digits (n / 10)) ((48 + n % 10) ∷ []) ih (free-one b (48 + n % 10) (λ e. omega arith))))
+    (λ n k ih.
+    rw (digits-more n k)
+    (free-append b (digits (n / 10)) ((48 + n % 10) ∷ []) ih (free-one b (48 + n % 10) (λ e. omega arith))))
 
 field-free : (f : Field) (b : ℕ) → b < 45 → InForm f → Free b (fieldText f)
 field-free Bad b h i = absurd i
@@ -87,7 +89,9 @@ negative-text : (s : List ℕ) → NotBad (negative s) → fieldText (negative s
 unfolding negative
 negative-text s h =
     by-test (digitsInForm s && ltb 0 (value s))
-    (λ t. rw t (let p = form-parts s (and-true (digitsInForm s) (ltb 0 (value s)) t .0) in ap (λ (l : List ℕ). 45 ∷ l) (digits-back s (p .some) (p .lead) (p .all))))
+    (λ t.
+    rw t
+    (let p = form-parts s (and-true (digitsInForm s) (ltb 0 (value s)) t .0) in ap (λ (l : List ℕ). 45 ∷ l) (digits-back s (p .some) (p .lead) (p .all))))
     (λ t. absurd (rw t at h))
 
 number-text : (s : List ℕ) → NotBad (number s) → fieldText (number s) ≡ s
@@ -106,9 +110,12 @@ pub field-back : (s : List ℕ) → NotBad (field s) → fieldText (field s) ≡
 unfolding field
 field-back s h =
     by-test (isDash s)
-    (λ t. let e = and-true (eqb (length s) 1) (eqb (first s) 45) t in rw t (alone s 45 (e .0) (sym (eqb-true (first s) 45 (e .1)))))
+    (λ t.
+    let e = and-true (eqb (length s) 1) (eqb (first s) 45) t in
+    rw t (alone s 45 (e .0) (sym (eqb-true (first s) 45 (e .1)))))
     (λ t. by-test (isCapital s)
-    (λ u. rw (t, u) (alone s (first s) (and-true (eqb (length s) 1) (leb 65 (first s) && leb (first s) 90) u .0) refl))
+    (λ u.
+    rw (t, u) (alone s (first s) (and-true (eqb (length s) 1) (leb 65 (first s) && leb (first s) 90) u .0) refl))
     (λ u. rw (t, u) (number-text s (rw (t, u) at h))))
 
 parts-text : (ps : List (List ℕ)) → Every NotBad (map field ps) → lineText (map field ps) ≡ joined 32 ps
@@ -160,7 +167,9 @@ unfolding number unsigned negative
 number-form s h =
     by-test (eqb (first s) 45)
     (λ t. by-test (digitsInForm (drop 1 s) && ltb 0 (value (drop 1 s)))
-    (λ u. let e = and-true (digitsInForm (drop 1 s)) (ltb 0 (value (drop 1 s))) u in rw (t, u) (ltb-true _ _ (e .1), form-value (drop 1 s) (e .0)))
+    (λ u.
+    let e = and-true (digitsInForm (drop 1 s)) (ltb 0 (value (drop 1 s))) u in
+    rw (t, u) (ltb-true _ _ (e .1), form-value (drop 1 s) (e .0)))
     (λ u. absurd (rw (t, u) at h)))
     (λ t. by-test (digitsInForm s) (λ u. rw (t, u) (form-value s u)) (λ u. absurd (rw (t, u) at h)))
 

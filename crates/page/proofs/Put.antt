@@ -31,7 +31,9 @@ sets-out l i (x ∷ s) h = ap (λ (m : List ℕ). sets m (suc i) s) (set-out l i
 sets-clipped : (l : List ℕ) (i r : ℕ) (s : List ℕ) → r ≡ min i (length l) → sets l r s ≡ sets l i s
 sets-clipped l i r s e =
     by-test (leb i (length l)) (λ t. ap (λ (k : ℕ). sets l k s) (omega (arith, leb-true i (length l) t)))
-    (λ t. sets-out l r s (omega (arith, leb-false i (length l) t)) ∙ sym (sets-out l i s (omega (arith, leb-false i (length l) t))))
+    (λ t.
+    sets-out l r s (omega (arith, leb-false i (length l) t))
+    ∙ sym (sets-out l i s (omega (arith, leb-false i (length l) t))))
 
 -- ---- texts
 

@@ -105,7 +105,8 @@ unfolding fits
 double-digits s zero e t = omega arith
 double-digits s (suc n) e t =
     ltb→lt (suc n) (2 ^ 53)
-    (second (eqb (suc n % 2) 1) (ltb (suc n) (2 ^ 53)) (leb (down e) (2 ^ 1074)) (ltb (suc n * up e) (2 ^ 1024 * down e)) t)
+    (second (eqb (suc n % 2) 1) (ltb (suc n) (2 ^ 53)) (leb (down e) (2 ^ 1074))
+    (ltb (suc n * up e) (2 ^ 1024 * down e)) t)
 
 -- n * 2 ^ d, with n of 53 digits, does not lie strictly between q * 2 ^ k and (q + 1) * 2 ^ k, with a q that has all
 -- of 53

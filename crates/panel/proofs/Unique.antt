@@ -76,7 +76,8 @@ size-only n p h r = go (ℕ-discrete (n % gap n) 0) p r
     go (yes e) (Exact x) r =
         let s = exact-right n h e in
         ap Exact
-        (worth-unique (pos n) x (double n) (r .double) (s .double) (exact-worth (pos n) x r) (exact-worth (pos n) (double n) s))
+        (worth-unique (pos n) x (double n) (r .double) (s .double) (exact-worth (pos n) x r)
+        (exact-worth (pos n) (double n) s))
         ∙ sym (size-exact n e)
     go (yes e) (Between low high) r = absurd (not-both (pos n) (double n) low high (exact-right n h e) r)
     go (no f) (Exact x) r = absurd (not-both (pos n) x (double (lower n)) (double (upper n)) r (between-right n h f))

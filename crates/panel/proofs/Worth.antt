@@ -52,7 +52,8 @@ equal-value nan t n h = absurd h
 equal-value (inf s) t n h = absurd h
 equal-value (fin s m e) t n h =
     rw (mul-one (suc n)) at
-    (level-same s t (m * up e * 1) (suc n * 1 * down e) (rw (mul-one (suc n)) (mul-pos (zero-lt-suc n) (down-pos e))) h)
+    (level-same s t (m * up e * 1) (suc n * 1 * down e)
+    (rw (mul-one (suc n)) (mul-pos (zero-lt-suc n) (down-pos e))) h)
 
 value-equal : (x : Float) (t : Bool) (n : ℕ) → HasValue x t n 1 → T (eq x (fin t n (pos 0)))
 unfolding eq
@@ -81,7 +82,8 @@ unfolding double
 kept-worth q k h l =
     round-exact binary64 false (q * 2 ^ k) 1 q (k + 1074) (zero-lt-suc 0) h
     (lt-of-lt-of-le (shl-lt 53 (k + 1074) h) (pow-mono {j = 2098} (omega arith)))
-    (mul-assoc q (2 ^ k) (2 ^ 1074) ∙ ap (λ (j : ℕ). q * j) (sym (pow-add 2 k 1074)) ∙ sym (mul-one (q * 2 ^ (k + 1074))))
+    (mul-assoc q (2 ^ k) (2 ^ 1074) ∙ ap (λ (j : ℕ). q * j) (sym (pow-add 2 k 1074)) ∙ sym
+    (mul-one (q * 2 ^ (k + 1074))))
 
 pub double-worth : (q k : ℕ) → q ≤ 2 ^ 53 → k ≤ 11 → Worth (pos (q * 2 ^ k)) (double (q * 2 ^ k))
 double-worth q k h l = go (eq-or-lt-of-le h)

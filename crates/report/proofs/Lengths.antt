@@ -127,7 +127,13 @@ module _ (axis : Axis) (s : Side) (c : Carried) (o : InOrder c) where
   case-most : length (spaced (caseNumbers (extreme axis s c))) ≤ 52
   case-most =
       rw case-numbers
-      (omega (arith, spaced-digits (case .wind ∷ case .internal ∷ case .chosen) case-digits, chosen .0, o .faces-counted .high))
+      (omega (
+        arith,
+        spaced-digits
+            (case .wind ∷ case .internal ∷ case .chosen) case-digits,
+        chosen .0,
+        o .faces-counted .high,
+      ))
 
   total-small : natAbs (extreme axis s c .total) ≤ 7920000000000000000
   total-small =
@@ -145,7 +151,8 @@ module _ (axis : Axis) (s : Side) (c : Carried) (o : InOrder c) where
 axis-most : (axis : Axis) (letter : ℕ) (c : Carried) → InOrder c → length (axisText letter (extremes axis c)) ≤ 158
 axis-most axis letter c o =
     rw axis-parts
-    (simp length-append (omega (arith, line-most axis Greatest c o letter max refl, line-most axis Least c o letter min refl)))
+    (simp length-append
+    (omega (arith, line-most axis Greatest c o letter max refl, line-most axis Least c o letter min refl)))
 
 pub report-most : (c : Carried) → InOrder c → length (reportText c) ≤ 474
 unfolding reportText sixExtremes

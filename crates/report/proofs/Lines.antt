@@ -57,5 +57,6 @@ pub numbers-more : {l m n : List ℕ} {at r r′ : ℕ} (ns : List ℕ) (i : ℕ
     → Put l at (spaced (take (i + 1) ns)) n r′
 numbers-more ns i h p q =
     rw
-    (ap (λ (k : ℕ). spaced (take k ns)) (add-one i) ∙ ap spaced (take-suc ns i 0 h) ∙ spaced-append (take i ns) (getD ns i 0 ∷ []))
+    (ap (λ (k : ℕ). spaced (take k ns)) (add-one i) ∙ ap spaced (take-suc ns i 0 h) ∙ spaced-append (take i ns)
+    (getD ns i 0 ∷ []))
     (then p q)

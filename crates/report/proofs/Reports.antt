@@ -40,7 +40,8 @@ module _ (j : Job) (w : Reckoning) (e : w ≡ worstOf j) where
   judges = ap (λ (v : Reckoning). record { number = v .number; line = v .line }) e ∙ reckoned-verdict (judged j)
 
   pub report-refused : (buf : List ℕ) → (w .number ≡ 0 → ⊥)
-      → (written.Refused (w .number) (w .line) ≡ jobWriting reportText (judged j) buf) × (buf ≡ jobBuffer reportText (judged j) buf)
+      → (written.Refused (w .number) (w .line) ≡ jobWriting reportText (judged j) buf)
+      × (buf ≡ jobBuffer reportText (judged j) buf)
   unfolding verdict-of
   report-refused buf h = rw (judged-refused j verdict-of judges h) (refl, refl)
 
@@ -54,7 +55,11 @@ module _ (j : Job) (w : Reckoning) (e : w ≡ worstOf j) where
   unfolding worstOf reportText verdict-of
   report-accepted z =
       let a = judged-accepted j verdict-of judges z in
-      record { order = taken-is j verdict-of judges z .order; accepted = a; text = ap (λ (v : Reckoning). sixText (v .six)) (e ∙ ap reckoned a) }
+      record {
+        order = taken-is j verdict-of judges z .order;
+        accepted = a;
+        text = ap (λ (v : Reckoning). sixText (v .six)) (e ∙ ap reckoned a);
+      }
 
 -- ---- a text that is read
 

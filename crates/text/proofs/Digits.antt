@@ -97,7 +97,8 @@ all-one n h = rw (le-leb 48 (48 + n) (omega arith), le-leb (48 + n) 57 (omega ar
 pub digits-all : (n : ℕ) → allDigits (digits n) ≡ true
 digits-all = by-tens (λ n. allDigits (digits n) ≡ true)
     (λ n h. rw (digits-small n h) (all-one n h))
-    (λ n h ih. rw (digits-more n h) (all-append (digits (n / 10)) ((48 + n % 10) ∷ []) ih (all-one (n % 10) (omega arith))))
+    (λ n h ih.
+    rw (digits-more n h) (all-append (digits (n / 10)) ((48 + n % 10) ∷ []) ih (all-one (n % 10) (omega arith))))
 
 -- a list that begins with the byte b
 pub record Begins (l : List ℕ) (low : ℕ) : Type 0 where
@@ -109,7 +110,13 @@ pub record Begins (l : List ℕ) (low : ℕ) : Type 0 where
 
 begins-append : (l t : List ℕ) (low : ℕ) → Begins l low → Begins (l ++ t) low
 begins-append l t low b =
-    record { head = b .head; rest = b .rest ++ t; is = ap (λ (x : List ℕ). x ++ t) (b .is); least = b .least; most = b .most }
+    record {
+      head = b .head;
+      rest = b .rest ++ t;
+      is = ap (λ (x : List ℕ). x ++ t) (b .is);
+      least = b .least;
+      most = b .most;
+    }
 
 pub digits-begin : (n : ℕ) → Begins (digits n) 48
 digits-begin = by-tens (λ n. Begins (digits n) 48)
@@ -133,7 +140,10 @@ pub digits-read : (n : ℕ) → value (digits n) ≡ n
 unfolding value valueAfter
 digits-read = by-tens (λ n. valueAfter 0 (digits n) ≡ n)
     (λ n h. rw (digits-small n h) (omega arith))
-    (λ n h ih. ap (valueAfter 0) (digits-more n h) ∙ value-append 0 (digits (n / 10)) ((48 + n % 10) ∷ []) ∙ (rw ih (omega arith)))
+    (λ n h ih.
+    ap (valueAfter 0) (digits-more n h)
+    ∙ value-append 0 (digits (n / 10)) ((48 + n % 10) ∷ [])
+    ∙ (rw ih (omega arith)))
 
 signed-plain : (l : List ℕ) → Begins l 48 → signedValue l ≡ pos (value l)
 unfolding signedValue

@@ -18,11 +18,17 @@ plain n =
     by-test (ltb n 10) (λ e. rw (digits-small n (ltb-true n 10 e)))
     (λ e. let b = digits-lead n (omega (arith, ltb-false n 10 e)) in
     rw (b .is)
-    (by-test (ltb 1 (length (b .head ∷ b .rest))) (λ t. rw (t, ne-eqb (b .head) 48 (λ q. omega (arith, b .least)))) (λ t. rw t)))
+    (by-test (ltb 1 (length (b .head ∷ b .rest))) (λ t. rw (t, ne-eqb (b .head) 48 (λ q. omega (arith, b .least))))
+    (λ t. rw t)))
 
 pub digits-are : (n : ℕ) → AreDigits n (digits n)
 digits-are n =
-    record { some = omega (arith, ap length (digits-begin n .is)); each = digits-all n; plain = plain n; stand = digits-read n }
+    record {
+      some = omega (arith, ap length (digits-begin n .is));
+      each = digits-all n;
+      plain = plain n;
+      stand = digits-read n;
+    }
 
 -- ---- and no others are
 

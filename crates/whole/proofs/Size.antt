@@ -92,7 +92,13 @@ said f z e h = e ∙ ap f (returned w64 z h .same)
 
 abbrev pub nat : (w : Width) {n : ℕ} (k : ℕ) → n ≤ k → T (ltb k (2 ^ hbits w)) → Num
 nat w {n} k h t =
-    record { has = toZ w n; is = pos n; most = k; same = toZ-pos w (lt-of-le-of-lt h (ltb→lt k (2 ^ hbits w) t)); small = h }
+    record {
+      has = toZ w n;
+      is = pos n;
+      most = k;
+      same = toZ-pos w (lt-of-le-of-lt h (ltb→lt k (2 ^ hbits w) t));
+      small = h;
+    }
 
 abbrev pub num≤ : (z : ℤ) {k : ℕ} → natAbs z ≤ k → Num
 num≤ z {k} h = record { has = z; is = z; most = k; same = refl; small = h }
@@ -103,7 +109,13 @@ num z = num≤ z (le-refl (natAbs z))
 -- what a local holds is read back
 abbrev pub back< : (w : Width) (n : Num) → n .most < 2 ^ hbits w → Num
 back< w n h =
-    record { has = toZ w (ofZ w (n .has)); is = n .is; most = n .most; same = toZ-ofZ (fit< {w = w} n h) ∙ n .same; small = n .small }
+    record {
+      has = toZ w (ofZ w (n .has));
+      is = n .is;
+      most = n .most;
+      same = toZ-ofZ (fit< {w = w} n h) ∙ n .same;
+      small = n .small;
+    }
 
 abbrev pub back : (w : Width) (n : Num) → T (ltb (n .most) (2 ^ hbits w)) → Num
 back w n t = back< w n (ltb→lt (n .most) (2 ^ hbits w) t)
@@ -125,19 +137,43 @@ infixl 6 _⊕_ _⊖_
 infixl 7 _⊗_
 abbrev pub _⊕_ : Num → Num → Num
 m ⊕ n =
-    record { has = m .has +ℤ n .has; is = m .is +ℤ n .is; most = m .most + n .most; same = ap₂ _+ℤ_ (m .same) (n .same); small = plus-small (m .is) (n .is) (m .small) (n .small) }
+    record {
+      has = m .has +ℤ n .has;
+      is = m .is +ℤ n .is;
+      most = m .most + n .most;
+      same = ap₂ _+ℤ_ (m .same) (n .same);
+      small = plus-small (m .is) (n .is) (m .small) (n .small);
+    }
 
 abbrev pub _⊖_ : Num → Num → Num
 m ⊖ n =
-    record { has = m .has -ℤ n .has; is = m .is -ℤ n .is; most = m .most + n .most; same = ap₂ _-ℤ_ (m .same) (n .same); small = minus-small (m .is) (n .is) (m .small) (n .small) }
+    record {
+      has = m .has -ℤ n .has;
+      is = m .is -ℤ n .is;
+      most = m .most + n .most;
+      same = ap₂ _-ℤ_ (m .same) (n .same);
+      small = minus-small (m .is) (n .is) (m .small) (n .small);
+    }
 
 abbrev pub _⊗_ : Num → Num → Num
 m ⊗ n =
-    record { has = m .has *ℤ n .has; is = m .is *ℤ n .is; most = m .most * n .most; same = ap₂ _*ℤ_ (m .same) (n .same); small = times-small (m .is) (n .is) (m .small) (n .small) }
+    record {
+      has = m .has *ℤ n .has;
+      is = m .is *ℤ n .is;
+      most = m .most * n .most;
+      same = ap₂ _*ℤ_ (m .same) (n .same);
+      small = times-small (m .is) (n .is) (m .small) (n .small);
+    }
 
 abbrev pub over : Num → ℕ → Num
 over n d =
-    record { has = quotZ (n .has) (pos d); is = quotZ (n .is) (pos d); most = n .most / d; same = ap (λ (v : ℤ). quotZ v (pos d)) (n .same); small = over-small (n .is) d (n .small) }
+    record {
+      has = quotZ (n .has) (pos d);
+      is = quotZ (n .is) (pos d);
+      most = n .most / d;
+      same = ap (λ (v : ℤ). quotZ v (pos d)) (n .same);
+      small = over-small (n .is) d (n .small);
+    }
 
 -- what a callee or a test says of what the machine has, said of the number, and the other way
 pub bound : (n : Num) → natAbs (n .has) ≤ n .most
@@ -156,8 +192,10 @@ lt-no m n e = subst₂ (λ (x y : ℤ). y ≤ℤ x) (m .same) (n .same) (lt-fals
 -- a number that is not negative, cast to an unsigned type
 pub unsigned : {w : Width} (n : Num) → pos 0 ≤ℤ n .is → T (ltb (n .most) (2 ^ bits w))
     → T (nonNeg (n .has)) × Fits w (natAbs (n .has))
-unsigned {w} n h t =
-    (subst (λ (v : ℤ). T (nonNeg v)) (sym (n .same)) (yes-nonNeg h), record { fits = lt-of-le-of-lt (bound n) (ltb→lt (n .most) (2 ^ bits w) t) })
+unsigned {w} n h t = (
+  subst (λ (v : ℤ). T (nonNeg v)) (sym (n .same)) (yes-nonNeg h),
+  record { fits = lt-of-le-of-lt (bound n) (ltb→lt (n .most) (2 ^ bits w) t) },
+)
 
 -- with a bound of its own, where the operations' bounds are too wide
 abbrev pub tight : (n : Num) (k : ℕ) → natAbs (n .is) ≤ k → Num

@@ -17,8 +17,10 @@ returns c =
     let s = w .before .before .before in
     let buf = now (s .args .out) in
     let number = ap decimal (param (s .fits .number) .same) in
-    let e = w .write-decimal .ensures in
-    (c .text-of .ensures ∙ ap textOf (e .0 ∙ ap (λ (t : List ℕ). writing t buf) number), e .1 ∙ ap (λ (t : List ℕ). bufferAfter t buf) number)
+    let e = w .write-decimal .ensures in (
+      c .text-of .ensures ∙ ap textOf (e .0 ∙ ap (λ (t : List ℕ). writing t buf) number),
+      e .1 ∙ ap (λ (t : List ℕ). bufferAfter t buf) number,
+    )
 
 pub aral-digits-spec : {M : Type 1} → statement M
 aral-digits-spec = tie.close (tie.spec (λ c κs. search needs) (λ c κs. search needs) (λ c. search needs) returns)

@@ -11,8 +11,16 @@ returns c =
     let g = c .before in
     let f = g .before .fits in
     let e =
-    rw
-    (param (f .h) .same, param (f .a) .same, param (f .b) .same, param (f .density) .same, param (f .kind) .same, param (f .x) .same, param (f .direction) .same, param (f .internal) .same)
+    rw (
+      param (f .h) .same,
+      param (f .a) .same,
+      param (f .b) .same,
+      param (f .density) .same,
+      param (f .kind) .same,
+      param (f .x) .same,
+      param (f .direction) .same,
+      param (f .internal) .same,
+    )
     at (g .net .ensures) in
     c .coefficient-of .ensures ∙ ap coefficientOf e
 

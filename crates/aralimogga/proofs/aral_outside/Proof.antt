@@ -17,8 +17,14 @@ returns c =
     let building : Building =
     record { h = a .h; a = a .a; b = a .b; density = a .density; kind = a .kind; x = a .x } in
     let e =
-    rw
-    (param (f .h) .same, param (f .a) .same, param (f .b) .same, param (f .density) .same, param (f .kind) .same, param (f .x) .same)
+    rw (
+      param (f .h) .same,
+      param (f .a) .same,
+      param (f .b) .same,
+      param (f .density) .same,
+      param (f .kind) .same,
+      param (f .x) .same,
+    )
     at (g .outside .ensures) in
     c .coefficient-of .ensures
     ∙ ap coefficientOf (e ∙ ap (λ (z : ℤ). outsideOf building z (a .place)) (param (f .direction) .same))

@@ -31,7 +31,8 @@ unfolding value
 returns-2 c =
     let l = c .before .before .before .before in
     sym
-    (l .loop .inv .3 ∙ read-high (l .before .args .s .now) (l .loop .i) (l .loop .v) (search needs) (c .before .if1 .left) (c .if2 .taken))
+    (l .loop .inv .3 ∙ read-high (l .before .args .s .now) (l .loop .i) (l .loop .v) (search needs)
+    (c .before .if1 .left) (c .if2 .taken))
 
 mul-v : tie.Need-mul-v Inv-loop μ-loop
 mul-v c =

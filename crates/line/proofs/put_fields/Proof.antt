@@ -47,7 +47,8 @@ loop-again c =
 
 -- the first field, and with it all of them
 one : (l : tie.At-loop Inv-loop μ-loop)
-    → Put (now (start l .args .buf)) (start l .args .at) (lineText (take 1 (held (start l .args .x)))) (l .before .before .before .put-field .last .0) (l .before .before .before .put-field .result)
+    → Put (now (start l .args .buf)) (start l .args .at) (lineText (take 1 (held (start l .args .x))))
+    (l .before .before .before .put-field .last .0) (l .before .before .before .put-field .result)
 one l =
     let p = l .before .before .before in
     rw (line-first (held (start l .args .x))) (rw (p .before .before .field-at .ensures) at (p .put-field .ensures))

@@ -21,8 +21,10 @@ loop-holds c = (search needs, refl)
 returns : tie.Need-returns Inv-loop μ-loop
 returns c =
     let l = c .before .before .before .before in
-    let s = l .before .before .args .s .now in
-    (omega (arith, end-here s (l .loop .i) (omega arith) (sym (c .before .ends .ensures) ∙ c .if1 .taken)), search needs)
+    let s = l .before .before .args .s .now in (
+      omega (arith, end-here s (l .loop .i) (omega arith) (sym (c .before .ends .ensures) ∙ c .if1 .taken)),
+      search needs,
+    )
 
 loop-again : tie.Need-loop-again Inv-loop μ-loop
 loop-again c =

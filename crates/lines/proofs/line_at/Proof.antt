@@ -25,7 +25,8 @@ returns c =
     let s = l .before .before .args .s .now in
     c .no-line .ensures
     ∙ sym
-    (l .loop .inv ∙ on-open s (l .loop .next) (f .end-of .result) (f .end-of .ensures .0) (l .loop .k) (l .loop .fields) (c .before .if1 .taken))
+    (l .loop .inv ∙ on-open s (l .loop .next) (f .end-of .result) (f .end-of .ensures .0) (l .loop .k)
+    (l .loop .fields) (c .before .if1 .taken))
 
 returns-2 : tie.Need-returns-2 Inv-loop μ-loop
 returns-2 c =
@@ -34,7 +35,9 @@ returns-2 c =
     let l = f .before .before in
     let s = l .before .before .args .s .now in
     sym
-    (l .loop .inv ∙ on-ended s (l .loop .next) (f .end-of .result) (f .end-of .ensures .0) (l .loop .k) (l .loop .fields) (p .before .if1 .left) (p .slot-of .result) (p .slot-of .ensures) (search needs) (c .if2 .taken))
+    (l .loop .inv ∙ on-ended s (l .loop .next) (f .end-of .result) (f .end-of .ensures .0) (l .loop .k)
+    (l .loop .fields) (p .before .if1 .left) (p .slot-of .result) (p .slot-of .ensures) (search needs)
+    (c .if2 .taken))
 
 loop-again : tie.Need-loop-again Inv-loop μ-loop
 loop-again c =

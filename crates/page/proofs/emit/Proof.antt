@@ -46,8 +46,11 @@ loop-again : tie.Need-loop-again Inv-loop μ-loop
 loop-again c =
     let l = c .before .before in
     let e = l .before .before in
-    let k = put-length (l .loop .inv .1) in
-    (search needs, put-more (now (e .before .before .before .args .text)) (l .loop .i) (omega (arith, e .lesser .ensures)) (l .loop .inv .1) (record { end = omega arith; bytes = refl }))
+    let k = put-length (l .loop .inv .1) in (
+      search needs,
+      put-more (now (e .before .before .before .args .text)) (l .loop .i) (omega (arith, e .lesser .ensures))
+          (l .loop .inv .1) (record { end = omega arith; bytes = refl }),
+    )
 
 same-length : tie.Need-same-length Inv-loop μ-loop
 same-length c = put-length (c .before .loop .inv .1)
@@ -60,8 +63,10 @@ returns-2 c =
     let all : take (l .loop .i) (now (a .text)) ≡ asked e =
     sym (take-take (l .loop .i) (a .n) (now (a .text)) (omega (arith, e .lesser .ensures)))
     ∙ take-all (l .loop .i) (asked e) (omega (arith, sized e)) in
-    let room : length (asked e) ≤ length (now (a .buf)) = omega (arith, sized e) in
-    (simp (sized e, le-leb _ _ (l .before .if1 .left)), simp (le-leb _ _ room) (put-start (rw all at (l .loop .inv .1)) room))
+    let room : length (asked e) ≤ length (now (a .buf)) = omega (arith, sized e) in (
+      simp (sized e, le-leb _ _ (l .before .if1 .left)),
+      simp (le-leb _ _ room) (put-start (rw all at (l .loop .inv .1)) room),
+    )
 
 pub emit-spec : {M : Type 1} → statement M
 emit-spec =

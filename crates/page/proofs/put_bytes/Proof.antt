@@ -23,8 +23,11 @@ loop-holds c = (search needs, record { end = omega (arith, c .lesser .ensures); 
 loop-again : tie.Need-loop-again Inv-loop μ-loop
 loop-again c =
     let p = c .before .before in
-    let l = p .before .before .before .before in
-    (search needs, put-more (now (l .before .before .before .before .args .s)) (l .loop .i) (search needs) (l .loop .inv .1) (p .put-byte .ensures))
+    let l = p .before .before .before .before in (
+      search needs,
+      put-more (now (l .before .before .before .before .args .s)) (l .loop .i) (search needs) (l .loop .inv .1)
+          (p .put-byte .ensures),
+    )
 
 same-length : tie.Need-same-length Inv-loop μ-loop
 same-length c = put-length (c .before .loop .inv .1)

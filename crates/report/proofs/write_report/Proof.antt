@@ -24,7 +24,8 @@ returns-2 c =
     let a = w .before .before .args in
     let k = report-accepted (a .j) (w .worst-cases .result) (w .worst-cases .ensures) (i .if1 .left) in
     rw (k .accepted)
-    (emitted (rw (k .text) at (p .put-six .ensures)) (report-most (carried (a .j)) (k .order)) (now (a .buf)) (e .emit .ensures))
+    (emitted (rw (k .text) at (p .put-six .ensures)) (report-most (carried (a .j)) (k .order)) (now (a .buf))
+    (e .emit .ensures))
 
 pub write-report-spec : {M : Type 1} → statement M
 write-report-spec =

@@ -68,4 +68,7 @@ module _ (t : ℕ) where
 pub +put-long-spec : {M : Type 1} → statement M
 +put-long-spec =
     close μ
-    (λ t. lts.spec (put-byte.Asked, put-byte.Learnt, below t, f.Post) (at-t t) f.Post (cast-put-byte t) (add-put-byte t) (put-byte-requires t) (same-length t) (returns t) (put-long-requires t) (cast-put-byte-2 t) (add-put-byte-2 t) (put-byte-requires-2 t) (same-length-2 t) (returns-2 t))
+    (λ t.
+    lts.spec (put-byte.Asked, put-byte.Learnt, below t, f.Post) (at-t t) f.Post (cast-put-byte t) (add-put-byte t)
+    (put-byte-requires t) (same-length t) (returns t) (put-long-requires t) (cast-put-byte-2 t) (add-put-byte-2 t)
+    (put-byte-requires-2 t) (same-length-2 t) (returns-2 t))

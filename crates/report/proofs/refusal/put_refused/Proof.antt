@@ -12,7 +12,8 @@ returns c =
     let number = line .before .before .before .before in
     let word = number .before .before .before .before in
     rw refused-parts
-    (then (then (then (word .put-bytes .ensures) (number .put-spaced .ensures)) (line .put-spaced2 .ensures)) (end .put-byte .ensures))
+    (then (then (then (word .put-bytes .ensures) (number .put-spaced .ensures)) (line .put-spaced2 .ensures))
+    (end .put-byte .ensures))
 
 pub put-refused-spec : {M : Type 1} → statement M
 put-refused-spec =

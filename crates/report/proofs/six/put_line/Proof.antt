@@ -18,7 +18,9 @@ returns c =
     let read = toZ-ofZ w64 (e .total) (record { sfits = total .before .struct-told .given .0 .1 }) in
     rw line-parts
     (then
-    (then (then (then (axis .put-byte .ensures) (word .put-bytes .ensures)) (rw read at (total .put-decimal .ensures))) (case .put-case .ensures))
+    (then
+    (then (then (axis .put-byte .ensures) (word .put-bytes .ensures)) (rw read at (total .put-decimal .ensures)))
+    (case .put-case .ensures))
     (end .put-byte2 .ensures))
 
 pub put-line-spec : {M : Type 1} → statement M

@@ -32,8 +32,11 @@ loop-again c =
     let p = c .before .before in
     let w = p .before in
     let l = w .before .before .before .before in
-    let a = l .before .before .before .before .args in
-    (search needs, numbers-more (now (a .ns)) (l .loop .i) (search needs) (l .loop .inv .1) (rw (w .wide .ensures) at (p .put-spaced .ensures)))
+    let a = l .before .before .before .before .args in (
+      search needs,
+      numbers-more (now (a .ns)) (l .loop .i) (search needs) (l .loop .inv .1)
+          (rw (w .wide .ensures) at (p .put-spaced .ensures)),
+    )
 
 same-length : tie.Need-same-length Inv-loop μ-loop
 same-length c = put-length (c .before .loop .inv .1)
