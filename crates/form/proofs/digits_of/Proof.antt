@@ -63,17 +63,5 @@ returns-3 c =
 pub digits-of-spec : {M : Type 1} → statement M
 digits-of-spec =
     tie.close
-    (tie.spec
-    Inv-loop
-    μ-loop
-    loop-holds
-    (λ c. search needs)
-    returns
-    returns-2
-    mul-v
-    (λ c. search needs)
-    add-v
-    (λ c. search needs)
-    (λ c. search needs)
-    loop-again
-    returns-3)
+    (tie.spec Inv-loop μ-loop loop-holds (λ c. search needs) returns returns-2 mul-v (λ c. search needs) add-v
+    (λ c. search needs) (λ c. search needs) loop-again returns-3)

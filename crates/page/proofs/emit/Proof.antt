@@ -71,16 +71,5 @@ returns-2 c =
 pub emit-spec : {M : Type 1} → statement M
 emit-spec =
     tie.close
-    (tie.spec
-    Inv-loop
-    μ-loop
-    (λ c κs. search needs)
-    returns
-    loop-holds
-    shared-slice-read-buf
-    slice-write-buf
-    (λ c. search needs)
-    (λ c. search needs)
-    loop-again
-    same-length
-    returns-2)
+    (tie.spec Inv-loop μ-loop (λ c κs. search needs) returns loop-holds shared-slice-read-buf slice-write-buf
+    (λ c. search needs) (λ c. search needs) loop-again same-length returns-2)

@@ -54,14 +54,5 @@ returns-2 c =
 pub of-size-spec : {M : Type 1} → statement M
 of-size-spec =
     tie.close
-    (tie.spec
-    (λ c κs. search needs)
-    div-q
-    int-to-float-low
-    int-to-float-low-2
-    rem-if1
-    returns
-    add-next
-    int-to-float-high
-    int-to-float-high-2
-    returns-2)
+    (tie.spec (λ c κs. search needs) div-q int-to-float-low int-to-float-low-2 rem-if1 returns add-next
+    int-to-float-high int-to-float-high-2 returns-2)

@@ -22,13 +22,5 @@ returns-2 c =
 pub put-alternatives-spec : {M : Type 1} → statement M
 put-alternatives-spec =
     tie.close
-    (tie.spec
-    (λ c. search needs)
-    slice-aggregate-put-numbers
-    (λ c κs. search needs)
-    (λ c. search needs)
-    returns
-    (λ c. search needs)
-    (λ c κs. search needs)
-    (λ c. search needs)
-    returns-2)
+    (tie.spec (λ c. search needs) slice-aggregate-put-numbers (λ c κs. search needs) (λ c. search needs) returns
+    (λ c. search needs) (λ c κs. search needs) (λ c. search needs) returns-2)
