@@ -3,7 +3,7 @@
 use building::Building;
 use panel::Point;
 ghost use mathlib.Core.Path.{_≡_};
-ghost use Rattle.text.specs.Digits.{decimal};
+ghost use Rattle.whole.specs.Digits.{decimal};
 ghost use Rattle.page.specs.Writing.{writing, bufferAfter};
 ghost use Rattle.book.specs.Question.{outsideOf, netOf};
 ghost use Rattle.panel.specs.Bracket.{panelOf};

@@ -3,8 +3,8 @@ use Prim.Native.Nat.{ℕ, suc}
 use mathlib.Core.Path.{_≡_, sym, ap, _∙_}
 use mathlib.Core.List.{List, _∷_}
 use lib.IntN.{ℤ, pos, negsuc}
-use Rattle.text.specs.Digits.{decimal}
-use Rattle.text.proofs.Meaning.{digits-are, digits-only}
+use Rattle.whole.specs.Digits.{decimal}
+use Rattle.whole.proofs.AreDigits.{digits-are, digits-only}
 use Rattle.claims.specs.Decimal.{IsDecimal, plain, minus}
 
 pub decimal-is : (z : ℤ) → IsDecimal z (decimal z)

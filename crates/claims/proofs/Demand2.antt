@@ -9,7 +9,7 @@ use lib.ListN.{take}
 use Rattle.page.specs.declared.Writing.{Writing}
 use Rattle.page.specs.declared.Writing.the-variants as written
 use Rattle.page.specs.Writing.{writing}
-use Rattle.text.specs.Digits.{decimal}
+use Rattle.whole.specs.Digits.{decimal}
 use Rattle.building.specs.declared.Building.{Building}
 use Rattle.book.specs.declared.Answer as book
 use Rattle.book.specs.Question.{outsideOf, netOf}

@@ -9,7 +9,7 @@ use lib.IntN.{ℤ, pos, negℤ}
 use Rattle.whole.specs.Lists.{Every}
 use Rattle.whole.specs.Round.{halfUp, roundAway, roundDown, leftOver}
 use Rattle.whole.specs.Newton.{newtons, remainder}
-use Rattle.text.specs.Digits.{allDigits, valueAfter, value}
+use Rattle.whole.specs.Digits.{allDigits, valueAfter, value}
 use Rattle.form.specs.Field.{digitsInForm, unsigned, negative, number, field}
 use Rattle.lines.specs.Lines.{split, fieldsOf, rowsOf, rows}
 use Rattle.building.specs.declared.Building.{Building}

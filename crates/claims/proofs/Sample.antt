@@ -6,7 +6,7 @@ use Prim.Native.String.{String, [] as none, _∷_ as _then_, _++_ as _&_}
 use mathlib.Core.Path.{_≡_, refl}
 use mathlib.Core.List.{List, [], _∷_}
 use Rattle.whole.specs.Round.{halfUp, roundAway}
-use Rattle.text.specs.Digits.{digitsWithin, digits, decimal, allDigits, valueAfter, value}
+use Rattle.whole.specs.Digits.{digitsWithin, digits, decimal, allDigits, valueAfter, value}
 use Rattle.form.specs.Field.{digitsInForm, unsigned, negative, number, field}
 use Rattle.lines.specs.Lines.{split, fieldsOf, rowsOf, rows}
 use Rattle.book.specs.Line.{spotFrom, lineAt}

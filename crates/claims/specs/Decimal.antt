@@ -2,7 +2,7 @@
 use Prim.Native.Nat.{ℕ, suc}
 use mathlib.Core.List.{List, _∷_}
 use lib.IntN.{ℤ, pos, negsuc}
-use Rattle.text.specs.Digits.{AreDigits}
+use Rattle.whole.specs.Digits.{AreDigits}
 
 pub data IsDecimal : ℤ → List ℕ → Type 0 where
   plain : {n : ℕ} {ds : List ℕ} → AreDigits n ds → IsDecimal (pos n) ds

@@ -15,9 +15,9 @@ use borrow.Author.Tests.{le-leb, lt-leb, le-ltb, lt-ltb, eq-eqb, ne-eqb, leb-tru
 use Rattle.whole.proofs.Tests.{by-test, and-true}
 use Rattle.form.specs.declared.Field.{Field}
 use Rattle.form.specs.declared.Field.the-variants.{Bad, Plus, Minus, Letter, Dash}
-use Rattle.text.specs.Digits.{digits, decimal, isDigit, allDigits, leadingZero, valueAfter, value}
+use Rattle.whole.specs.Digits.{digits, decimal, isDigit, allDigits, leadingZero, valueAfter, value}
 use Rattle.form.specs.Field.{first, digitsInForm, unsigned, negative, number, field}
-use Rattle.text.proofs.Digits.{Begins, digits-all, digits-begin, digits-lead, digits-length, digits-read}
+use Rattle.whole.proofs.Digits.{Begins, digits-all, digits-begin, digits-lead, digits-length, digits-read}
 
 -- ---- digit by digit, from a place on
 

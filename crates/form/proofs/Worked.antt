@@ -2,7 +2,7 @@
 use mathlib.Core.Path.{_≡_, refl}
 use mathlib.Core.List.{[], _∷_}
 use Rattle.form.specs.declared.Field.the-variants.{Bad, Plus, Minus, Dash}
-use Rattle.text.specs.Digits.{allDigits, valueAfter, value}
+use Rattle.whole.specs.Digits.{allDigits, valueAfter, value}
 use Rattle.form.specs.Field.{digitsInForm, unsigned, negative, number, field}
 
 -- 9999999 and 12345678, 0 and 00

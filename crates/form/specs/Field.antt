@@ -7,7 +7,7 @@ use lib.Dec.{ltb, leb, eqb}
 use lib.ListN.{length, getD, drop}
 use Rattle.form.specs.declared.Field.{Field}
 use Rattle.form.specs.declared.Field.the-variants.{Bad, Plus, Minus, Letter, Dash}
-use Rattle.text.specs.Digits.{allDigits, leadingZero, value}
+use Rattle.whole.specs.Digits.{allDigits, leadingZero, value}
 
 abbrev pub first : List ℕ → ℕ
 first f = getD f 0 0

@@ -3,7 +3,7 @@ ghost use mathlib.Core.Path.{_≡_};
 ghost use mathlib.Core.Bool.{cond};
 ghost use Prim.Native.Nat.{_≤_};
 ghost use lib.ListN.{length};
-ghost use Rattle.text.specs.Digits.{allDigits, value};
+ghost use Rattle.whole.specs.Digits.{allDigits, value};
 ghost use Rattle.form.specs.Field.{unsigned, negative, number, field};
 
 // What a field says. Minus holds no 0. Bad is out of form.

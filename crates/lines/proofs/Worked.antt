@@ -2,7 +2,7 @@
 use mathlib.Core.Path.{_≡_, refl}
 use mathlib.Core.List.{[], _∷_}
 use Rattle.form.specs.declared.Field.the-variants.{Bad, Plus, Minus, Letter, Dash}
-use Rattle.text.specs.Digits.{allDigits, valueAfter, value, digits}
+use Rattle.whole.specs.Digits.{allDigits, valueAfter, value, digits}
 use Rattle.form.specs.Field.{digitsInForm, unsigned, number, field}
 use Rattle.lines.specs.Lines.{split, fieldsOf, rowsOf, rows, lineText, textOf}
 

@@ -7,7 +7,7 @@ use lib.ListN.{length}
 use Rattle.whole.specs.Lists.{Every}
 use Rattle.form.specs.declared.Field.{Field}
 use Rattle.form.specs.declared.Field.the-variants.{Bad, Plus, Minus, Letter, Dash}
-use Rattle.text.specs.Digits.{digits}
+use Rattle.whole.specs.Digits.{digits}
 use Rattle.form.specs.Field.{field}
 
 -- ---- from bytes to fields

@@ -11,8 +11,8 @@ use lib.ListN.{length, length-append}
 use lib.Seq.{take-at}
 use mir.Syntax.{w32}
 use mir.Val.{Fits}
-use Rattle.text.specs.Digits.{digits, decimal}
-use Rattle.text.proofs.Digits.{digits-length, decimal-length}
+use Rattle.whole.specs.Digits.{digits, decimal}
+use Rattle.whole.proofs.Digits.{digits-length, decimal-length}
 use Rattle.job.specs.Carried.{Carried, noWind}
 use Rattle.job.specs.InOrder.{InOrder}
 use Rattle.worst.specs.declared.Axis.{Axis}

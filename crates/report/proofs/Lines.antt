@@ -5,7 +5,7 @@ use Prim.Native.Nat.{ℕ, _+_, _<_}
 use native.Mathlib.Numerals.{add-one}
 use lib.ListN.{length, take, getD}
 use lib.Seq.{take-suc}
-use Rattle.text.specs.Digits.{digits, decimal}
+use Rattle.whole.specs.Digits.{digits, decimal}
 use Rattle.page.specs.Writing.{Put}
 use Rattle.page.proofs.Put.{then}
 use Rattle.worst.specs.declared.Extreme.{Extreme}

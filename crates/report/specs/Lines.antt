@@ -3,7 +3,7 @@
 use Prim.Native.Nat.{ℕ}
 use mathlib.Core.List.{List, [], _∷_, _++_}
 use lib.ListN.{take}
-use Rattle.text.specs.Digits.{digits, decimal}
+use Rattle.whole.specs.Digits.{digits, decimal}
 use Rattle.worst.specs.declared.Extreme.{Extreme}
 use Rattle.worst.specs.declared.Extremes.{Extremes}
 use Rattle.worst.specs.declared.Six.{Six}

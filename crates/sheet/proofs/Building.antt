@@ -13,7 +13,7 @@ use Rattle.whole.proofs.Table.{all-at}
 use Rattle.form.specs.declared.Field.{Field}
 use Rattle.form.specs.declared.Field.the-variants.{Plus}
 use Rattle.lines.specs.Lines.{fieldText}
-use Rattle.text.proofs.Digits.{digits-length}
+use Rattle.whole.proofs.Digits.{digits-length}
 use Rattle.building.specs.declared.Building.{Building}
 use Rattle.building.specs.Roof.{Roof, roof, roofs, roofOf}
 use Rattle.building.specs.Building.{buildingFault}

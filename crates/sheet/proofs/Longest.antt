@@ -10,10 +10,10 @@ use lib.ListN.{length}
 use borrow.Author.Tests.{ltb-true, ltb-false}
 use Rattle.whole.proofs.Tests.{by-test}
 use Rattle.form.specs.declared.Field.{Field}
-use Rattle.text.specs.Digits.{digitsWithin, digits}
+use Rattle.whole.specs.Digits.{digitsWithin, digits}
 use Rattle.whole.specs.Lists.{Every}
 use Rattle.lines.specs.Lines.{fieldsOf, fieldText, NotBad}
-use Rattle.text.proofs.Digits.{by-tens, length-small, length-more, digits-length}
+use Rattle.whole.proofs.Digits.{by-tens, length-small, length-more, digits-length}
 use Rattle.building.specs.declared.Building.{Building}
 use Rattle.rules.specs.declared.Rule.{Rule}
 use Rattle.rules.specs.declared.Rule.the-variants.{LetterFrom, NumberFrom, SizeTo, Direction, Mark}

@@ -2,7 +2,7 @@
 use page::Writing;
 ghost use mathlib.Core.Path.{_≡_};
 ghost use Rattle.page.specs.Writing.{Put, writing, bufferAfter};
-ghost use Rattle.text.specs.Digits.{digits, decimal};
+ghost use Rattle.whole.specs.Digits.{digits, decimal};
 
 // The digits of n, most significant first: those of a tenth of it, and then the last.
 fn put_long(buf: &mut [u8], at: usize, n: u64) -> usize

@@ -8,3 +8,6 @@ pub mod Newtons
 pub mod Tests
 pub mod Table
 pub mod Lists
+pub mod Digits
+pub mod AreDigits
+pub mod DigitsWorked

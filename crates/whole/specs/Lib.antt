@@ -1,4 +1,5 @@
--- Rounding, a total as whole newtons with a remainder, and lists.
+-- Rounding, a total as whole newtons with a remainder, numbers in digits, and lists.
 pub mod Round
 pub mod Newton
+pub mod Digits
 pub mod Lists

@@ -5,7 +5,7 @@ use Prim.Native.Nat.{ℕ}
 use denote.Ref.{now}
 use Rattle.whole.proofs.Size.{param}
 use Rattle.page.specs.Writing.{writing, bufferAfter}
-use Rattle.text.specs.Digits.{decimal}
+use Rattle.whole.specs.Digits.{decimal}
 use Rattle.answers.specs.Answers.{textOf}
 use borrow.Author.Needs.{needs}
 use Rattle.aralimogga.proofs.aral_digits.Statement.{statement}

@@ -4,7 +4,7 @@ use Prim.Native.Nat.{_≤_, _<_, _-_, _^_}
 use mathlib.Core.Path.{_≡_, refl, sym, _∙_}
 use native.Mathlib.Omega.{arith}
 use lib.ListN.{length, getD, drop}
-use Rattle.text.specs.Digits.{value}
+use Rattle.whole.specs.Digits.{value}
 use Rattle.form.proofs.Fields.{readAfter, read-low, read-high, read-next, read-end, value-grows, value-room}
 use borrow.Author.Needs.{needs}
 use Rattle.form.proofs.digits_of.Statement.{statement}

@@ -6,7 +6,7 @@ use borrow.Fn.Kinds.{In}
 use borrow.Fn.PlainCycle.{Measures, is, falls, and}
 use Rattle.page.proofs.Put.{then}
 use Rattle.page.proofs.put_byte.Reads as put-byte
-use Rattle.text.proofs.Digits.{digits-small, digits-more}
+use Rattle.whole.proofs.Digits.{digits-small, digits-more}
 use Rattle.text.proofs.put_long.Reads as f
 use Rattle.text.proofs.put_long.Kinds as f-kinds
 use Rattle.text.proofs.+put_long.Lts-put_long as lts

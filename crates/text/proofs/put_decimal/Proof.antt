@@ -6,8 +6,8 @@ use lib.Signed.{ltZ}
 use mir.Syntax.{w64}
 use mir.ValLaws.{toZ-ofZ}
 use Rattle.page.proofs.Put.{then}
-use Rattle.text.specs.Digits.{digits, decimal}
-use Rattle.text.proofs.Digits.{decimal-below, decimal-above}
+use Rattle.whole.specs.Digits.{digits, decimal}
+use Rattle.whole.proofs.Digits.{decimal-below, decimal-above}
 use borrow.Author.Needs.{needs}
 use Rattle.text.proofs.put_decimal.Statement.{statement}
 use Rattle.text.proofs.put_decimal.Tie as tie

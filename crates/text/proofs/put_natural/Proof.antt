@@ -1,5 +1,5 @@
 -- `put_natural` meets its contract.
-use Rattle.text.proofs.Digits.{digits-small}
+use Rattle.whole.proofs.Digits.{digits-small}
 use borrow.Author.Needs.{needs}
 use Rattle.text.proofs.put_natural.Statement.{statement}
 use Rattle.text.proofs.put_natural.Tie as tie

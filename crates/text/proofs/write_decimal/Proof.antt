@@ -3,7 +3,7 @@ use denote.Ref.{now}
 use mir.Syntax.{w64}
 use mir.ValLaws.{toZ-ofZ}
 use Rattle.page.proofs.Put.{emitted}
-use Rattle.text.proofs.Digits.{decimal-length}
+use Rattle.whole.proofs.Digits.{decimal-length}
 use borrow.Author.Needs.{needs}
 use Rattle.text.proofs.write_decimal.Statement.{statement}
 use Rattle.text.proofs.write_decimal.Tie as tie

@@ -2,7 +2,7 @@
 use mathlib.Core.Path.{_≡_, refl}
 use mathlib.Core.List.{[], _∷_}
 use lib.IntN.{pos, negsuc}
-use Rattle.text.specs.Digits.{decimal}
+use Rattle.whole.specs.Digits.{decimal}
 
 -- 0, and the least number that 64 bits hold
 zero-written : decimal (pos 0) ≡ 48 ∷ []

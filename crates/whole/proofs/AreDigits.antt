@@ -7,9 +7,9 @@ use native.Mathlib.Omega.{arith}
 use lib.Dec.{ltb, leb, eqb}
 use lib.ListN.{length}
 use borrow.Author.Tests.{lt-ltb, ltb-true, ltb-false, leb-true, eqb-false, ne-eqb}
 use Rattle.whole.proofs.Tests.{by-test, and-true}
-use Rattle.text.specs.Digits.{AreDigits, digits, isDigit, allDigits, leadingZero, valueAfter, value}
-use Rattle.text.proofs.Digits.{digits-small, digits-more, digits-all, digits-begin, digits-lead, digits-read}
+use Rattle.whole.specs.Digits.{AreDigits, digits, isDigit, allDigits, leadingZero, valueAfter, value}
+use Rattle.whole.proofs.Digits.{digits-small, digits-more, digits-all, digits-begin, digits-lead, digits-read}
 
 -- ---- they are its digits
 

@@ -1,2 +1,0 @@
--- What a number's digits are, and what digits stand for.
-pub mod Digits
