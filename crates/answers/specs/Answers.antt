@@ -22,37 +22,37 @@ use Rattle.answers.specs.declared.Coefficient.{Coefficient}
 use Rattle.answers.specs.declared.Extreme.{Extreme}
 use Rattle.answers.specs.declared.Double.{Double}
 
-abbrev pub answerOf : Reading → Answer
-answerOf (Accepted c) = record { number = 0; line = 0 }
-answerOf (Refused number line) = record { number = number; line = line }
+abbrev pub hostAnswer : Reading → Answer
+hostAnswer (Accepted c) = record { number = 0; line = 0 }
+hostAnswer (Refused number line) = record { number = number; line = line }
 
 -- ---- a text
 
-abbrev pub noText : ℕ → ℕ → Text
-noText number line = record { number = number; line = line; length = 0 }
+abbrev pub noHostText : ℕ → ℕ → Text
+noHostText number line = record { number = number; line = line; length = 0 }
 
-abbrev pub textOf : Writing → Text
-textOf (written.Length n) = record { number = 0; line = 0; length = n }
-textOf (written.Refused number line) = noText number line
+abbrev pub hostText : Writing → Text
+hostText (written.Length n) = record { number = 0; line = 0; length = n }
+hostText (written.Refused number line) = noHostText number line
 
 -- ---- a coefficient
 
-abbrev pub coefficientOf : book.Answer → Coefficient
-coefficientOf (asked.One v) = record { number = 0; line = 0; count = 1; value = v ∷ pos 0 ∷ [] }
-coefficientOf (asked.Two v w) = record { number = 0; line = 0; count = 2; value = v ∷ w ∷ [] }
-coefficientOf (asked.Refused number line) =
+abbrev pub hostCoefficient : book.Answer → Coefficient
+hostCoefficient (asked.One v) = record { number = 0; line = 0; count = 1; value = v ∷ pos 0 ∷ [] }
+hostCoefficient (asked.Two v w) = record { number = 0; line = 0; count = 2; value = v ∷ w ∷ [] }
+hostCoefficient (asked.Refused number line) =
     record { number = number; line = line; count = 0; value = pos 0 ∷ pos 0 ∷ [] }
 
 -- ---- a double
 
-abbrev pub doubleOf : Panel → Double
-doubleOf (Exact x) = record { exact = 1; low = x; high = x }
-doubleOf (Between low high) = record { exact = 0; low = low; high = high }
+abbrev pub hostDouble : Panel → Double
+hostDouble (Exact x) = record { exact = 1; low = x; high = x }
+hostDouble (Between low high) = record { exact = 0; low = low; high = high }
 
 -- ---- a line of the report
 
-abbrev pub noExtreme : ℕ → ℕ → Extreme
-noExtreme number line =
+abbrev pub noHostExtreme : ℕ → ℕ → Extreme
+noHostExtreme number line =
     record {
       number = number;
       line = line;
@@ -63,8 +63,8 @@ noExtreme number line =
       alternative = replicate 24 0;
     }
 
-abbrev pub extremeOf : worst.Extreme → Extreme
-extremeOf e =
+abbrev pub hostExtreme : worst.Extreme → Extreme
+hostExtreme e =
     record {
       number = 0;
       line = 0;
@@ -76,21 +76,21 @@ extremeOf e =
     }
 
 -- x max, x min, y max, y min, z max, z min; no other line
-unfoldable pub onLine : Six → ℕ → Extreme
-onLine s n =
-    cond (eqb n 1) (extremeOf (s .x .greatest))
-    (cond (eqb n 2) (extremeOf (s .x .least))
-    (cond (eqb n 3) (extremeOf (s .y .greatest))
-    (cond (eqb n 4) (extremeOf (s .y .least))
-    (cond (eqb n 5) (extremeOf (s .z .greatest))
-    (cond (eqb n 6) (extremeOf (s .z .least))
-    (noExtreme 3 0))))))
+unfoldable pub reportLine : Six → ℕ → Extreme
+reportLine s n =
+    cond (eqb n 1) (hostExtreme (s .x .greatest))
+    (cond (eqb n 2) (hostExtreme (s .x .least))
+    (cond (eqb n 3) (hostExtreme (s .y .greatest))
+    (cond (eqb n 4) (hostExtreme (s .y .least))
+    (cond (eqb n 5) (hostExtreme (s .z .greatest))
+    (cond (eqb n 6) (hostExtreme (s .z .least))
+    (noHostExtreme 3 0))))))
 
-abbrev pub lineOf : Six → ℤ → Extreme
-lineOf s (pos n) = onLine s n
-lineOf s (negsuc n) = noExtreme 3 0
+abbrev pub hostLine : Six → ℤ → Extreme
+hostLine s (pos n) = reportLine s n
+hostLine s (negsuc n) = noHostExtreme 3 0
 
 -- the sheet's own refusal first
-abbrev pub totalOf : Reading → ℤ → Extreme
-totalOf (Accepted c) line = lineOf (sixExtremes c) line
-totalOf (Refused number line) l = noExtreme number line
+abbrev pub hostTotal : Reading → ℤ → Extreme
+hostTotal (Accepted c) line = hostLine (sixExtremes c) line
+hostTotal (Refused number line) l = noHostExtreme number line

@@ -3,7 +3,8 @@
 use page::Writing;
 use panel::Panel;
 ghost use mathlib.Core.Path.{_≡_};
-ghost use Rattle.answers.specs.Answers as told;
+ghost use Rattle.answers.specs.Answers.{noHostText, hostText, hostCoefficient, hostDouble, noHostExtreme};
+ghost use Rattle.answers.specs.Answers.{hostExtreme, hostLine};
 
 // The number of a refusal and its line, both 0 where the sheet is accepted.
 #[repr(C)]
@@ -50,7 +51,7 @@ pub struct Double {
 }
 
 pub fn no_text(number: u32, line: u32) -> Text
-    ensures { λ r. ⌜ r ≡ told.noText number line ⌝ }
+    ensures { λ r. ⌜ r ≡ noHostText number line ⌝ }
 {
     Text {
         number: number,
@@ -60,7 +61,7 @@ pub fn no_text(number: u32, line: u32) -> Text
 }
 
 pub fn text_of(w: Writing) -> Text
-    ensures { λ r. ⌜ r ≡ told.textOf w ⌝ }
+    ensures { λ r. ⌜ r ≡ hostText w ⌝ }
 {
     match w {
         Writing::Length(n) => Text {
@@ -73,7 +74,7 @@ pub fn text_of(w: Writing) -> Text
 }
 
 pub fn coefficient_of(a: book::Answer) -> Coefficient
-    ensures { λ r. ⌜ r ≡ told.coefficientOf a ⌝ }
+    ensures { λ r. ⌜ r ≡ hostCoefficient a ⌝ }
 {
     match a {
         book::Answer::One(v) => Coefficient {
@@ -98,7 +99,7 @@ pub fn coefficient_of(a: book::Answer) -> Coefficient
 }
 
 pub fn double_of(p: Panel) -> Double
-    ensures { λ r. ⌜ r ≡ told.doubleOf p ⌝ }
+    ensures { λ r. ⌜ r ≡ hostDouble p ⌝ }
 {
     match p {
         Panel::Exact(x) => Double {
@@ -115,7 +116,7 @@ pub fn double_of(p: Panel) -> Double
 }
 
 pub fn no_extreme(number: u32, line: u32) -> Extreme
-    ensures { λ r. ⌜ r ≡ told.noExtreme number line ⌝ }
+    ensures { λ r. ⌜ r ≡ noHostExtreme number line ⌝ }
 {
     let alternative = [0u8; 24];
     Extreme {
@@ -130,7 +131,7 @@ pub fn no_extreme(number: u32, line: u32) -> Extreme
 }
 
 fn extreme_of(e: worst::Extreme) -> Extreme
-    ensures { λ r. ⌜ r ≡ told.extremeOf e ⌝ }
+    ensures { λ r. ⌜ r ≡ hostExtreme e ⌝ }
 {
     let alternative = e.alternative;
     Extreme {
@@ -146,7 +147,7 @@ fn extreme_of(e: worst::Extreme) -> Extreme
 
 // One line of the report, counted from 1.
 pub fn line_of(six: worst::Six, line: i64) -> Extreme
-    ensures { λ r. ⌜ r ≡ told.lineOf six line ⌝ }
+    ensures { λ r. ⌜ r ≡ hostLine six line ⌝ }
 {
     match line {
         1 => extreme_of(six.x.greatest),

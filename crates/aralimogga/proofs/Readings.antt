@@ -13,9 +13,9 @@ use Rattle.worst.specs.declared.Reckoning.{Reckoning}
 use Rattle.worst.specs.Worst.{reckoned, worstOf}
 use Rattle.report.proofs.Reports.{totals-accepted}
 use Rattle.answers.specs.declared.Text.{Text}
-use Rattle.answers.specs.Answers.{answerOf, noText, textOf, noExtreme, lineOf, totalOf}
+use Rattle.answers.specs.Answers.{hostAnswer, noHostText, hostText, noHostExtreme, hostLine, hostTotal}
 
-answer-told : (x : Reading) → record { number = answer x .number; line = answer x .line } ≡ answerOf x
+answer-told : (x : Reading) → record { number = answer x .number; line = answer x .line } ≡ hostAnswer x
 answer-told (Accepted c) = refl
 answer-told (Refused number line) = refl
 
@@ -24,7 +24,7 @@ refused-told (Accepted c) h = absurd (h refl)
 refused-told (Refused number line) h = refl
 
 module _ (s : List ℕ) (r : Read) (e : r ≡ answer (reading s)) where
-  pub read-told : record { number = r .number; line = r .line } ≡ answerOf (reading s)
+  pub read-told : record { number = r .number; line = r .line } ≡ hostAnswer (reading s)
   read-told = rw e (answer-told (reading s))
 
   read-refused : (r .number ≡ 0 → ⊥) → reading s ≡ Refused (r .number) (r .line)
@@ -36,30 +36,30 @@ module _ (s : List ℕ) (r : Read) (e : r ≡ answer (reading s)) where
 
   module _ (text : Carried → List ℕ) (buf : List ℕ) where
     pub text-refused : (r .number ≡ 0 → ⊥)
-        → (noText (r .number) (r .line) ≡ textOf (jobWriting text (reading s) buf))
+        → (noHostText (r .number) (r .line) ≡ hostText (jobWriting text (reading s) buf))
         × (buf ≡ jobBuffer text (reading s) buf)
     text-refused h = rw (read-refused h) (refl, refl)
 
     pub text-accepted : r .number ≡ 0 → {t : Text} {w : Writing} {after : List ℕ}
-        → t ≡ textOf w → (w ≡ jobWriting text (judged (r .job)) buf) × (after ≡ jobBuffer text (judged (r .job)) buf)
-        → (t ≡ textOf (jobWriting text (reading s) buf)) × (after ≡ jobBuffer text (reading s) buf)
+        → t ≡ hostText w → (w ≡ jobWriting text (judged (r .job)) buf) × (after ≡ jobBuffer text (judged (r .job)) buf)
+        → (t ≡ hostText (jobWriting text (reading s) buf)) × (after ≡ jobBuffer text (reading s) buf)
     text-accepted z told wrote =
         let a = totals-accepted s r e z in
         let j = a .2 ∙ sym (a .1) in (
-          told ∙ ap textOf (wrote .0 ∙ ap (λ (x : Reading). jobWriting text x buf) j),
+          told ∙ ap hostText (wrote .0 ∙ ap (λ (x : Reading). jobWriting text x buf) j),
           wrote .1 ∙ ap (λ (x : Reading). jobBuffer text x buf) j,
         )
 
   -- ---- a line of its report
 
   module _ (line : ℤ) where
-    pub total-refused : (r .number ≡ 0 → ⊥) → noExtreme (r .number) (r .line) ≡ totalOf (reading s) line
-    total-refused h = sym (ap (λ (x : Reading). totalOf x line) (read-refused h))
+    pub total-refused : (r .number ≡ 0 → ⊥) → noHostExtreme (r .number) (r .line) ≡ hostTotal (reading s) line
+    total-refused h = sym (ap (λ (x : Reading). hostTotal x line) (read-refused h))
 
     pub total-accepted : r .number ≡ 0 → {w : Reckoning} → w ≡ worstOf (r .job)
-        → lineOf (w .six) line ≡ totalOf (reading s) line
+        → hostLine (w .six) line ≡ hostTotal (reading s) line
     unfolding worstOf
     total-accepted z worst =
         let a = totals-accepted s r e z in
-        ap (λ (v : Reckoning). lineOf (v .six) line) (worst ∙ ap reckoned (a .2))
-        ∙ sym (ap (λ (x : Reading). totalOf x line) (a .1))
+        ap (λ (v : Reckoning). hostLine (v .six) line) (worst ∙ ap reckoned (a .2))
+        ∙ sym (ap (λ (x : Reading). hostTotal x line) (a .1))

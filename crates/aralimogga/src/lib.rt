@@ -10,14 +10,14 @@ ghost use Rattle.panel.specs.Bracket.{panelOf};
 ghost use Rattle.panel.specs.Chart.{pointOf};
 ghost use Rattle.sheet.specs.Sheet.{reading, sheetText, jobWriting, jobBuffer};
 ghost use Rattle.report.specs.Report.{reportText};
-ghost use Rattle.answers.specs.Answers.{answerOf, textOf, coefficientOf, doubleOf, totalOf};
+ghost use Rattle.answers.specs.Answers.{hostAnswer, hostText, hostCoefficient, hostDouble, hostTotal};
 
 // ---- about a sheet
 
 // Whether the sheet is accepted.
 #[no_mangle]
 pub extern "C" fn aral_read(sheet: &[u8]) -> answers::Answer
-    ensures { λ r. ⌜ r ≡ answerOf (reading (now (sheet .entry))) ⌝ }
+    ensures { λ r. ⌜ r ≡ hostAnswer (reading (now (sheet .entry))) ⌝ }
 {
     let r = sheet::read::read_sheet(sheet);
     answers::Answer {
@@ -29,7 +29,7 @@ pub extern "C" fn aral_read(sheet: &[u8]) -> answers::Answer
 // The sheet read, and written again.
 #[no_mangle]
 pub extern "C" fn aral_rewrite(sheet: &[u8], out: &mut [u8]) -> answers::Text
-    ensures { λ r. ⌜ (r ≡ textOf (jobWriting sheetText (reading (now (sheet .entry))) (now (out .entry))))
+    ensures { λ r. ⌜ (r ≡ hostText (jobWriting sheetText (reading (now (sheet .entry))) (now (out .entry))))
         × (now (out .exit) ≡ jobBuffer sheetText (reading (now (sheet .entry))) (now (out .entry))) ⌝ }
 {
     let read = sheet::read::read_sheet(sheet);
@@ -42,7 +42,7 @@ pub extern "C" fn aral_rewrite(sheet: &[u8], out: &mut [u8]) -> answers::Text
 // Its report.
 #[no_mangle]
 pub extern "C" fn aral_report(sheet: &[u8], out: &mut [u8]) -> answers::Text
-    ensures { λ r. ⌜ (r ≡ textOf (jobWriting reportText (reading (now (sheet .entry))) (now (out .entry))))
+    ensures { λ r. ⌜ (r ≡ hostText (jobWriting reportText (reading (now (sheet .entry))) (now (out .entry))))
         × (now (out .exit) ≡ jobBuffer reportText (reading (now (sheet .entry))) (now (out .entry))) ⌝ }
 {
     let r = sheet::read::read_sheet(sheet);
@@ -55,7 +55,7 @@ pub extern "C" fn aral_report(sheet: &[u8], out: &mut [u8]) -> answers::Text
 // One line of its report: 1 is x max, 2 x min, up to 6, z min.
 #[no_mangle]
 pub extern "C" fn aral_total(sheet: &[u8], line: i64) -> answers::Extreme
-    ensures { λ r. ⌜ r ≡ totalOf (reading (now (sheet .entry))) line ⌝ }
+    ensures { λ r. ⌜ r ≡ hostTotal (reading (now (sheet .entry))) line ⌝ }
 {
     let given = sheet::read::read_sheet(sheet);
     if given.number != 0 {
@@ -78,7 +78,7 @@ pub extern "C" fn aral_outside(
     direction: i64,
     place: u8,
 ) -> answers::Coefficient
-    ensures { λ r. ⌜ r ≡ coefficientOf
+    ensures { λ r. ⌜ r ≡ hostCoefficient
         (outsideOf (record { h = h; a = a; b = b; density = density; kind = kind; x = x }) direction place) ⌝ }
 {
     let g = Building {
@@ -104,7 +104,7 @@ pub extern "C" fn aral_net(
     place: u8,
     internal: i64,
 ) -> answers::Coefficient
-    ensures { λ r. ⌜ r ≡ coefficientOf
+    ensures { λ r. ⌜ r ≡ hostCoefficient
         (netOf (record { h = h; a = a; b = b; density = density; kind = kind; x = x }) direction place internal) ⌝ }
 {
     let g = Building {
@@ -123,7 +123,7 @@ pub extern "C" fn aral_net(
 // A number in decimal.
 #[no_mangle]
 pub extern "C" fn aral_digits(number: i64, out: &mut [u8]) -> answers::Text
-    ensures { λ r. ⌜ (r ≡ textOf (writing (decimal number) (now (out .entry))))
+    ensures { λ r. ⌜ (r ≡ hostText (writing (decimal number) (now (out .entry))))
         × (now (out .exit) ≡ bufferAfter (decimal number) (now (out .entry))) ⌝ }
 {
     answers::text_of(text::write_decimal(number, out))
@@ -132,7 +132,7 @@ pub extern "C" fn aral_digits(number: i64, out: &mut [u8]) -> answers::Text
 // The doubles of a total.
 #[no_mangle]
 pub extern "C" fn aral_panel(total: i64) -> answers::Double
-    ensures { λ r. ⌜ r ≡ doubleOf (panelOf total) ⌝ }
+    ensures { λ r. ⌜ r ≡ hostDouble (panelOf total) ⌝ }
 {
     answers::double_of(panel::panel_of(total))
 }

@@ -21,7 +21,7 @@ use Rattle.sheet.specs.Sheet.{reading, answer, sheetText, jobWriting}
 use Rattle.worst.specs.declared.Six.{Six}
 use Rattle.worst.specs.Worst.{noSix, sixExtremes, reckoned, worstOf}
 use Rattle.report.specs.Report.{refusedText, reportText, totalsText}
-use Rattle.answers.specs.Answers.{noText, noExtreme, answerOf, textOf, onLine, lineOf, totalOf}
+use Rattle.answers.specs.Answers.{noHostText, noHostExtreme, hostAnswer, hostText, reportLine, hostLine, hostTotal}
 use Rattle.claims.specs.Contract.{Always}
 use Rattle.claims.specs.Fault.{Faulty, Faultless, GetsFault, GetsAccepted}
 use Rattle.claims.proofs.Contracts as of
@@ -41,9 +41,9 @@ pub record BadGetsFirstFault : Type 0 where
   pub write-totals : GetsFault of.write-totals.Post (λ κ a. rows (now (a .0)))
       (λ κ a n l. writing (refusedText n l) (now (a .1 .0)))
   pub aral-read : GetsFault of.aral-read.Post (λ κ a. rows (now (a .0))) (λ κ a n l. record { number = n; line = l })
-  pub aral-rewrite : GetsFault of.aral-rewrite.Post (λ κ a. rows (now (a .0))) (λ κ a n l. noText n l)
-  pub aral-report : GetsFault of.aral-report.Post (λ κ a. rows (now (a .0))) (λ κ a n l. noText n l)
-  pub aral-total : GetsFault of.aral-total.Post (λ κ a. rows (now (a .0))) (λ κ a n l. noExtreme n l)
+  pub aral-rewrite : GetsFault of.aral-rewrite.Post (λ κ a. rows (now (a .0))) (λ κ a n l. noHostText n l)
+  pub aral-report : GetsFault of.aral-report.Post (λ κ a. rows (now (a .0))) (λ κ a n l. noHostText n l)
+  pub aral-total : GetsFault of.aral-total.Post (λ κ a. rows (now (a .0))) (λ κ a n l. noHostExtreme n l)
   -- a job
   pub judge : GetsFault of.judge.Post (λ κ a. linesOf (carried (a .0))) (λ κ a n l. record { number = n; line = l })
   pub worst-cases : GetsFault of.worst-cases.Post (λ κ a. linesOf (carried (a .0)))
@@ -74,7 +74,7 @@ pub record AcceptedIsFaultless : Type 0 where
 -- A line of the report other than 1 to 6 is 3 with line 0, after the sheet's own fault.
 abbrev pub OtherLineIsThree : Type 0
 OtherLineIsThree = Always of.aral-total.Post (λ κ a r s. Faultless (rows (now (a .0)))
-    → ((n : ℕ) → 1 ≤ n → n ≤ 6 → a .1 .0 ≡ pos n → ⊥) → r ≡ noExtreme 3 0)
+    → ((n : ℕ) → 1 ≤ n → n ≤ 6 → a .1 .0 ≡ pos n → ⊥) → r ≡ noHostExtreme 3 0)
 
 -- "A refused call changes no byte of any buffer."
 -- So by the contract of each function that is lent a buffer and may refuse (Unchanged).
@@ -88,12 +88,12 @@ bad-gets-first-fault =
       read-sheet = λ κ a r s p n l f. p ∙ ap answer (fault.sheet-faulty (now (a .0)) f);
       write-totals = λ κ a r s p n l f.
           p .0 ∙ ap (λ x. writing (totalsText x) (now (a .1 .0))) (fault.sheet-faulty (now (a .0)) f);
-      aral-read = λ κ a r s p n l f. p ∙ ap answerOf (fault.sheet-faulty (now (a .0)) f);
+      aral-read = λ κ a r s p n l f. p ∙ ap hostAnswer (fault.sheet-faulty (now (a .0)) f);
       aral-rewrite = λ κ a r s p n l f.
-          p .0 ∙ ap (λ x. textOf (jobWriting sheetText x (now (a .1 .0)))) (fault.sheet-faulty (now (a .0)) f);
+          p .0 ∙ ap (λ x. hostText (jobWriting sheetText x (now (a .1 .0)))) (fault.sheet-faulty (now (a .0)) f);
       aral-report = λ κ a r s p n l f.
-          p .0 ∙ ap (λ x. textOf (jobWriting reportText x (now (a .1 .0)))) (fault.sheet-faulty (now (a .0)) f);
-      aral-total = λ κ a r s p n l f. p ∙ ap (λ x. totalOf x (a .1 .0)) (fault.sheet-faulty (now (a .0)) f);
+          p .0 ∙ ap (λ x. hostText (jobWriting reportText x (now (a .1 .0)))) (fault.sheet-faulty (now (a .0)) f);
+      aral-total = λ κ a r s p n l f. p ∙ ap (λ x. hostTotal x (a .1 .0)) (fault.sheet-faulty (now (a .0)) f);
       judge = λ κ a r s p n l f. p ∙ ap verdict (fault.job-faulty (a .0) f);
       worst-cases = λ κ a r s p n l f. p ∙ ap reckoned (fault.job-faulty (a .0) f);
       write-sheet = λ κ a r s p n l f.
@@ -111,7 +111,7 @@ good-is-accepted =
           p ∙ ap answer (fault.sheet-faultless (now (a .0)) f .1) in (ap (λ x. x .number) e, ap (λ x. x .line) e);
       aral-read = λ κ a r s p f.
           let e =
-          p ∙ ap answerOf (fault.sheet-faultless (now (a .0)) f .1) in (ap (λ x. x .number) e, ap (λ x. x .line) e);
+          p ∙ ap hostAnswer (fault.sheet-faultless (now (a .0)) f .1) in (ap (λ x. x .number) e, ap (λ x. x .line) e);
       judge = λ κ a r s p f.
           let e = p ∙ ap verdict (fault.job-faultless (a .0) f) in (ap (λ x. x .number) e, ap (λ x. x .line) e);
       worst-cases = λ κ a r s p f.
@@ -128,8 +128,8 @@ accepted-is-faultless =
       job = λ j. (fault.job-faultless j, fault.job-accepted j);
     }
 
-no-line : (six : Six) (l : ℤ) → ((n : ℕ) → 1 ≤ n → n ≤ 6 → l ≡ pos n → ⊥) → lineOf six l ≡ noExtreme 3 0
-unfolding onLine
+no-line : (six : Six) (l : ℤ) → ((n : ℕ) → 1 ≤ n → n ≤ 6 → l ≡ pos n → ⊥) → hostLine six l ≡ noHostExtreme 3 0
+unfolding reportLine
 no-line six (negsuc n) h = refl
 no-line six (pos n) h =
     let other : (k : ℕ) → 1 ≤ k → k ≤ 6 → eqb n k ≡ false = λ k p q. ne-eqb n k (λ e. h k p q (ap pos e)) in
@@ -139,4 +139,4 @@ no-line six (pos n) h =
 pub other-line-is-three : OtherLineIsThree
 other-line-is-three κ a r s p f h =
     let c = fault.sheet-faultless (now (a .0)) f in
-    p ∙ ap (λ x. totalOf x (a .1 .0)) (c .1) ∙ no-line (sixExtremes (c .0)) (a .1 .0) h
+    p ∙ ap (λ x. hostTotal x (a .1 .0)) (c .1) ∙ no-line (sixExtremes (c .0)) (a .1 .0) h

@@ -22,7 +22,7 @@ use Rattle.worst.specs.declared.Axis.{Axis}
 use Rattle.worst.specs.Cases.{Permitted, Case, caseTotal}
 use Rattle.worst.specs.Forces.{windAt, internalAt, loads}
 use Rattle.worst.specs.Worst.{given}
-use Rattle.answers.specs.Answers.{coefficientOf, textOf}
+use Rattle.answers.specs.Answers.{hostCoefficient, hostText}
 use Rattle.claims.specs.Contract.{Always}
 use Rattle.claims.specs.Question.{Judged, Outside, Net, buildingIn, directionIn, placeIn, restIn}
 use Rattle.claims.specs.Total.{Total}
@@ -44,9 +44,9 @@ pub record AnswersAreTheBooks : Type 0 where
   pub outside : Always of.outside.Post (λ κ a r s. Outside (a .0) (a .1 .0) (a .1 .1 .0) r)
   pub net : Always of.net.Post (λ κ a r s. Net (a .0) (a .1 .0) (a .1 .1 .0) (a .1 .1 .1 .0) r)
   pub aral-outside : Always of.aral-outside.Post (λ κ a r s. (q : book.Answer)
-      × Outside (buildingIn a) (directionIn a) (placeIn a) q × (r ≡ coefficientOf q))
+      × Outside (buildingIn a) (directionIn a) (placeIn a) q × (r ≡ hostCoefficient q))
   pub aral-net : Always of.aral-net.Post (λ κ a r s. (q : book.Answer)
-      × Net (buildingIn a) (directionIn a) (placeIn a) (restIn a .0) q × (r ≡ coefficientOf q))
+      × Net (buildingIn a) (directionIn a) (placeIn a) (restIn a .0) q × (r ≡ hostCoefficient q))
 
 -- What a question gets leaves no choice.
 abbrev pub AnswersAreOne : Type 0
@@ -74,7 +74,7 @@ SheetAgain = Always of.read-sheet.Post (λ κ a r s. Always of.write-sheet.Post 
 
 abbrev pub SheetRewritten : Type 0
 SheetRewritten = Always of.aral-rewrite.Post (λ κ a r s. (c : Carried) → reading (now (a .0)) ≡ Accepted c
-    → (w : Writing) × Written (now (a .0)) (now (a .1 .0)) (now (s .1 .0)) w × (r ≡ textOf w))
+    → (w : Writing) × Written (now (a .0)) (now (a .1 .0)) (now (s .1 .0)) w × (r ≡ hostText w))
 
 -- "an accepted job written and read again is the same job": what was written, read, is the same job, with zeros after
 -- each count.
@@ -90,7 +90,7 @@ pub record WritesTheText : Type 0 where
   pub write-decimal : Always of.write-decimal.Post (λ κ a r s. (text : List ℕ) × IsDecimal (a .0) text
       × Written text (now (a .1 .0)) (now (s .1 .0)) r)
   pub aral-digits : Always of.aral-digits.Post (λ κ a r s. (text : List ℕ) × IsDecimal (a .0) text
-      × (w : Writing) × Written text (now (a .1 .0)) (now (s .1 .0)) w × (r ≡ textOf w))
+      × (w : Writing) × Written text (now (a .1 .0)) (now (s .1 .0)) w × (r ≡ hostText w))
 
 -- A number is written in one way, and what comes of writing a text into a buffer is one thing.
 abbrev pub WritingIsOne : Type 0

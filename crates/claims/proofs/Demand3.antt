@@ -20,7 +20,7 @@ use Rattle.worst.specs.Cases.{Permitted, Loads, Case, cases}
 use Rattle.worst.specs.Worst.{extreme, sixExtremes, worstOf}
 use Rattle.worst.proofs.Members.{case-permitted, permitted-case}
 use Rattle.report.specs.Report.{reportText}
-use Rattle.answers.specs.Answers.{textOf, extremeOf, onLine, lineOf, totalOf}
+use Rattle.answers.specs.Answers.{hostText, hostExtreme, reportLine, hostLine, hostTotal}
 use Rattle.claims.specs.Contract.{Always}
 use Rattle.claims.specs.Shown.{Shows, ShowsSix, shownIn, lineNumber, Reported, More, Faster}
 use Rattle.claims.proofs.Contracts as of
@@ -41,10 +41,10 @@ pub record ReportsWorst : Type 0 where
   pub write-totals : Always of.write-totals.Post (λ κ a r s. (c : Carried) → reading (now (a .0)) ≡ Accepted c
       → Reported c (now (a .1 .0)) (now (s .1 .0)) r)
   pub aral-report : Always of.aral-report.Post (λ κ a r s. (c : Carried) → reading (now (a .0)) ≡ Accepted c
-      → (w : Writing) × Reported c (now (a .1 .0)) (now (s .1 .0)) w × (r ≡ textOf w))
+      → (w : Writing) × Reported c (now (a .1 .0)) (now (s .1 .0)) w × (r ≡ hostText w))
   pub aral-total : Always of.aral-total.Post (λ κ a r s. (c : Carried) → reading (now (a .0)) ≡ Accepted c
       → (axis : Axis) (side : Side) → a .1 .0 ≡ pos (lineNumber axis side)
-      → (e : Extreme) × Shows c axis side e × (r ≡ extremeOf e))
+      → (e : Extreme) × Shows c axis side e × (r ≡ hostExtreme e))
 
 -- What may be shown leaves no choice: a program that pretends, or invents the numbers of a case, shows something
 -- else.
@@ -91,8 +91,8 @@ shows-worst κ a r s p c e =
 
 -- a line of the report is its extreme
 line-is : (c : Carried) (axis : Axis) (side : Side)
-    → onLine (sixExtremes c) (lineNumber axis side) ≡ extremeOf (shownIn (sixExtremes c) axis side)
-unfolding onLine
+    → reportLine (sixExtremes c) (lineNumber axis side) ≡ hostExtreme (shownIn (sixExtremes c) axis side)
+unfolding reportLine
 line-is c X Greatest = refl
 line-is c X Least = refl
 line-is c Y Greatest = refl
@@ -115,7 +115,7 @@ reports-worst =
           let told = shown.six-shown c (sheet-in-order (now (a .0)) c e) axis side in (
             shownIn six axis side,
             told,
-            p ∙ ap (λ x. totalOf x (a .1 .0)) e ∙ ap (lineOf six) n ∙ line-is c axis side,
+            p ∙ ap (λ x. hostTotal x (a .1 .0)) e ∙ ap (hostLine six) n ∙ line-is c axis side,
           );
     }
 

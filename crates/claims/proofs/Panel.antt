@@ -11,7 +11,7 @@ use Rattle.panel.specs.Chart.{lowOf, highOf, pointOf}
 use Rattle.panel.specs.Right.{Right}
 use Rattle.panel.proofs.Right.{panel-right}
 use Rattle.panel.proofs.Unique.{right-unique}
-use Rattle.answers.specs.Answers.{doubleOf}
+use Rattle.answers.specs.Answers.{hostDouble}
 use Rattle.claims.specs.Contract.{Always}
 use Rattle.claims.specs.Doubles.{Signed64, LowAndHigh, RightPoint}
 use Rattle.claims.proofs.Contracts as of
@@ -23,7 +23,7 @@ use Rattle.claims.proofs.Contracts as of
 pub record PanelIsRight : Type 0 where
   pub panel-of : Always of.panel-of.Post (λ κ a r s. Signed64 (a .0) → Right (a .0) r)
   pub aral-panel : Always of.aral-panel.Post
-      (λ κ a r s. Signed64 (a .0) → (p : Panel) × Right (a .0) p × (r ≡ doubleOf p))
+      (λ κ a r s. Signed64 (a .0) → (p : Panel) × Right (a .0) p × (r ≡ hostDouble p))
 
 -- "A chart point is a record of low and high doubles for the three axes; where exact, low and high are the same."
 pub record ChartIsRight : Type 0 where

@@ -30,7 +30,7 @@ use Rattle.worst.proofs.Accepted.{given-in-range}
 use Rattle.worst.proofs.Ranges.{caseTotal-small}
 use Rattle.report.specs.Report.{reportText}
 use Rattle.report.proofs.Lengths.{report-most}
-use Rattle.answers.specs.Answers.{textOf}
+use Rattle.answers.specs.Answers.{hostText}
 use Rattle.page.specs.declared.Writing.the-variants as written
 use Rattle.claims.specs.Contract.{Always}
 use Rattle.claims.proofs.Contracts as of
@@ -94,10 +94,10 @@ job-as-sheet κ a r s p κ′ b q t p′ f same =
 
 -- the length that a host is told of a report
 told-length : (x : Reading) (buf : List ℕ) → ((c : Carried) → x ≡ Accepted c → length (reportText c) ≤ 474)
-    → textOf (jobWriting reportText x buf) .length ≤ 474
+    → hostText (jobWriting reportText x buf) .length ≤ 474
 told-length (Accepted c) buf h = go (leb (length (reportText c)) (length buf))
   where
-    go : (t : Bool) → textOf (cond t (written.Length (length (reportText c))) (written.Refused 7 0)) .length ≤ 474
+    go : (t : Bool) → hostText (cond t (written.Length (length (reportText c))) (written.Refused 7 0)) .length ≤ 474
     go true = h c refl
     go false = omega arith
 told-length (Refused n l) buf h = omega arith

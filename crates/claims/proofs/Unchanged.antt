@@ -18,7 +18,7 @@ use Rattle.job.specs.Walk.{Reading, Accepted, Refused, judged}
 use Rattle.sheet.specs.Sheet.{reading, sheetText, jobWriting, jobBuffer}
 use Rattle.report.specs.Report.{reportText, totalsText}
 use Rattle.answers.specs.declared.Text.{Text}
-use Rattle.answers.specs.Answers.{textOf}
+use Rattle.answers.specs.Answers.{hostText}
 
 -- ---- whatever text is put into a buffer, and whatever text about a job
 
@@ -45,7 +45,7 @@ module _ (text : Carried → List ℕ) (x : Reading) (buf : List ℕ) where
   job-kept p h = p .1 ∙ put-job-kept x (subst IsRefused (p .0) h)
 
 -- from C a refusal is a number other than 0
-host-refused : {t : Text} (w : Writing) → t ≡ textOf w → (t .number ≡ 0 → ⊥) → IsRefused w
+host-refused : {t : Text} (w : Writing) → t ≡ hostText w → (t .number ≡ 0 → ⊥) → IsRefused w
 host-refused (written.Length n) e h = absurd (h (ap (λ x. x .number) e))
 host-refused (written.Refused number line) e h = tt
 

@@ -1,4 +1,4 @@
--- `line_of`: the arms are the tests of `onLine`, in its order. The machine tells a number by its bits.
+-- `line_of`: the arms are the tests of `reportLine`, in its order. The machine tells a number by its bits.
 use Prim.Native.Nat.{ℕ}
 use mathlib.Core.Path.{_≡_, refl, sym, ap, _∙_}
 use lib.IntN.{ℤ, pos, negsuc}
@@ -7,46 +7,46 @@ use mir.Val.{toZ, ofZ}
 use mir.Facts.{toZ-ofZ}
 use Rattle.whole.proofs.Tests.{tests}
 use Rattle.worst.specs.declared.Six.{Six}
-use Rattle.answers.specs.Answers.{noExtreme, onLine, lineOf}
+use Rattle.answers.specs.Answers.{noHostExtreme, reportLine, hostLine}
 use borrow.Author.Needs.{needs}
 use Rattle.answers.proofs.line_of.Statement.{statement}
 use Rattle.answers.proofs.line_of.Tie as tie
 
 -- an arm's own number
 line : (t : tie.Start) (n : ℕ) → ofZ w64 (t .args .line) ≡ n
-    → lineOf (t .args .six) (toZ w64 n) ≡ lineOf (t .args .six) (t .args .line)
-line t n e = ap (lineOf (t .args .six)) (sym (ap (toZ w64) e) ∙ toZ-ofZ (t .fits .line))
+    → hostLine (t .args .six) (toZ w64 n) ≡ hostLine (t .args .six) (t .args .line)
+line t n e = ap (hostLine (t .args .six)) (sym (ap (toZ w64) e) ∙ toZ-ofZ (t .fits .line))
 
 -- none of the six
 no-line : (s : Six) (z : ℤ) → (ofZ w64 z ≡ 1 → ⊥) → (ofZ w64 z ≡ 2 → ⊥) → (ofZ w64 z ≡ 3 → ⊥) → (ofZ w64 z ≡ 4 → ⊥)
     → (ofZ w64 z ≡ 5 → ⊥) → (ofZ w64 z ≡ 6 → ⊥)
-    → noExtreme 3 0 ≡ lineOf s z
-unfolding onLine
+    → noHostExtreme 3 0 ≡ hostLine s z
+unfolding reportLine
 no-line s (pos n) a b c d e f = search tests
 no-line s (negsuc n) a b c d e f = refl
 
 returns : tie.Need-returns
-unfolding onLine
+unfolding reportLine
 returns c = c .extreme-of .ensures ∙ line (c .before .before) 1 (c .before .match .keys1)
 
 returns-2 : tie.Need-returns-2
-unfolding onLine
+unfolding reportLine
 returns-2 c = c .extreme-of2 .ensures ∙ line (c .before .before) 2 (c .before .match .keys2)
 
 returns-3 : tie.Need-returns-3
-unfolding onLine
+unfolding reportLine
 returns-3 c = c .extreme-of3 .ensures ∙ line (c .before .before) 3 (c .before .match .keys3)
 
 returns-4 : tie.Need-returns-4
-unfolding onLine
+unfolding reportLine
 returns-4 c = c .extreme-of4 .ensures ∙ line (c .before .before) 4 (c .before .match .keys4)
 
 returns-5 : tie.Need-returns-5
-unfolding onLine
+unfolding reportLine
 returns-5 c = c .extreme-of5 .ensures ∙ line (c .before .before) 5 (c .before .match .keys5)
 
 returns-6 : tie.Need-returns-6
-unfolding onLine
+unfolding reportLine
 returns-6 c = c .extreme-of6 .ensures ∙ line (c .before .before) 6 (c .before .match .keys6)
 
 returns-7 : tie.Need-returns-7

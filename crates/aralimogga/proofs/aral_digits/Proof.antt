@@ -6,7 +6,7 @@ use denote.Ref.{now}
 use Rattle.whole.proofs.Size.{param}
 use Rattle.page.specs.Writing.{writing, bufferAfter}
 use Rattle.whole.specs.Digits.{decimal}
-use Rattle.answers.specs.Answers.{textOf}
+use Rattle.answers.specs.Answers.{hostText}
 use borrow.Author.Needs.{needs}
 use Rattle.aralimogga.proofs.aral_digits.Statement.{statement}
 use Rattle.aralimogga.proofs.aral_digits.Tie as tie
@@ -18,7 +18,7 @@ returns c =
     let buf = now (s .args .out) in
     let number = ap decimal (param (s .fits .number) .same) in
     let e = w .write-decimal .ensures in (
-      c .text-of .ensures ∙ ap textOf (e .0 ∙ ap (λ (t : List ℕ). writing t buf) number),
+      c .text-of .ensures ∙ ap hostText (e .0 ∙ ap (λ (t : List ℕ). writing t buf) number),
       e .1 ∙ ap (λ (t : List ℕ). bufferAfter t buf) number,
     )
 

@@ -1,7 +1,7 @@
 -- `aral_net`: each number is read back as it is.
 use mathlib.Core.Path.{ap, _∙_}
 use Rattle.whole.proofs.Size.{param}
-use Rattle.answers.specs.Answers.{coefficientOf}
+use Rattle.answers.specs.Answers.{hostCoefficient}
 use borrow.Author.Needs.{needs}
 use Rattle.aralimogga.proofs.aral_net.Statement.{statement}
 use Rattle.aralimogga.proofs.aral_net.Tie as tie
@@ -22,7 +22,7 @@ returns c =
       param (f .internal) .same,
     )
     at (g .net .ensures) in
-    c .coefficient-of .ensures ∙ ap coefficientOf e
+    c .coefficient-of .ensures ∙ ap hostCoefficient e
 
 pub aral-net-spec : {M : Type 1} → statement M
 aral-net-spec = tie.close (tie.spec (λ c κs. search needs) (λ c κs. search needs) returns)

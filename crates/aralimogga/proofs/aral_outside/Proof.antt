@@ -4,7 +4,7 @@ use lib.IntN.{ℤ}
 use Rattle.whole.proofs.Size.{param}
 use Rattle.building.specs.declared.Building.{Building}
 use Rattle.book.specs.Question.{outsideOf}
-use Rattle.answers.specs.Answers.{coefficientOf}
+use Rattle.answers.specs.Answers.{hostCoefficient}
 use borrow.Author.Needs.{needs}
 use Rattle.aralimogga.proofs.aral_outside.Statement.{statement}
 use Rattle.aralimogga.proofs.aral_outside.Tie as tie
@@ -27,7 +27,7 @@ returns c =
     )
     at (g .outside .ensures) in
     c .coefficient-of .ensures
-    ∙ ap coefficientOf (e ∙ ap (λ (z : ℤ). outsideOf building z (a .place)) (param (f .direction) .same))
+    ∙ ap hostCoefficient (e ∙ ap (λ (z : ℤ). outsideOf building z (a .place)) (param (f .direction) .same))
 
 pub aral-outside-spec : {M : Type 1} → statement M
 aral-outside-spec = tie.close (tie.spec (λ c κs. search needs) (λ c κs. search needs) returns)

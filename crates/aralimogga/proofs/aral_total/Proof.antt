@@ -2,7 +2,7 @@
 use denote.Ref.{now}
 use mathlib.Core.Path.{_∙_, ap}
 use Rattle.whole.proofs.Size.{param}
-use Rattle.answers.specs.Answers.{lineOf}
+use Rattle.answers.specs.Answers.{hostLine}
 use Rattle.aralimogga.proofs.Readings.{total-refused, total-accepted}
 use borrow.Author.Needs.{needs}
 use Rattle.aralimogga.proofs.aral_total.Statement.{statement}
@@ -23,7 +23,7 @@ returns-2 c =
     let r = t .before .before in
     let s = r .before .before in
     let a = s .args in
-    c .line-of .ensures ∙ ap (lineOf (w .worst-cases .result .six)) (param (s .fits .line) .same)
+    c .line-of .ensures ∙ ap (hostLine (w .worst-cases .result .six)) (param (s .fits .line) .same)
     ∙ total-accepted (now (a .sheet)) (r .read-sheet .result) (r .read-sheet .ensures) (a .line) (t .if1 .left)
     (w .worst-cases .ensures)
 
