@@ -27,7 +27,7 @@ use Rattle.worst.specs.Best.{better, best}
 use Rattle.worst.specs.Cases.{numbers, each, choices, total, cases, caseTotal, worst}
 use Rattle.worst.specs.Shown.{padded, shown}
 use Rattle.worst.specs.Worst.{sixExtremes}
-use Rattle.report.specs.Lines.{spaced, lineText, axisText, sixText}
+use Rattle.report.specs.Lines.{spaced, extremeText, axisText, sixText}
 use Rattle.report.specs.Report.{reportText, totalsText}
 
 -- the bytes of a quoted text
@@ -53,5 +53,5 @@ unfolding halfUp roundAway digitsWithin digits decimal allDigits valueAfter valu
     partAts firstRow spotIn roofValue buildingFault outOfForm outOfRange outOfWalls tooLong zoneOn localOn
     wallColumn gableColumn flatColumn coefficientOf outsideOf askedOf beyond fieldFault lower lowest fieldsFault
     lineFault walk readLines reading better best numbers each choices total cases caseTotal worst padded shown
-    sixExtremes spaced lineText axisText sixText reportText
+    sixExtremes spaced extremeText axisText sixText reportText
 sample = refl

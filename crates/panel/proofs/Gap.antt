@@ -10,7 +10,7 @@ use lib.Pow.{pow-pos, pow-mono, pow-add}
 use lib.Ieee.{size}
 use lib.Ieee.Digits.{size-lt, size-reaches, size-le}
 use lib.Ieee.Fits as fits
-use Rattle.panel.specs.Bracket.{gap, lower, upper}
+use Rattle.panel.specs.Bracket.{gap, stepBelow, stepAbove}
 
 -- ---- found by doubling
 
@@ -68,11 +68,11 @@ kept-full m s =
 
 -- ---- the multiples on either side
 
-pub lower-is : (m : ℕ) → m % gap m ≡ 0 → lower m ≡ m
+pub lower-is : (m : ℕ) → m % gap m ≡ 0 → stepBelow m ≡ m
 lower-is m r = omega (arith, div-add-mod' m (gap m))
 
-pub lower-lt : (m : ℕ) → (m % gap m ≡ 0 → ⊥) → lower m < m
+pub lower-lt : (m : ℕ) → (m % gap m ≡ 0 → ⊥) → stepBelow m < m
 lower-lt m r = omega (arith, div-add-mod' m (gap m))
 
-pub upper-gt : (m : ℕ) → m < upper m
+pub upper-gt : (m : ℕ) → m < stepAbove m
 upper-gt m = omega (arith, div-add-mod' m (gap m), mod-lt m (gap-pos m))

@@ -14,7 +14,7 @@ use lib.Ieee.Back.{round-whole}
 use lib.Ieee.Scale.{round-same}
 use lib.Ieee.Fits.{down-pos}
 use Rattle.panel.specs.declared.Panel.the-variants.{Exact, Between}
-use Rattle.panel.specs.Bracket.{gap, double, lower, upper, ofSize}
+use Rattle.panel.specs.Bracket.{gap, double, stepBelow, stepAbove, ofSize}
 use Rattle.panel.proofs.Gap.{gap-small, kept-small, lower-is}
 
 -- the cast to a double that the code does
@@ -52,15 +52,15 @@ pub size-exact : (m : ℕ) → m % gap m ≡ 0 → ofSize m ≡ Exact (double m)
 unfolding ofSize
 size-exact m r = rw (eq-eqb (m % gap m) 0 r)
 
-pub size-between : (m : ℕ) → (m % gap m ≡ 0 → ⊥) → ofSize m ≡ Between (double (lower m)) (double (upper m))
+pub size-between : (m : ℕ) → (m % gap m ≡ 0 → ⊥) → ofSize m ≡ Between (double (stepBelow m)) (double (stepAbove m))
 unfolding ofSize
 size-between m r = rw (ne-eqb (m % gap m) 0 r)
 
 module _ (m : ℕ) (h : m < 2 ^ 64) where
-  low-is : scaled (m / gap m) (gap m) ≡ double (lower m)
+  low-is : scaled (m / gap m) (gap m) ≡ double (stepBelow m)
   low-is = scaled-is (m / gap m) (gap m) (le-of-lt (kept-small m)) (gap-small m h)
 
-  high-is : scaled (m / gap m + 1) (gap m) ≡ double (upper m)
+  high-is : scaled (m / gap m + 1) (gap m) ≡ double (stepAbove m)
   high-is = scaled-is (m / gap m + 1) (gap m) (omega (arith, kept-small m)) (gap-small m h)
 
   pub exact-is : (p : ℕ) → p ≡ gap m → m % p ≡ 0 → Exact (scaled (m / p) p) ≡ ofSize m

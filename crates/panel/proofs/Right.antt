@@ -12,7 +12,7 @@ use lib.Ieee.{Float, binary64, size, lt}
 use lib.Ieee.Fits.{round-fits}
 use Rattle.panel.specs.Double.{IsDouble, number}
 use Rattle.panel.specs.Right.{IsExact, IsBetween, Right}
-use Rattle.panel.specs.Bracket.{gap, double, lower, upper, ofSize, panelOf}
+use Rattle.panel.specs.Bracket.{gap, double, stepBelow, stepAbove, ofSize, panelOf}
 use Rattle.panel.proofs.Gap.{dropped-few, kept-small, some-dropped, kept-full, lower-is, lower-lt, upper-gt}
 use Rattle.panel.proofs.Product.{size-exact, size-between}
 use Rattle.panel.proofs.Worth.{Worth, worth-exact, double-worth}
@@ -28,11 +28,11 @@ unfolding lt
 numbers-lt a b h = lt→ltb (a * 1 * 1) (b * 1 * 1) (omega arith)
 
 module _ (n : ℕ) (h : n < 2 ^ 64) where
-  pub lower-worth : Worth (pos (lower n)) (double (lower n))
+  pub lower-worth : Worth (pos (stepBelow n)) (double (stepBelow n))
   unfolding gap
   lower-worth = double-worth (n / gap n) (size n - 53) (le-of-lt (kept-small n)) (dropped-few n h)
 
-  pub upper-worth : Worth (pos (upper n)) (double (upper n))
+  pub upper-worth : Worth (pos (stepAbove n)) (double (stepAbove n))
   unfolding gap
   upper-worth = double-worth (n / gap n + 1) (size n - 53) (omega (arith, kept-small n)) (dropped-few n h)
 
@@ -41,25 +41,25 @@ module _ (n : ℕ) (h : n < 2 ^ 64) where
       worth-exact (pos n) (double n) (is-double n)
       (subst (λ (m : ℕ). Worth (pos m) (double m)) (lower-is n e) lower-worth)
 
-  nearest : (n % gap n ≡ 0 → ⊥) → (x : Float) → IsDouble x → T (lt (number (pos (lower n))) x)
-      → T (lt x (number (pos (upper n)))) → ⊥
+  nearest : (n % gap n ≡ 0 → ⊥) → (x : Float) → IsDouble x → T (lt (number (pos (stepBelow n))) x)
+      → T (lt x (number (pos (stepAbove n)))) → ⊥
   unfolding gap
   nearest f = none-between (n / gap n) (size n - 53) (kept-full n (some-dropped n f)) (some-dropped n f)
 
-  pub between-right : (n % gap n ≡ 0 → ⊥) → IsBetween (pos n) (double (lower n)) (double (upper n))
+  pub between-right : (n % gap n ≡ 0 → ⊥) → IsBetween (pos n) (double (stepBelow n)) (double (stepAbove n))
   between-right f =
       record {
-        low-double = is-double (lower n);
-        high-double = is-double (upper n);
+        low-double = is-double (stepBelow n);
+        high-double = is-double (stepAbove n);
         below =
-            rw (worth-lt (pos (lower n)) (double (lower n)) (number (pos n)) lower-worth)
-            (numbers-lt (lower n) n (lower-lt n f));
+            rw (worth-lt (pos (stepBelow n)) (double (stepBelow n)) (number (pos n)) lower-worth)
+            (numbers-lt (stepBelow n) n (lower-lt n f));
         above =
-            rw (lt-worth (pos (upper n)) (number (pos n)) (double (upper n)) upper-worth)
-            (numbers-lt n (upper n) (upper-gt n));
+            rw (lt-worth (pos (stepAbove n)) (number (pos n)) (double (stepAbove n)) upper-worth)
+            (numbers-lt n (stepAbove n) (upper-gt n));
         nearest = λ x d l g. nearest f x d
-            (rw (worth-lt (pos (lower n)) (double (lower n)) x lower-worth) at l)
-            (rw (lt-worth (pos (upper n)) x (double (upper n)) upper-worth) at g);
+            (rw (worth-lt (pos (stepBelow n)) (double (stepBelow n)) x lower-worth) at l)
+            (rw (lt-worth (pos (stepAbove n)) x (double (stepAbove n)) upper-worth) at g);
       }
 
 size-right : (n : ℕ) → n < 2 ^ 64 → Right (pos n) (ofSize n)

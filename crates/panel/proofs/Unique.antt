@@ -13,7 +13,7 @@ use Rattle.panel.specs.declared.Panel.{Panel}
 use Rattle.panel.specs.declared.Panel.the-variants.{Exact, Between}
 use Rattle.panel.specs.Double.{IsDouble, number}
 use Rattle.panel.specs.Right.{IsExact, IsBetween, Right}
-use Rattle.panel.specs.Bracket.{gap, double, lower, upper, ofSize, mirrored, panelOf}
+use Rattle.panel.specs.Bracket.{gap, double, stepBelow, stepAbove, ofSize, mirrored, panelOf}
 use Rattle.panel.proofs.Gap.{gap-pos, some-dropped, kept-full, lower-lt, upper-gt}
 use Rattle.panel.proofs.Product.{size-exact, size-between}
 use Rattle.panel.proofs.Worth.{Worth, worth-unique, exact-worth}
@@ -39,35 +39,35 @@ one-place a x y h d e v n l g =
 
 -- the bracket of n, beside another that is right for n
 module _ (n : ℕ) (h : n < 2 ^ 64) (f : n % gap n ≡ 0 → ⊥) (low high : Float) (r : IsBetween (pos n) low high) where
-  low-upper : T (lt low (double (upper n)))
+  low-upper : T (lt low (double (stepAbove n)))
   low-upper =
-      rw (lt-worth (pos (upper n)) low (double (upper n)) (upper-worth n h))
-      (lt-number-le low n (upper n) (le-of-lt (upper-gt n)) (r .below))
+      rw (lt-worth (pos (stepAbove n)) low (double (stepAbove n)) (upper-worth n h))
+      (lt-number-le low n (stepAbove n) (le-of-lt (upper-gt n)) (r .below))
 
-  lower-high : T (lt (double (lower n)) high)
+  lower-high : T (lt (double (stepBelow n)) high)
   lower-high =
-      rw (worth-lt (pos (lower n)) (double (lower n)) high (lower-worth n h))
-      (le-number-lt high (lower n) n (le-of-lt (lower-lt n f)) (r .above))
+      rw (worth-lt (pos (stepBelow n)) (double (stepBelow n)) high (lower-worth n h))
+      (le-number-lt high (stepBelow n) n (le-of-lt (lower-lt n f)) (r .above))
 
-  low-is : low ≡ double (lower n)
+  low-is : low ≡ double (stepBelow n)
   unfolding lt
   low-is =
-      one-place (lower n) low (double (lower n))
+      one-place (stepBelow n) low (double (stepBelow n))
       (omega (arith, mul-le-mul (kept-full n (some-dropped n f)) (gap-pos n)))
-      (r .low-double) (is-double (lower n)) (lower-worth n h)
+      (r .low-double) (is-double (stepBelow n)) (lower-worth n h)
       (λ e. subst (λ (w : Float). T (lt w (number (pos n)))) e (r .below))
-      (λ t. r .nearest (double (lower n)) (is-double (lower n)) t lower-high)
+      (λ t. r .nearest (double (stepBelow n)) (is-double (stepBelow n)) t lower-high)
       (λ t. between-right n h f .nearest low (r .low-double) t low-upper)
 
-  high-is : high ≡ double (upper n)
+  high-is : high ≡ double (stepAbove n)
   unfolding lt
   high-is =
-      one-place (upper n) high (double (upper n))
+      one-place (stepAbove n) high (double (stepAbove n))
       (omega (arith, upper-gt n))
-      (r .high-double) (is-double (upper n)) (upper-worth n h)
+      (r .high-double) (is-double (stepAbove n)) (upper-worth n h)
       (λ e. subst (λ (w : Float). T (lt (number (pos n)) w)) e (r .above))
       (λ t. between-right n h f .nearest high (r .high-double) lower-high t)
-      (λ t. r .nearest (double (upper n)) (is-double (upper n)) low-upper t)
+      (λ t. r .nearest (double (stepAbove n)) (is-double (stepAbove n)) low-upper t)
 
 size-only : (n : ℕ) (p : Panel) → n < 2 ^ 64 → Right (pos n) p → p ≡ ofSize n
 size-only n p h r = go (ℕ-discrete (n % gap n) 0) p r
@@ -80,7 +80,7 @@ size-only n p h r = go (ℕ-discrete (n % gap n) 0) p r
         (exact-worth (pos n) (double n) s))
         ∙ sym (size-exact n e)
     go (yes e) (Between low high) r = absurd (not-both (pos n) (double n) low high (exact-right n h e) r)
-    go (no f) (Exact x) r = absurd (not-both (pos n) x (double (lower n)) (double (upper n)) r (between-right n h f))
+    go (no f) (Exact x) r = absurd (not-both (pos n) x (double (stepBelow n)) (double (stepAbove n)) r (between-right n h f))
     go (no f) (Between low high) r =
         (λ i. Between (low-is n h f low high r i) (high-is n h f low high r i)) ∙ sym (size-between n f)
 

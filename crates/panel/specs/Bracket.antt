@@ -16,14 +16,14 @@ unfoldable pub double : ℕ → Float
 double n = round binary64 false n 1
 
 -- the last multiple of the gap up to n, and the next one
-abbrev pub lower : ℕ → ℕ
-lower n = n / gap n * gap n
+abbrev pub stepBelow : ℕ → ℕ
+stepBelow n = n / gap n * gap n
 
-abbrev pub upper : ℕ → ℕ
-upper n = (n / gap n + 1) * gap n
+abbrev pub stepAbove : ℕ → ℕ
+stepAbove n = (n / gap n + 1) * gap n
 
 unfoldable pub ofSize : ℕ → Panel
-ofSize n = cond (eqb (n % gap n) 0) (Exact (double n)) (Between (double (lower n)) (double (upper n)))
+ofSize n = cond (eqb (n % gap n) 0) (Exact (double n)) (Between (double (stepBelow n)) (double (stepAbove n)))
 
 -- the other side of zero
 abbrev pub mirrored : Panel → Panel

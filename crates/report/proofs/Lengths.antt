@@ -30,7 +30,7 @@ use Rattle.worst.proofs.OneFace.{OneOrTwo, alone, pair}
 use Rattle.worst.proofs.Ranges.{caseTotal-small}
 use Rattle.worst.proofs.Accepted.{given-sound, given-in-range}
 use Rattle.worst.proofs.Promises.{extreme-shows}
-use Rattle.report.specs.Lines.{spaced, caseNumbers, lineText, axisText, x, y, z, max, min}
+use Rattle.report.specs.Lines.{spaced, caseNumbers, extremeText, axisText, x, y, z, max, min}
 use Rattle.report.specs.Report.{reportText, refusedText}
 use Rattle.report.proofs.Lines.{spaced-none, line-parts, axis-parts, six-parts}
 use Rattle.report.proofs.Reports.{refused-parts}
@@ -141,7 +141,7 @@ module _ (axis : Axis) (s : Side) (c : Carried) (o : InOrder c) where
       rw (h .best .reached) at (caseTotal-small (given c) (given-in-range c o) axis (h .case))
 
   -- the letter, the word, a total of 20 bytes at most, the numbers and the end
-  line-most : (letter : ℕ) (word : List ℕ) → length word ≡ 5 → length (lineText letter word (extreme axis s c)) ≤ 79
+  line-most : (letter : ℕ) (word : List ℕ) → length word ≡ 5 → length (extremeText letter word (extreme axis s c)) ≤ 79
   line-most letter word h =
       rw line-parts
       (simp length-append (omega (arith, h, case-most, total-length (extreme axis s c .total) total-small)))

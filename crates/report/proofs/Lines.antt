@@ -11,7 +11,7 @@ use Rattle.page.proofs.Put.{then}
 use Rattle.worst.specs.declared.Extreme.{Extreme}
 use Rattle.worst.specs.declared.Extremes.{Extremes}
 use Rattle.worst.specs.declared.Six.{Six}
-use Rattle.report.specs.Lines.{spaced, caseNumbers, lineText, axisText, sixText, x, y, z, max, min}
+use Rattle.report.specs.Lines.{spaced, caseNumbers, extremeText, axisText, sixText, x, y, z, max, min}
 
 pub spaced-none : spaced [] ≡ []
 unfolding spaced
@@ -38,12 +38,12 @@ spaced-case w i ks =
 
 -- a line and the six lines, in the order in which their parts are put
 pub line-parts : (axis : ℕ) (word : List ℕ) (e : Extreme)
-    → lineText axis word e ≡ ((((axis ∷ []) ++ word) ++ decimal (e .total)) ++ spaced (caseNumbers e)) ++ (10 ∷ [])
-unfolding lineText
+    → extremeText axis word e ≡ ((((axis ∷ []) ++ word) ++ decimal (e .total)) ++ spaced (caseNumbers e)) ++ (10 ∷ [])
+unfolding extremeText
 line-parts axis word e = simp append-assoc
 
 pub axis-parts : (axis : ℕ) (e : Extremes)
-    → axisText axis e ≡ lineText axis max (e .greatest) ++ lineText axis min (e .least)
+    → axisText axis e ≡ extremeText axis max (e .greatest) ++ extremeText axis min (e .least)
 unfolding axisText
 axis-parts axis e = refl
 

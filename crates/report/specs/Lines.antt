@@ -34,11 +34,11 @@ spaced (n ∷ ns) = 32 ∷ digits n ++ spaced ns
 abbrev pub caseNumbers : Extreme → List ℕ
 caseNumbers e = e .wind ∷ e .internal ∷ take (e .faces) (e .alternative)
 
-unfoldable pub lineText : ℕ → List ℕ → Extreme → List ℕ
-lineText axis word e = (axis ∷ word) ++ (decimal (e .total) ++ (spaced (caseNumbers e) ++ (10 ∷ [])))
+unfoldable pub extremeText : ℕ → List ℕ → Extreme → List ℕ
+extremeText axis word e = (axis ∷ word) ++ (decimal (e .total) ++ (spaced (caseNumbers e) ++ (10 ∷ [])))
 
 unfoldable pub axisText : ℕ → Extremes → List ℕ
-axisText axis e = lineText axis max (e .greatest) ++ lineText axis min (e .least)
+axisText axis e = extremeText axis max (e .greatest) ++ extremeText axis min (e .least)
 
 unfoldable pub sixText : Six → List ℕ
 sixText s = axisText x (s .x) ++ (axisText y (s .y) ++ axisText z (s .z))

@@ -6,7 +6,7 @@ ghost use lib.ListN.{take};
 ghost use mathlib.Core.Path.{_≡_};
 ghost use mathlib.Core.List.{[], _∷_};
 ghost use Rattle.page.specs.Writing.{Put};
-ghost use Rattle.report.specs.Lines.{spaced, caseNumbers, lineText, axisText, sixText};
+ghost use Rattle.report.specs.Lines.{spaced, caseNumbers, extremeText, axisText, sixText};
 
 fn wide(n: u8) -> u32
     ensures { λ r. ⌜ r ≡ n ⌝ }
@@ -60,7 +60,7 @@ fn put_case(buf: &mut [u8], at: usize, e: Extreme) -> usize
 
 // One line: the axis, the word, the total and the numbers of its case.
 fn put_line(buf: &mut [u8], at: usize, axis: u8, word: &[u8; 5], e: Extreme) -> usize
-    ensures { λ r. ⌜ Put (now (buf .entry)) at (lineText axis (now (word .entry)) e) (now (buf .exit)) r ⌝ }
+    ensures { λ r. ⌜ Put (now (buf .entry)) at (extremeText axis (now (word .entry)) e) (now (buf .exit)) r ⌝ }
 {
     let named = page::put_byte(buf, at, axis);
     let worded = page::put_bytes(buf, named, word);
