@@ -1,7 +1,7 @@
 -- A section is accepted exactly if its count is within the limits and its entries are in order.
 use Prim.Native.Nat.{ℕ, _+_, _<_}
 use mathlib.Core.Path.{_≡_, refl, ap, _∙_, sym, subst}
-use mathlib.Core.List.{List, [], _∷_, _++_, append-nil}
+use mathlib.Core.List.{List, [], _∷_, _++_}
 use native.Mathlib.Omega.{arith}
 use lib.ListN.{length, getD, take}
 use Rattle.form.specs.declared.Field.{Field}
@@ -16,7 +16,7 @@ use Rattle.job.specs.Lines.{sectionOf}
 use Rattle.job.specs.Walk.{entries, Accepted, Refused, walk}
 use Rattle.job.specs.InOrder.{Within}
 use Rattle.rules.proofs.Rules.{AllSay, none, more, number, letter}
-use Rattle.job.proofs.Walk.{walk-on, walk-refused, entries-refused, accepted-line, accepted-next, accepted-some, accepted-end, line-in-order, line-says, learnAll, EntriesInOrder, entries-walk, entries-in-order, entries-there}
+use Rattle.job.proofs.Walk.{walk-on, walk-refused, entries-refused, accepted-line, accepted-next, accepted-some, line-in-order, line-says, learnAll, EntriesInOrder, entries-walk, entries-in-order, entries-there}
 
 -- ---- the count of a section
 
@@ -100,14 +100,3 @@ module _ (s : Section) (ks : List Kind) (c : Carried) (line : ℕ) where
         let b = subst (λ (l : List (List Field)). walk (Count s ∷ ks) c line l ≡ Accepted e) (t .is) a in
         let u = section-in-order (t .front) (t .rest) b in
         (t, sym (section-walk (t .front) (t .rest) (u .0) (u .1)) ∙ b)
-
-pub joined : (b : List (List Field)) {x y z : List (List Field)} → x ≡ b ++ y → y ≡ z → x ≡ b ++ z
-joined b p q = p ∙ ap (λ (l : List (List Field)). b ++ l) q
-
--- nothing follows the last section
-pub section-last : (s : Section) (c : Carried) (line : ℕ) (e : Carried) (xs : List (List Field)) → walk (Count s ∷ []) c line xs ≡ Accepted e
-    → (front : List (List Field)) × (xs ≡ sectionOf s front)
-section-last s c line e xs a =
-    let (t, b) = section-begun s [] c line e xs a in
-    let end = accepted-end (learnAll s (t .front) c) e (line + 1 + length (t .front)) (t .rest) b in
-    (t .front, joined (sectionOf s (t .front)) (t .is) end ∙ append-nil (sectionOf s (t .front)))

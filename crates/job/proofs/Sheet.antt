@@ -1,9 +1,9 @@
 -- Lines are accepted exactly if they are the four sections, each in order; what is read is then what the entries say. Else the answer is at the first count or entry that is not in order.
-use Prim.Native.Nat.{ℕ, _+_, _<_}
+use Prim.Native.Nat.{ℕ, zero, suc, _+_, _<_}
 use mathlib.Core.Path.{_≡_, refl, ap, _∙_, sym, subst}
 use mathlib.Core.List.{List, [], _∷_, _++_, map, append-assoc, append-nil}
 use native.Mathlib.Omega.{arith}
-use lib.ListN.{length, getD, take}
+use lib.ListN.{length, getD, take, drop}
 use Rattle.whole.proofs.Lists.{every-by, only-one}
 use Rattle.form.specs.declared.Field.{Field}
 use Rattle.rules.specs.declared.Section.{Section}
@@ -13,16 +13,23 @@ use Rattle.rules.specs.declared.Kind.the-variants.{Count, Entry}
 use Rattle.job.specs.Carried.{Carried, nothing}
 use Rattle.entry.specs.Says.{buildingOf, windOf, internalOf, faceOf}
 use Rattle.rules.specs.Sections.{lineFault}
-use Rattle.job.specs.Lines.{sectionOf, sheetOf}
+use Rattle.job.specs.Lines.{sections, sectionOf, sectionsOf, sheetOf}
 use Rattle.job.specs.Walk.{entries, learn, Accepted, Refused, walk, readLines}
-use Rattle.job.proofs.Sections.{Counted, section-refused, section-walk, section-in-order, section-begun, section-last, joined}
-use Rattle.job.proofs.Walk.{learnAll, EntriesInOrder}
+use Rattle.job.proofs.Sections.{Counted, section-refused, section-walk, section-in-order, section-begun}
+use Rattle.job.proofs.Walk.{accepted-end, learnAll, EntriesInOrder}
 
 pub by-section : (P : Section → Type 0) → P B → P W → P I → P F → (s : Section) → P s
 by-section P b w i f B = b
 by-section P b w i f W = w
 by-section P b w i f I = i
 by-section P b w i f F = f
+
+-- how many sections stand before one
+abbrev earlier : Section → ℕ
+earlier B = 0
+earlier W = 1
+earlier I = 2
+earlier F = 3
 
 -- what the entries of the sections say
 abbrev pub saidBy : (Section → List (List Field)) → Carried
@@ -77,22 +84,17 @@ module _ (es : Section → List (List Field)) where
 
   -- what is called for behind a section, the lines that stand there, and the number of the section's first line
   abbrev pub later : Section → List Kind
-  later B = Count W ∷ Count I ∷ Count F ∷ []
-  later W = Count I ∷ Count F ∷ []
-  later I = Count F ∷ []
-  later F = []
+  later s = map Count (drop (suc (earlier s)) sections)
 
   abbrev pub behind : Section → List (List Field)
-  behind B = sectionOf W (es W) ++ (sectionOf I (es I) ++ (sectionOf F (es F) ++ []))
-  behind W = sectionOf I (es I) ++ (sectionOf F (es F) ++ [])
-  behind I = sectionOf F (es F) ++ []
-  behind F = []
+  behind s = sectionsOf es (drop (suc (earlier s)) sections)
+
+  abbrev lineAfter : List Section → ℕ → ℕ
+  lineAfter [] line = line
+  lineAfter (s ∷ ss) line = lineAfter ss (line + 1 + length (es s))
 
   abbrev pub lineOf : Section → ℕ
-  lineOf B = 1
-  lineOf W = 1 + 1 + length (es B)
-  lineOf I = 1 + 1 + length (es B) + 1 + length (es W)
-  lineOf F = 1 + 1 + length (es B) + 1 + length (es W) + 1 + length (es I)
+  lineOf s = lineAfter (take (earlier s) sections) 1
 
   -- the walk has come to a section, and to its end
   abbrev pub Reached : Section → Type 0
@@ -103,7 +105,7 @@ module _ (es : Section → List (List Field)) where
 
   pub reached-first : Reached B
   unfolding readLines
-  reached-first = rw append-nil refl
+  reached-first = refl
 
   -- `passed B` reaches W, `passed W` reaches I, and `passed I` reaches F
   pub passed : (s : Section) → Reached s → Counted s (length (es s)) → EntriesInOrder s (saidBy es .building) (es s) → Passed s
@@ -149,17 +151,28 @@ module _ (es : Section → List (List Field)) where
         r ∙ section-refused s (later s) (before s) (lineOf s) (es s) (behind s) i w n (every-by (λ y e. section-judged s y ∙ e) (take i (es s)) h) (λ e. z (sym (section-judged s x) ∙ e))
         ∙ ap (λ (f : ℕ). Refused f (lineOf s + 1 + i)) (section-judged s x)
 
--- lines that are accepted are some sections
+-- ---- lines that are accepted are some sections
+
+abbrev first : List (List Field) → (ℕ → List (List Field)) → ℕ → List (List Field)
+first x f zero = x
+first x f (suc i) = f i
+
+-- sections with the entries that f numbers
+abbrev numbered : (ℕ → List (List Field)) → List Section → List (List Field)
+numbered f [] = []
+numbered f (s ∷ ss) = sectionOf s (f 0) ++ numbered (λ i. f (suc i)) ss
+
+sections-there : (ss : List Section) (c e : Carried) (line : ℕ) (xs : List (List Field)) → walk (map Count ss) c line xs ≡ Accepted e
+    → (f : ℕ → List (List Field)) × (xs ≡ numbered f ss)
+sections-there [] c e line xs a = (λ i. [], accepted-end c e line xs a)
+sections-there (s ∷ ss) c e line xs a =
+    let (t, b) = section-begun s (map Count ss) c line e xs a in
+    let (f, q) = sections-there ss (learnAll s (t .front) c) e (line + 1 + length (t .front)) (t .rest) b in
+    (first (t .front) f, t .is ∙ ap (λ (l : List (List Field)). sectionOf s (t .front) ++ l) q)
+
 sheet-there : (xs : List (List Field)) (e : Carried) → readLines xs ≡ Accepted e → (es : Section → List (List Field)) × (xs ≡ sheetOf es)
-unfolding readLines by-section
-sheet-there xs e a =
-    let (b, rest) = section-begun B (Count W ∷ Count I ∷ Count F ∷ []) nothing 1 e xs a in
-    let (w, rest′) = section-begun W (Count I ∷ Count F ∷ []) _ _ e (b .rest) rest in
-    let (i, rest″) = section-begun I (Count F ∷ []) _ _ e (w .rest) rest′ in
-    let (f, end) = section-last F _ _ e (i .rest) rest″ in (
-      by-section (λ s. List (List Field)) (b .front) (w .front) (i .front) f,
-      joined (sectionOf B (b .front)) (b .is) (joined (sectionOf W (w .front)) (w .is) (joined (sectionOf I (i .front)) (i .is) end)),
-    )
+unfolding readLines
+sheet-there xs e a = let (f, q) = sections-there sections nothing e 1 xs a in (λ s. f (earlier s), q)
 
 -- in order, and read as what their entries say
 pub record AcceptedSheet (xs : List (List Field)) (c : Carried) : Type 0 where

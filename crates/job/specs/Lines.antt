@@ -9,6 +9,10 @@ use Rattle.job.specs.Carried.{Carried}
 use Rattle.fields.specs.Fields.{buildingFields, windFields, internalFields, faceFields}
 use Rattle.rules.specs.Sections.{about}
 
+-- the sections of a sheet, in order
+abbrev pub sections : List Section
+sections = B ∷ W ∷ I ∷ F ∷ []
+
 -- the entries of each section as fields
 abbrev pub entriesOf : Carried → Section → List (List Field)
 entriesOf c B = buildingFields (c .building) ∷ []
@@ -20,9 +24,14 @@ entriesOf c F = map faceFields (c .faces)
 abbrev pub sectionOf : Section → List (List Field) → List (List Field)
 sectionOf s entries = (Letter (about s .letter) ∷ Plus (length entries) ∷ []) ∷ entries
 
+-- sections with these entries, one after the other
+abbrev pub sectionsOf : (Section → List (List Field)) → List Section → List (List Field)
+sectionsOf es [] = []
+sectionsOf es (s ∷ ss) = sectionOf s (es s) ++ sectionsOf es ss
+
 -- the lines of a sheet with these entries in its sections
 abbrev pub sheetOf : (Section → List (List Field)) → List (List Field)
-sheetOf es = sectionOf B (es B) ++ (sectionOf W (es W) ++ (sectionOf I (es I) ++ sectionOf F (es F)))
+sheetOf es = sectionsOf es sections
 
 unfoldable pub linesOf : Carried → List (List Field)
 linesOf c = sheetOf (entriesOf c)

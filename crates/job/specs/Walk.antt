@@ -1,6 +1,6 @@
 -- Reading lines of fields: each against the line that is called for, one by one.
 use Prim.Native.Nat.{ℕ, zero, suc, _+_}
-use mathlib.Core.List.{List, [], _∷_, _++_}
+use mathlib.Core.List.{List, [], _∷_, _++_, map}
 use mathlib.Core.Bool.{cond}
 use lib.Dec.{eqb}
 use Rattle.form.specs.declared.Field.{Field}
@@ -13,7 +13,7 @@ use Rattle.job.specs.declared.Job.{Job}
 use Rattle.job.specs.declared.Verdict.{Verdict}
 use Rattle.job.specs.Carried.{Carried, nothing, carried}
 use Rattle.rules.specs.Sections.{lineFault}
-use Rattle.job.specs.Lines.{linesOf}
+use Rattle.job.specs.Lines.{sections, linesOf}
 
 -- the lines that a line in order calls for: a count calls for as many entries
 abbrev pub entries : Section → ℕ → List Kind
@@ -54,7 +54,7 @@ walk (k ∷ ks) c line (x ∷ xs) =
 
 -- the counts of the sections, in order
 abbrev pub sheet : List Kind
-sheet = Count B ∷ Count W ∷ Count I ∷ Count F ∷ []
+sheet = map Count sections
 
 unfoldable pub readLines : List (List Field) → Reading
 readLines xs = walk sheet nothing 1 xs

@@ -1,6 +1,6 @@
 -- `put_sheet` meets its contract: the text of the lines of four sections is that of each, one after the other.
 use mathlib.Core.Path.{sym}
-use mathlib.Core.List.{_++_}
+use mathlib.Core.List.{_++_, append-nil}
 use native.Mathlib.Omega.{arith}
 use lib.ListN.{length-map}
 use Rattle.rules.specs.declared.Section.the-variants.{B, W, I, F}
@@ -43,8 +43,9 @@ returns c =
     let fs = sectionOf F (entriesOf d F) in
     let is = sectionOf I (entriesOf d I) in
     let ws = sectionOf W (entriesOf d W) in
-    then-lines (sectionOf B (entriesOf d B)) (ws ++ (is ++ fs)) (b .put-section .ensures)
-    (then-lines ws (is ++ fs) (w .put-section2 .ensures) (then-lines is fs (i .put-section3 .ensures) (f .put-section4 .ensures)))
+    rw append-nil
+    (then-lines (sectionOf B (entriesOf d B)) (ws ++ (is ++ fs)) (b .put-section .ensures)
+    (then-lines ws (is ++ fs) (w .put-section2 .ensures) (then-lines is fs (i .put-section3 .ensures) (f .put-section4 .ensures))))
 
 pub put-sheet-spec : {M : Type 1} → statement M
 put-sheet-spec =
