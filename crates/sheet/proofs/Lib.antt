@@ -7,6 +7,6 @@ pub mod Longest
 pub mod Part
 pub mod RoundTrip
 pub mod Steps
-pub mod Holds
-pub mod Within
+pub mod OneMore
+pub mod SoFar
 pub mod Worked

@@ -1,3 +1,2 @@
--- The text of a sheet and what it says, the text of a job put into a lent buffer, and how the code stands on its way.
+-- The text of a sheet and what it says, and the text of a job put into a lent buffer.
 pub mod Sheet
-pub mod Steps

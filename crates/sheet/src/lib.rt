@@ -1,4 +1,3 @@
 // The sheet of a job: its text read.
 mod empty;
 pub mod read;
-mod sections;

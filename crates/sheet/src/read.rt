@@ -1,17 +1,23 @@
-// A sheet read: its four sections in order, up to the first fault, and nothing after them.
+// A sheet read: its sections in order, each its count and as many entries, up to the first fault; and nothing after them.
 use crate::empty::no_job;
-use crate::sections::Place;
-use crate::sections::read_building;
-use crate::sections::read_faces;
-use crate::sections::read_internals;
-use crate::sections::read_winds;
+use building::Building;
+use entry::says::building_of;
+use entry::says::face_of;
+use entry::says::internal_of;
+use entry::says::size_of;
+use entry::says::wind_of;
+use job::Faces;
+use job::Internals;
 use job::Job;
+use job::Winds;
+use lines::field_at;
+use lines::line_at;
+use rules::Kind;
+use rules::Section;
+use rules::faults::line_fault;
 ghost use mathlib.Core.Path.{_≡_};
-ghost use mathlib.Core.List.{[]};
-ghost use Rattle.job.specs.Carried.{Carried, recorded};
 ghost use Rattle.job.specs.Walk.{Refused};
 ghost use Rattle.sheet.specs.Sheet.{reading, answer};
-ghost use Rattle.sheet.specs.Steps.{onward};
 
 // What comes of reading: the number of the fault and the line that has it, both 0 where the sheet is accepted; and the job, all zero where it is refused.
 pub struct Read {
@@ -23,54 +29,79 @@ pub struct Read {
 fn refused(number: u32, line: u32) -> Read
     ensures { λ r. ⌜ r ≡ answer (Refused number line) ⌝ }
 {
-    let j = no_job();
-    Read {
-        number: number,
-        line: line,
-        job: j,
-    }
+    let job = no_job();
+    Read { number, line, job }
 }
 
-// The answer at the end of the last section: j, where nothing follows.
-fn at_end(s: &[u8], at: Place, j: Job) -> Read
-    ensures { λ r. ⌜ ((c : Carried) → j ≡ recorded c → r ≡ answer (onward at c [] (now (s .entry)))) ⌝ }
+fn accepted(building: Building, winds: Winds, internals: Internals, faces: Faces) -> Read
+    ensures { λ r. ⌜ r ≡ record { number = 0; line = 0; job = record { building = building; winds = winds; internals = internals; faces = faces } } ⌝ }
 {
-    if at.number != 0 {
-        return refused(at.number, at.line);
-    }
-    if at.next < s.len() {
-        return refused(1, at.line);
-    }
+    let job = Job {
+        building,
+        winds,
+        internals,
+        faces,
+    };
     Read {
         number: 0,
         line: 0,
-        job: j,
+        job,
     }
 }
+
+// The sections, in order.
+const SECTIONS: [Section; 4] = [Section::B, Section::W, Section::I, Section::F];
 
 // What the text s says.
 pub fn read_sheet(s: &[u8]) -> Read
     ensures { λ r. ⌜ r ≡ answer (reading (now (s .entry))) ⌝ }
 {
-    let start = Place {
-        number: 0,
-        line: 1,
-        next: 0,
-        left: 0,
-    };
-    let b = read_building(s, start);
-    let building = b.building;
-    let w = read_winds(s, b.at, building);
-    let winds = w.winds;
-    let i = read_internals(s, w.at, building);
-    let internals = i.internals;
-    let f = read_faces(s, i.at, building);
-    let faces = f.faces;
-    let job = Job {
-        building: building,
-        winds: winds,
-        internals: internals,
-        faces: faces,
-    };
-    at_end(s, f.at, job)
+    let none = no_job();
+    let mut building = none.building;
+    let mut winds = none.winds;
+    let mut internals = none.internals;
+    let mut faces = none.faces;
+    let mut line: u32 = 1;
+    let mut next: usize = 0;
+    for i in 0..4 {
+        // the count of the section, and as many entries
+        let sec = SECTIONS[i];
+        let x = line_at(s, next);
+        let n = line_fault(Kind::Count(sec), building, x);
+        if n != 0 {
+            return refused(n, line);
+        }
+        line += 1;
+        next = x.next;
+        let mut left = size_of(field_at(x, 1));
+        while left != 0 {
+            let x = line_at(s, next);
+            let n = line_fault(Kind::Entry(sec), building, x);
+            if n != 0 {
+                return refused(n, line);
+            }
+            line += 1;
+            next = x.next;
+            left -= 1;
+            match sec {
+                Section::B => building = building_of(x),
+                Section::W => {
+                    winds.entry[winds.count as usize] = wind_of(x);
+                    winds.count += 1;
+                }
+                Section::I => {
+                    internals.entry[internals.count as usize] = internal_of(x);
+                    internals.count += 1;
+                }
+                Section::F => {
+                    faces.entry[faces.count as usize] = face_of(x);
+                    faces.count += 1;
+                }
+            }
+        }
+    }
+    if next < s.len() {
+        return refused(1, line);
+    }
+    accepted(building, winds, internals, faces)
 }

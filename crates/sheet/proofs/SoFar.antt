@@ -1,0 +1,185 @@
+-- What was read so far of a text, and the laws of one line more: the count of a section, an entry of it, and the end.
+use Prim.Native.Nat.{ℕ, zero, suc, _+_, _-_, _*_, _≤_, _<_}
+use mathlib.Core.Path.{_≡_, refl, ap, _∙_, sym, subst}
+use mathlib.Core.List.{List, [], _∷_, _++_, map}
+use native.Mathlib.Omega.{arith}
+use native.Mathlib.Numerals.{add-one}
+use lib.IntN.{ℤ}
+use lib.ListN.{length, drop}
+use lib.Seq.{drop-cons}
+use Rattle.lines.specs.declared.Line.{Line}
+use Rattle.lines.specs.Lines.{rows}
+use Rattle.lines.specs.Held.{held, lineAt}
+use Rattle.lines.proofs.Lines.{rows-some, rows-end}
+use Rattle.building.specs.declared.Building.{Building}
+use Rattle.entry.specs.declared.Wind.{Wind}
+use Rattle.entry.specs.declared.Face.{Face}
+use Rattle.entry.specs.Says.{size, at, buildingOf, windOf, internalOf, faceOf}
+use Rattle.rules.specs.declared.Section.{Section}
+use Rattle.rules.specs.declared.Section.the-variants.{B, W, I, F}
+use Rattle.rules.specs.declared.Kind.{Kind}
+use Rattle.rules.specs.declared.Kind.the-variants.{Count, Entry}
+use Rattle.rules.specs.Sections.{about, lineFault}
+use Rattle.job.specs.declared.Job.{Job}
+use Rattle.job.specs.Carried.{Carried, nothing, recorded}
+use Rattle.job.specs.Lines.{sections}
+use Rattle.job.specs.Walk.{entries, calls, learn, Accepted, Refused, walk, readLines}
+use Rattle.job.proofs.Alone.{most-24}
+use Rattle.sheet.specs.Sheet.{reading}
+use Rattle.sheet.proofs.Longest.{count-most}
+use Rattle.sheet.proofs.OneMore.{withBuilding, withWind, withInternal, withFace, countIn, sectionAt, one-more, Unread, none-later}
+use Rattle.sheet.proofs.OneMore.{building-recorded, wind-recorded, internal-recorded, face-recorded}
+use Rattle.sheet.proofs.Steps.{walk-stop, walk-go}
+
+-- s is read up to line `line`, which begins at `next`: j records all that was carried, and what comes of the rest is what comes of s;
+-- `left` entries of a section are still called for, and then the sections after the first `begun`
+pub record ReadSoFar (s : List ℕ) (sec : Section) (left begun : ℕ) (j : Job) (line next : ℕ) : Type 0 where
+  pub carries : Carried
+  pub records : j ≡ recorded carries
+  pub rest : walk (entries sec left ++ map Count (drop begun sections)) carries line (rows (drop next s)) ≡ reading s
+  pub room : countIn j sec + left ≤ about sec .most
+  pub unread : Unread j (drop begun sections)
+  -- no section has more than 25 lines
+  pub lines : line + left + 25 * length (drop begun sections) ≤ 101
+
+-- nothing read yet
+pub read-start : (s : List ℕ) {j : Job} → j ≡ recorded nothing → ReadSoFar s B 0 0 j 1 0
+unfolding reading readLines recorded
+read-start s e =
+    record {
+      carries = nothing;
+      records = e;
+      rest = refl;
+      room = omega arith;
+      unread = rw e (refl, (refl, (refl, (refl, tt))));
+      lines = omega arith;
+    }
+
+-- ---- one line more
+
+-- x is the line at `next`, and f its fault as a line of kind k
+module _
+    (s : List ℕ) (k : Kind) (ks : List Kind) {j : Job} (c : Carried) (e : j ≡ recorded c) (line next : ℕ) {x : Line} (hx : x ≡ lineAt s next)
+    {f : ℕ} (hf : f ≡ lineFault k (j .building) (held x)) (rest : walk (k ∷ ks) c line (rows (drop next s)) ≡ reading s) where
+  fault-is : f ≡ lineFault k (c .building) (held x)
+  unfolding recorded
+  fault-is = hf ∙ ap (λ (i : Job). lineFault k (i .building) (held x)) e
+
+  line-stops : (f ≡ 0 → ⊥) → reading s ≡ Refused f line
+  line-stops h = sym rest ∙ walk-stop k ks c line s next x hx f fault-is h
+
+  line-goes : f ≡ 0 → walk (calls k (held x) ++ ks) (learn k (held x) c) (line + 1) (rows (drop (x .next) s)) ≡ reading s
+  line-goes z = sym (walk-go k ks c line s next x hx f fault-is z) ∙ rest
+
+-- ---- the count of the next section
+
+module _ {s : List ℕ} {sec : Section} {i : ℕ} {j : Job} {line next : ℕ} (r : ReadSoFar s sec 0 i j line next) (few : i < 4)
+    {x : Line} (hx : x ≡ lineAt s next) {f : ℕ} (hf : f ≡ lineFault (Count (sectionAt i)) (j .building) (held x)) where
+  abbrev later : List Section
+  later = drop (suc i) sections
+
+  next-section : drop i sections ≡ sectionAt i ∷ later
+  next-section = drop-cons sections i B few
+
+  count-called : walk (Count (sectionAt i) ∷ map Count later) (r .carries) line (rows (drop next s)) ≡ reading s
+  count-called = rw next-section at (r .rest)
+
+  pub count-stops : (f ≡ 0 → ⊥) → reading s ≡ Refused f line
+  count-stops = line-stops s (Count (sectionAt i)) (map Count later) (r .carries) (r .records) line next hx hf count-called
+
+  pub count-read : f ≡ 0 → {left : ℕ} → left ≡ size (at (held x) 1) → ReadSoFar s (sectionAt i) left (suc i) j (line + 1) (x .next)
+  count-read z {left} hl =
+      let u : Unread j (sectionAt i ∷ later) = rw next-section at (r .unread) in
+      let l : line + 0 + 25 * suc (length later) ≤ 101 = rw next-section at (r .lines) in
+      let m : left ≤ about (sectionAt i) .most = rw hl (count-most (sectionAt i) (j .building) (held x) (sym hf ∙ z)) in
+      record {
+        carries = r .carries;
+        records = r .records;
+        rest = rw hl (line-goes s (Count (sectionAt i)) (map Count later) (r .carries) (r .records) line next hx hf count-called z);
+        room = omega (arith, u .0);
+        unread = u .1;
+        lines = omega (arith, most-24 (sectionAt i));
+      }
+
+-- ---- an entry of the section
+
+entries-next : (t : Section) (n : ℕ) → (n ≡ 0 → ⊥) → entries t n ≡ Entry t ∷ entries t (n - 1)
+entries-next t zero h = absurd (h refl)
+entries-next t (suc n) h =
+    let q : suc n - 1 ≡ n = omega arith in
+    rw q
+
+module _ {s : List ℕ} {left i : ℕ} {j : Job} {line next : ℕ} (r : ReadSoFar s (sectionAt i) left (suc i) j line next) (more : left ≡ 0 → ⊥) where
+  abbrev behind : List Kind
+  behind = entries (sectionAt i) (left - 1) ++ map Count (drop (suc i) sections)
+
+  entry-called : walk (Entry (sectionAt i) ∷ behind) (r .carries) line (rows (drop next s)) ≡ reading s
+  entry-called = rw (entries-next (sectionAt i) left more) at (r .rest)
+
+  pub entry-stops : {x : Line} → x ≡ lineAt s next → {f : ℕ} → f ≡ lineFault (Entry (sectionAt i)) (j .building) (held x) → (f ≡ 0 → ⊥)
+      → reading s ≡ Refused f line
+  entry-stops hx hf = line-stops s (Entry (sectionAt i)) behind (r .carries) (r .records) line next hx hf entry-called
+
+-- x, the line that begins at `next`, is an entry in order of the section that was begun last
+pub record EntryLine (s : List ℕ) (left i : ℕ) (j : Job) (line next : ℕ) (x : Line) : Type 0 where
+  pub so-far : ReadSoFar s (sectionAt i) left (suc i) j line next
+  pub more : left ≡ 0 → ⊥
+  pub is : x ≡ lineAt s next
+  pub in-order : 0 ≡ lineFault (Entry (sectionAt i)) (j .building) (held x)
+
+module _ {s : List ℕ} {left i : ℕ} {j : Job} {line next : ℕ} {x : Line} (o : EntryLine s left i j line next x) where
+  abbrev here : Carried
+  here = o .so-far .carries
+
+  -- the record has room for it
+  pub entry-room : {t : Section} → sectionAt i ≡ t → countIn j t < about t .most
+  entry-room told = subst (λ (v : Section). countIn j v < about v .most) told (omega (arith, o .so-far .room, o .more))
+
+  -- the next line, with the entry put into the record
+  abbrev Next : Job → Type 0
+  Next k = ReadSoFar s (sectionAt i) (left - 1) (suc i) k (line + 1) (x .next)
+
+  entry-read : {t : Section} → sectionAt i ≡ t → {k : Job} → k ≡ recorded (learn (Entry t) (held x) here) → Next k
+  entry-read told {k} put =
+      let r = o .so-far in
+      let e : k ≡ recorded (learn (Entry (sectionAt i)) (held x) here) = rw told put in
+      let p : countIn (recorded here) (sectionAt i) + left ≤ about (sectionAt i) .most = rw (r .records) at (r .room) in
+      let u : Unread (recorded here) (drop (suc i) sections) = rw (r .records) at (r .unread) in
+      record {
+        carries = learn (Entry (sectionAt i)) (held x) here;
+        records = e;
+        rest = line-goes s (Entry (sectionAt i)) (behind r (o .more)) here (r .records) line next (o .is) (o .in-order) (entry-called r (o .more)) refl;
+        room = rw e (omega (arith, o .more, one-more (sectionAt i) here (held x)));
+        unread = rw e (none-later i here (held x) u);
+        lines = omega (arith, o .more, r .lines);
+      }
+
+  pub building-read : sectionAt i ≡ B → {y : Building} → y ≡ buildingOf (held x) → Next (withBuilding j y)
+  building-read told h = rw h (entry-read told (building-recorded here (o .so-far .records) (held x)))
+
+  pub wind-read : sectionAt i ≡ W → {y : Wind} → y ≡ windOf (held x) → Next (withWind j y)
+  wind-read told h = rw h (entry-read told (wind-recorded here (o .so-far .records) (held x) (entry-room told)))
+
+  pub internal-read : sectionAt i ≡ I → {y : ℤ} → y ≡ internalOf (held x) → Next (withInternal j y)
+  internal-read told h = rw h (entry-read told (internal-recorded here (o .so-far .records) (held x) (entry-room told)))
+
+  pub face-read : sectionAt i ≡ F → {y : Face} → y ≡ faceOf (held x) → Next (withFace j y)
+  face-read told h = rw h (entry-read told (face-recorded here (o .so-far .records) (held x) (entry-room told)))
+
+-- ---- the end of a section, and of the sheet
+
+pub section-end : {s : List ℕ} {sec : Section} {left i : ℕ} {j : Job} {line next : ℕ} → ReadSoFar s sec left (suc i) j line next → left ≡ 0
+    → ReadSoFar s sec 0 (i + 1) j line next
+section-end r z = rw add-one (rw z at r)
+
+module _ {s : List ℕ} {sec : Section} {i : ℕ} {j : Job} {line next : ℕ} (r : ReadSoFar s sec 0 i j line next) (all : i ≡ 4) where
+  nothing-called : walk [] (r .carries) line (rows (drop next s)) ≡ reading s
+  nothing-called = rw all at (r .rest)
+
+  pub end-extra : next < length s → reading s ≡ Refused 1 line
+  unfolding walk
+  end-extra h = sym nothing-called ∙ (let t = rows-some s next h in rw (t .2))
+
+  pub end-accepted : length s ≤ next → reading s ≡ Accepted (r .carries)
+  unfolding walk
+  end-accepted h = sym nothing-called ∙ rw (rows-end s next h)
