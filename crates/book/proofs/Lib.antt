@@ -5,6 +5,8 @@ pub mod Interpolated
 pub mod Spot
 pub mod Walked
 pub mod Tables
+pub mod Coded
+pub mod Parts
 pub mod Rows
 pub mod Roofed
 pub mod Columns

@@ -17,7 +17,8 @@ use Rattle.building.specs.Order.{InOrder}
 use Rattle.book.specs.Roofs.{partRows, partAts, firstRow, partOf, spotIn, roofCells, roofValue}
 use Rattle.book.proofs.Spot.{Good, spot-good}
 use Rattle.book.proofs.Walked.{lastAt, rows-rise, walked-interpolated}
-use Rattle.book.proofs.Tables.{part-printed, part, roof-small, gable-small, flat-small}
+use Rattle.book.proofs.Tables.{roof-small, gable-small, flat-small}
+use Rattle.book.proofs.Parts.{part-printed, part}
 use Rattle.book.proofs.Rows.{blockOf-most}
 use Rattle.book.proofs.Between.{line-between, line-small}
 

@@ -1,20 +1,16 @@
--- What holds of every entry of the printed tables, each by one test over the whole of them.
-use mathlib.Core.Path.{_≡_, refl, subst}
+-- How large the numbers of the printed tables are, each by one test over the whole of them.
+use mathlib.Core.Path.{subst}
 use mathlib.Core.Bool.{Bool}
-use mathlib.Core.List.{List, [], _∷_, _++_, map}
-use Prim.Native.Nat.{ℕ, zero-le, _+_, _-_, _≤_, _<_}
-use lib.Dec.{T, leb, leb→le, le→leb, lit≤}
+use mathlib.Core.List.{List, []}
+use Prim.Native.Nat.{ℕ, zero-le, _≤_, _<_}
+use lib.Dec.{T, leb, leb→le, le→leb}
 use lib.IntN.{ℤ, pos, natAbs}
-use lib.ListN.{length, getD, take, drop}
+use lib.ListN.{getD, take}
 use lib.Seq.{getD-take}
-use Rattle.whole.proofs.Table.{all, all-at, each-at}
-use Rattle.book.specs.Line.{Row, cellIn}
+use Rattle.whole.proofs.Table.{all, all-at}
+use Rattle.book.specs.Line.{cellIn}
 use Rattle.book.specs.Walls.{wallCells}
-use Rattle.book.specs.Roofs.{parts, joined, roofCells, partRows, partAts, firstRow}
-use Rattle.book.proofs.Spot.{rising}
-use Rattle.book.proofs.Walked.{printed}
-
--- ---- how large the hundredths are
+use Rattle.book.specs.Roofs.{roofAts, roofCells}
 
 abbrev small : ℕ → ℤ → Bool
 small k z = leb (natAbs z) k
@@ -44,53 +40,7 @@ flat-small i col h =
     (subst (λ (z : ℤ). T (small 120 z)) (getD-take 2 (getD roofCells i []) col (pos 0) h)
     (all-at (small 120) (take 2 (getD roofCells i [])) (pos 0) tt (all-at (λ (l : List ℤ). all (small 120) (take 2 l)) roofCells [] tt tt i) col))
 
--- ---- the parts of the roofs' tables
-
--- their rows are printed one after the other
-abbrev PrintedFrom : ℕ → Type 0
-PrintedFrom k = drop (firstRow k) roofCells ≡ printed (partRows k) ++ printed (joined (drop (k + 1) parts))
-
-pub part-printed : (k : ℕ) → k < 7 → PrintedFrom k
-unfolding firstRow roofCells
-part-printed = each-at PrintedFrom 7 (refl, (refl, (refl, (refl, (refl, (refl, (refl, tt)))))))
-
--- the numbers at which all rows stand
-abbrev pub ats : List ℕ
-ats = map (λ (r : Row). r .at) (joined parts)
-
-pub record Part (k : ℕ) : Type 0 where
-  pub next : firstRow k + length (partAts k) ≡ firstRow (k + 1)
-  pub end : firstRow (k + 1) ≤ 33
-  pub piece : take (firstRow (k + 1) - firstRow k) (drop (firstRow k) ats) ≡ partAts k
-  pub rises : T (rising 900 (partAts k))
-  pub low : T (all (λ (s : ℕ). leb s 900) (partAts k))
-
-pub part : (k : ℕ) → k < 7 → Part k
-unfolding firstRow partAts
-part =
-    each-at Part 7 (
-      record { next = refl; end = lit≤ tt; piece = refl; rises = tt; low = tt },
-      (
-        record { next = refl; end = lit≤ tt; piece = refl; rises = tt; low = tt },
-        (
-          record { next = refl; end = lit≤ tt; piece = refl; rises = tt; low = tt },
-          (
-            record { next = refl; end = lit≤ tt; piece = refl; rises = tt; low = tt },
-            (
-              record { next = refl; end = lit≤ tt; piece = refl; rises = tt; low = tt },
-              (
-                record { next = refl; end = lit≤ tt; piece = refl; rises = tt; low = tt },
-                (
-                  record { next = refl; end = lit≤ tt; piece = refl; rises = tt; low = tt },
-                  tt,
-                ),
-              ),
-            ),
-          ),
-        ),
-      ),
-    )
-
-pub first-row : (k : ℕ) → k < 8 → getD (0 ∷ 7 ∷ 14 ∷ 22 ∷ 23 ∷ 26 ∷ 29 ∷ 33 ∷ []) k 0 ≡ firstRow k
-unfolding firstRow
-first-row = each-at (λ (k : ℕ). getD (0 ∷ 7 ∷ 14 ∷ 22 ∷ 23 ∷ 26 ∷ 29 ∷ 33 ∷ []) k 0 ≡ firstRow k) 8 (refl, (refl, (refl, (refl, (refl, (refl, (refl, (refl, tt))))))))
+-- the numbers at which rows stand
+pub at-small : (i : ℕ) → getD roofAts i 0 ≤ 900
+unfolding roofAts
+at-small i = leb→le _ 900 (all-at (λ (n : ℕ). leb n 900) roofAts 0 tt tt i)

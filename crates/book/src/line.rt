@@ -1,10 +1,9 @@
-// Where a number lies between the rows of a table, and the value there.
+// A place between the rows of a table, and the value there.
 ghost use mathlib.Core.Path.{_≡_};
-ghost use Prim.Native.Nat.{ℕ, _+_, _*_, _/_, _<_, _≤_};
-ghost use lib.ListN.{length, getD};
+ghost use Prim.Native.Nat.{_+_, _*_, _/_, _<_, _≤_};
 ghost use lib.IntN.{natAbs};
 ghost use Rattle.whole.specs.Round.{roundAway};
-ghost use Rattle.book.specs.Line.{spotFrom, lineAt};
+ghost use Rattle.book.specs.Line.{lineAt};
 
 // From row `lower` to row `upper`, `part` / `whole` of the way.
 pub(crate) struct Spot {
@@ -12,34 +11,6 @@ pub(crate) struct Spot {
     pub upper: usize,
     pub part: u64,
     pub whole: u64,
-}
-
-// The rows stand at the numbers of `at`, the first of them being row `first`; x / d lies between two of them.
-pub(crate) fn spot_from(first: usize, at: &[u64], x: u64, d: u64) -> Spot
-    requires { ⌜ ((i : ℕ) → getD (now at) i 0 ≤ 900) ⌝ }
-    requires { ⌜ (first ≤ 33) × (d ≤ 30000) × (getD (now at) 0 0 * d ≤ x) × (length (now at) ≤ 33) ⌝ }
-    ensures { λ r. ⌜ r ≡ spotFrom first (now (at .entry)) x d ⌝ }
-{
-    let mut i: usize = 0;
-    while i + 1 < at.len() {
-        let s = at[i] * d;
-        let t = at[i + 1] * d;
-        if x <= t {
-            return Spot {
-                lower: first + i,
-                upper: first + i + 1,
-                part: x - s,
-                whole: t - s,
-            };
-        }
-        i += 1;
-    }
-    Spot {
-        lower: first + i,
-        upper: first + i,
-        part: 0,
-        whole: 1,
-    }
 }
 
 // n / d to the nearest whole number, a half going up.

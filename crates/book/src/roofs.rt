@@ -3,89 +3,59 @@ ghost use mathlib.Core.Path.{_≡_};
 ghost use Prim.Native.Nat.{_<_, _≤_, _*_};
 ghost use lib.ListN.{getD};
 ghost use Rattle.book.specs.Line.{cellIn};
-ghost use Rattle.book.specs.Roofs.{roofCells, firstRow, partAts, partOf, spotIn, roofValue};
+ghost use Rattle.book.specs.Roofs.{roofCells, roofAts, firstRow, partAts, partOf, spotIn, roofValue};
 ghost use Rattle.building.specs.Order.{InOrder};
 use super::line::Spot;
 use super::line::line_at;
-use super::line::spot_from;
 use super::walls::block_of;
 use building::Sizes;
 
 // The row with which each part begins: gable by h/b; straight eaves, parapet, curved eaves, mansard.
 const FIRST: [usize; 8] = [0, 7, 14, 22, 23, 26, 29, 33];
 
-// Tenths of a degree; for parapet and curved eaves, thousandths of h.
-const AT: [u64; 33] = [
-    0,
-    50,
-    100,
-    200,
-    300,
-    450,
-    600, // h/b to 1/2
-    0,
-    50,
-    100,
-    200,
-    300,
-    450,
-    600, // over 1/2, to 3/2
-    0,
-    50,
-    100,
-    200,
-    300,
-    400,
-    500,
-    600, // over 3/2, to 6
-    0, // straight eaves
-    25,
-    50,
-    100, // parapet
-    50,
-    100,
-    200, // curved eaves
-    300,
-    450,
-    600,
-    900, // mansard
-];
-
+// First the number at which a row stands: tenths of a degree or, for parapet and curved eaves, thousandths of h. Then its hundredths.
 // Gable: wind 0 E,F; wind 0 G,H; wind 90 E,G; wind 90 F,H. Flat: E; F, with both signs; L1; L2.
-const CELLS: [[i16; 4]; 33] = [
-    [-80, -40, -80, -40],
-    [-90, -40, -80, -40],
-    [-120, -40, -80, -60],
-    [-40, -40, -70, -60],
-    [0, -40, -70, -60],
-    [30, -50, -70, -60],
-    [70, -60, -70, -60],
-    [-80, -60, -100, -60],
-    [-90, -60, -90, -60],
-    [-110, -60, -80, -60],
-    [-70, -50, -80, -60],
-    [-20, -50, -80, -80],
-    [20, -50, -80, -80],
-    [60, -50, -80, -80],
-    [-70, -60, -90, -70],
-    [-70, -60, -80, -80],
-    [-70, -60, -80, -80],
-    [-80, -60, -80, -80],
-    [-100, -50, -80, -70],
-    [-20, -50, -80, -70],
-    [20, -50, -80, -70],
-    [50, -50, -80, -70],
-    [-70, 20, -250, -200],
-    [-70, 20, -220, -180],
-    [-70, 20, -200, -160],
-    [-70, 20, -180, -140],
-    [-40, 20, -150, -180],
-    [-30, 20, -120, -140],
-    [-30, 20, -80, -80],
-    [-30, 20, -150, -150],
-    [-40, 20, -180, -190],
-    [-50, 20, -190, -190],
-    [-70, 20, -250, -200],
+const ROWS: [[i16; 5]; 33] = [
+    // Gable, h/b to 1/2.
+    [0, -80, -40, -80, -40],
+    [50, -90, -40, -80, -40],
+    [100, -120, -40, -80, -60],
+    [200, -40, -40, -70, -60],
+    [300, 0, -40, -70, -60],
+    [450, 30, -50, -70, -60],
+    [600, 70, -60, -70, -60],
+    // Gable, h/b over 1/2, to 3/2.
+    [0, -80, -60, -100, -60],
+    [50, -90, -60, -90, -60],
+    [100, -110, -60, -80, -60],
+    [200, -70, -50, -80, -60],
+    [300, -20, -50, -80, -80],
+    [450, 20, -50, -80, -80],
+    [600, 60, -50, -80, -80],
+    // Gable, h/b over 3/2, to 6.
+    [0, -70, -60, -90, -70],
+    [50, -70, -60, -80, -80],
+    [100, -70, -60, -80, -80],
+    [200, -80, -60, -80, -80],
+    [300, -100, -50, -80, -70],
+    [400, -20, -50, -80, -70],
+    [500, 20, -50, -80, -70],
+    [600, 50, -50, -80, -70],
+    // Flat, straight eaves.
+    [0, -70, 20, -250, -200],
+    // Flat, parapet.
+    [25, -70, 20, -220, -180],
+    [50, -70, 20, -200, -160],
+    [100, -70, 20, -180, -140],
+    // Flat, curved eaves.
+    [50, -40, 20, -150, -180],
+    [100, -30, 20, -120, -140],
+    [200, -30, 20, -80, -80],
+    // Flat, mansard.
+    [300, -30, 20, -150, -150],
+    [450, -40, 20, -180, -190],
+    [600, -50, 20, -190, -190],
+    [900, -70, 20, -250, -200],
 ];
 
 fn first_row(k: usize) -> usize
@@ -95,11 +65,19 @@ fn first_row(k: usize) -> usize
     FIRST[k]
 }
 
+// The number at which a row stands.
+fn stands(row: usize) -> u64
+    requires { ⌜ row < 33 ⌝ }
+    ensures { λ r. ⌜ r ≡ getD roofAts row 0 ⌝ }
+{
+    ROWS[row][0] as u64
+}
+
 fn cell(row: usize, col: usize) -> i16
     requires { ⌜ (row < 33) × (col < 4) ⌝ }
     ensures { λ r. ⌜ r ≡ cellIn roofCells row col ⌝ }
 {
-    CELLS[row][col]
+    ROWS[row][col + 1]
 }
 
 // A gable's part goes by h/b, a flat roof's by its kind.
@@ -113,14 +91,32 @@ fn part_of(s: Sizes) -> usize
     (s.kind + 1) as usize
 }
 
-// Where x lies among the rows of part k.
+// Between which rows of part k x / d lies: a walk over them, in the book's order.
 fn spot_in(k: usize, x: u64, d: u64) -> Spot
     requires { ⌜ (k < 7) × (0 < d) × (d ≤ 30000) × (getD (partAts k) 0 0 * d ≤ x) ⌝ }
     ensures { λ r. ⌜ r ≡ spotIn k x d ⌝ }
 {
-    let first = first_row(k);
     let end = first_row(k + 1);
-    spot_from(first, &AT[first..end], x, d)
+    let mut i = first_row(k);
+    while i + 1 < end {
+        let s = stands(i) * d;
+        let t = stands(i + 1) * d;
+        if x <= t {
+            return Spot {
+                lower: i,
+                upper: i + 1,
+                part: x - s,
+                whole: t - s,
+            };
+        }
+        i += 1;
+    }
+    Spot {
+        lower: i,
+        upper: i,
+        part: 0,
+        whole: 1,
+    }
 }
 
 // The value of a column of the roof's table.

@@ -8,14 +8,17 @@ ghost use Rattle.building.specs.Order.{InOrder};
 use super::line::line_at;
 use building::Sizes;
 
+// A row: wind 0, wind 90, local.
+struct Wall([i16; 4], [i16; 4], i16);
+
 // Wind 0: A B C D; wind 90: A B C D; local.
-const WALLS: [[i16; 9]; 6] = [
-    [70, -20, -50, -50, -50, -50, 70, -20, -80],
-    [70, -25, -60, -60, -50, -50, 70, -10, -100],
-    [70, -25, -60, -60, -60, -60, 70, -25, -110],
-    [70, -30, -70, -70, -50, -50, 70, -10, -110],
-    [80, -25, -80, -80, -80, -80, 80, -25, -120],
-    [70, -40, -70, -70, -50, -50, 80, -10, -120],
+const WALLS: [Wall; 6] = [
+    Wall([70, -20, -50, -50], [-50, -50, 70, -20], -80),
+    Wall([70, -25, -60, -60], [-50, -50, 70, -10], -100),
+    Wall([70, -25, -60, -60], [-60, -60, 70, -25], -110),
+    Wall([70, -30, -70, -70], [-50, -50, 70, -10], -110),
+    Wall([80, -25, -80, -80], [-80, -80, 80, -25], -120),
+    Wall([70, -40, -70, -70], [-50, -50, 80, -10], -120),
 ];
 
 // The block of h/b: to 1/2; over 1/2, to 3/2; over 3/2, to 6.
@@ -48,7 +51,14 @@ fn wall_cell(row: usize, col: usize) -> i16
     requires { ⌜ (row < 6) × (col < 9) ⌝ }
     ensures { λ r. ⌜ r ≡ cellIn wallCells row col ⌝ }
 {
-    WALLS[row][col]
+    let w = WALLS[row];
+    if col < 4 {
+        return w.0[col];
+    }
+    if col < 8 {
+        return w.1[col - 4];
+    }
+    w.2
 }
 
 pub(crate) fn wall_value(s: Sizes, col: usize) -> i32

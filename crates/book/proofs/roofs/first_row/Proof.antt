@@ -1,6 +1,6 @@
 -- `roofs::first_row`: the eight numbers are where the parts begin and end.
 use borrow.Author.Needs.{needs}
-use Rattle.book.proofs.Tables.{first-row}
+use Rattle.book.proofs.Coded.{first-row}
 use Rattle.book.proofs.roofs.first_row.Statement.{statement}
 use Rattle.book.proofs.roofs.first_row.Tie as tie
 

@@ -1,69 +1,132 @@
--- `roofs::spot_in`: the piece of the table that is lent is part k.
-use mathlib.Core.Path.{_≡_, sym, ap₂, _∙_, subst}
-use mathlib.Core.List.{List}
+-- `roofs::spot_in`: the loop takes the walk over the rows of the part that are left.
+use mathlib.Core.Path.{_≡_, sym, ap, _∙_}
 use Prim.Native.Nat.{ℕ, _+_, _-_, _*_, _≤_}
+use native.Mathlib.Nat.{mul-le-mul}
 use native.Mathlib.Omega.{arith}
 use borrow.Author.Needs.{needs}
-use lib.Dec.{leb, leb→le}
-use lib.ListN.{length, getD, take, drop}
-use Rattle.whole.proofs.Table.{all-at}
+use lib.ListN.{getD, drop}
 use Rattle.book.specs.Line.{spotFrom}
-use Rattle.book.specs.Roofs.{partAts, spotIn}
-use Rattle.book.proofs.Tables.{ats, Part, part}
+use Rattle.book.specs.Roofs.{roofAts, firstRow, spotIn}
+use Rattle.book.proofs.Parts.{rowsTo, part, walk-stops, walk-passes, walk-ends}
+use Rattle.book.proofs.Tables.{at-small}
 use Rattle.book.proofs.roofs.spot_in.Statement.{statement}
 use Rattle.book.proofs.roofs.spot_in.Tie as tie
 
-facts : (c : tie.After-first-row2) → Part (c .before .before .args .k)
-facts c = part (c .before .before .args .k) (c .before .before .pre .0)
+abbrev Inv-loop : tie.InvT-loop
+Inv-loop k x d end i₀ i =
+    (i ≤ end) × (getD roofAts i 0 * d ≤ x) × (spotIn k x d ≡ spotFrom i (drop i (rowsTo k)) x d)
 
--- where the piece begins and ends
-begins : (c : tie.After-first-row2) → c .before .first-row .result + length (partAts (c .before .before .args .k)) ≡ c .first-row2 .result
-begins c = omega (arith, c .before .first-row .ensures, c .first-row2 .ensures, facts c .next)
+abbrev μ-loop : tie.MeasureT-loop
+μ-loop k x d end i₀ i = end - i
 
-ends : (c : tie.After-first-row2) → c .first-row2 .result ≤ 33
-ends c = omega (arith, c .first-row2 .ensures, facts c .end)
+abbrev start : tie.At-loop Inv-loop μ-loop → tie.Start Inv-loop μ-loop
+start c = c .before .before .before
 
-piece : (c : tie.After-first-row2) → take (c .first-row2 .result - c .before .first-row .result) (drop (c .before .first-row .result) ats) ≡ partAts (c .before .before .args .k)
-piece c =
-    ap₂ (λ (a e : ℕ). take (e - a) (drop a ats)) (c .before .first-row .ensures) (c .first-row2 .ensures) ∙ facts c .piece
+-- where the part ends, which is no further than the table
+last : (c : tie.At-loop Inv-loop μ-loop) → c .before .before .first-row .result ≡ firstRow (start c .args .k + 1)
+last c = c .before .before .first-row .ensures
 
-mul-spot-from : tie.Need-mul-spot-from
-mul-spot-from c = omega (arith, begins c, ends c)
+few : (c : tie.At-loop Inv-loop μ-loop) → c .before .before .first-row .result ≤ 33
+few c = omega (arith, last c, part (start c .args .k) (start c .pre .0) .end)
 
-sub-spot-from : tie.Need-sub-spot-from
-sub-spot-from c = omega (arith, begins c)
+-- a row's number, times d
+scaled : {n m : ℕ} (d : ℕ) → n ≡ m → n * d ≡ m * d
+scaled d e = ap (λ (n : ℕ). n * d) e
 
-part-spot-from-start : tie.Need-part-spot-from-start
-part-spot-from-start c = omega (arith, begins (c .before))
+small : {n : ℕ} (i d : ℕ) → d ≤ 30000 → n ≡ getD roofAts i 0 → n * d ≤ 900 * 30000
+small i d h e = rw e (mul-le-mul (at-small i) h)
 
-part-spot-from-end : tie.Need-part-spot-from-end
-part-spot-from-end c = omega (arith, ends (c .before))
-
-spot-from-requires : tie.Need-spot-from-requires
-spot-from-requires c κs =
-    let d = c .before .before in
-    let s = d .before .before in
-    let f = facts d in
-    subst (λ (l : List ℕ). ((i : ℕ) → getD l i 0 ≤ 900) × ((d .before .first-row .result ≤ 33) × (s .args .d ≤ 30000) × (getD l 0 0 * s .args .d ≤ s .args .x) × (length l ≤ 33))) (sym (piece d))
-    (λ i. leb→le _ 900 (all-at (λ (n : ℕ). leb n 900) (partAts (s .args .k)) 0 tt (f .low) i), (omega (arith, begins d, ends d), omega arith, s .pre .3, omega (arith, begins d, ends d)))
-
-returns : tie.Need-returns
+loop-holds : tie.Need-loop-holds Inv-loop μ-loop
 unfolding spotIn
+loop-holds c =
+    let s = c .before .before in
+    let p = part (s .args .k) (s .pre .0) in
+    let f = c .first-row2 .ensures in
+    (omega (arith, c .before .first-row .ensures, p .next), rw (f, p .starts) (s .pre .3), rw (f, p .piece))
+
+add-loop : tie.Need-add-loop Inv-loop μ-loop
+add-loop c = omega (arith, few c)
+
+stands-requires : tie.Need-stands-requires Inv-loop μ-loop
+stands-requires c κs = omega (arith, few (c .before))
+
+mul-s : tie.Need-mul-s Inv-loop μ-loop
+mul-s c =
+    let l = c .before .before in
+    let s = start l in
+    omega (arith, small (l .loop .i) (s .args .d) (s .pre .2) (c .stands .ensures))
+
+stands-requires-2 : tie.Need-stands-requires-2 Inv-loop μ-loop
+stands-requires-2 c κs = omega (arith, few (c .before .before))
+
+mul-t : tie.Need-mul-t Inv-loop μ-loop
+mul-t c =
+    let l = c .before .before .before in
+    let s = start l in
+    omega (arith, small (l .loop .i + 1) (s .args .d) (s .pre .2) (c .stands2 .ensures))
+
+-- where the walk stops, x/d is not before row i, and not past row i + 1
+from : (c : tie.Then1 Inv-loop μ-loop) → let s = start (c .before .before .before .before) in c .before .before .stands .result * s .args .d ≤ s .args .x
+from c =
+    let l = c .before .before .before .before in
+    omega (arith, scaled (start l .args .d) (c .before .before .stands .ensures), l .loop .inv .1)
+
+sub-t13 : tie.Need-sub-t13 Inv-loop μ-loop
+sub-t13 c = from c
+
+sub-t14 : tie.Need-sub-t14 Inv-loop μ-loop
+sub-t14 c = omega (arith, from c)
+
+returns : tie.Need-returns Inv-loop μ-loop
 returns c =
-    let d = c .before .before .before in
-    c .spot-from .ensures
-    ∙ ap₂ (λ (n : ℕ) (l : List ℕ). spotFrom n l (d .before .before .args .x) (d .before .before .args .d)) (d .before .first-row .ensures) (piece d)
+    let t = c .before in
+    let l = t .before .before .before in
+    let s = start l in
+    let a = s .args in
+    let e = last l in
+    let to = scaled (a .d) (t .stands2 .ensures) in
+    rw (t .before .stands .ensures, t .stands2 .ensures)
+    (sym (l .loop .inv .2 ∙ walk-stops (a .k) (s .pre .0) (a .x) (a .d) (l .loop .i) (omega arith) (omega arith)))
+
+loop-again : tie.Need-loop-again Inv-loop μ-loop
+loop-again c =
+    let t = c .before in
+    let l = t .before .before .before in
+    let s = start l in
+    let a = s .args in
+    let e = last l in
+    let past = scaled (a .d) (t .stands2 .ensures) in
+    (omega arith, omega arith, l .loop .inv .2 ∙ walk-passes (a .k) (s .pre .0) (a .x) (a .d) (l .loop .i) (omega arith) (omega arith))
+
+returns-2 : tie.Need-returns-2 Inv-loop μ-loop
+returns-2 c =
+    let l = c .before in
+    let s = start l in
+    let a = s .args in
+    let e = last l in
+    sym (l .loop .inv .2 ∙ walk-ends (a .k) (s .pre .0) (a .x) (a .d) (l .loop .i) (omega arith))
 
 pub spot-in-spec : {M : Type 1} → statement M
 spot-in-spec =
     tie.close
     (tie.spec
-    (λ c κs. search needs)
+    Inv-loop
+    μ-loop
     (λ c. search needs)
     (λ c κs. search needs)
-    mul-spot-from
-    sub-spot-from
-    part-spot-from-start
-    part-spot-from-end
-    spot-from-requires
-    returns)
+    (λ c κs. search needs)
+    loop-holds
+    add-loop
+    stands-requires
+    mul-s
+    (λ c. search needs)
+    stands-requires-2
+    mul-t
+    (λ c. search needs)
+    sub-t13
+    sub-t14
+    returns
+    (λ c. search needs)
+    (λ c. search needs)
+    loop-again
+    returns-2)

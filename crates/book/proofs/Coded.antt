@@ -1,0 +1,98 @@
+-- The tables as the code has them are the printed ones.
+use mathlib.Core.Path.{_≡_, refl, sym, ap, _∙_}
+use mathlib.Core.List.{List, [], _∷_, map}
+use Prim.Native.Nat.{ℕ, zero, suc, _+_, _-_, _^_, _≤_, _<_}
+use native.Mathlib.Numerals.{add-one}
+use native.Mathlib.Omega.{arith}
+use lib.Dec.{T, ltb}
+use lib.IntN.{ℤ, pos, natAbs}
+use lib.ListN.{getD, take, drop, List·getD-map}
+use lib.Seq.{getD-take, getD-drop}
+use mir.Syntax.{w16}
+use mir.Val.{hbits}
+use Rattle.whole.proofs.Size.{Num, back}
+use Rattle.whole.proofs.Table.{each-at}
+use Rattle.building.specs.Ratio.{_÷_}
+use Rattle.book.specs.declared.walls.Wall as coded
+use Rattle.book.specs.Line.{Row, cellIn}
+use Rattle.book.specs.Walls.{Wall, wall, walls, wallCells}
+use Rattle.book.specs.Roofs.{parts, joined, roofAts, roofCells, firstRow}
+use Rattle.book.proofs.Walked.{printed}
+
+-- a number of a table as the machine has it, z, is the printed one, v
+abbrev pub entry : {z v : ℤ} {k : ℕ} → z ≡ v → natAbs v ≤ k → T (ltb k (2 ^ hbits w16)) → Num
+entry {z} {v} {k} e h t = back w16 (record { has = z; is = v; most = k; same = e; small = h }) t
+
+-- ---- the walls' rows: wind 0, wind 90, local
+
+abbrev coded-wall : Wall → coded.Wall
+coded-wall r = (take 4 (r .cells), take 4 (drop 4 (r .cells)), getD (r .cells) 8 (pos 0))
+
+abbrev no-wall : Wall
+no-wall = wall (0 ÷ 0) (0 ÷ 0) []
+
+module _ (i col : ℕ) where
+  abbrev pub codedWall : coded.Wall
+  codedWall = getD (map coded-wall walls) i ([], [], pos 0)
+
+  -- the row's cells, for whatever the code reads of them
+  of-row : (f : List ℤ → ℤ) (g : coded.Wall → ℤ) → ((r : Wall) → g (coded-wall r) ≡ f (r .cells))
+      → g codedWall ≡ f (getD wallCells i [])
+  unfolding wallCells
+  of-row f g e =
+      ap g (List·getD-map coded-wall walls i no-wall)
+      ∙ e (getD walls i no-wall)
+      ∙ ap f (sym (List·getD-map (λ (r : Wall). r .cells) walls i no-wall))
+
+  pub wind-0 : col < 4 → getD (codedWall .0) col (pos 0) ≡ cellIn wallCells i col
+  wind-0 h =
+      of-row (λ (l : List ℤ). getD l col (pos 0)) (λ (w : coded.Wall). getD (w .0) col (pos 0))
+      (λ (r : Wall). getD-take 4 (r .cells) col (pos 0) h)
+
+  pub wind-90 : 4 ≤ col → col < 8 → getD (codedWall .1) (col - 4) (pos 0) ≡ cellIn wallCells i col
+  wind-90 g h =
+      let e : 4 + (col - 4) ≡ col = omega arith in
+      of-row (λ (l : List ℤ). getD l col (pos 0)) (λ (w : coded.Wall). getD (w .1) (col - 4) (pos 0))
+      (λ (r : Wall). getD-take 4 (drop 4 (r .cells)) (col - 4) (pos 0) (omega arith)
+      ∙ getD-drop 4 (r .cells) (col - 4) (pos 0)
+      ∙ ap (λ (n : ℕ). getD (r .cells) n (pos 0)) e)
+
+  pub local : col ≡ 8 → codedWall .2 ≡ cellIn wallCells i col
+  local e =
+      of-row (λ (l : List ℤ). getD l col (pos 0)) (λ (w : coded.Wall). w .2)
+      (λ (r : Wall). ap (λ (n : ℕ). getD (r .cells) n (pos 0)) (sym e))
+
+-- ---- the roofs' rows: the number at which each stands before its hundredths
+
+abbrev numbered : List Row → List (List ℤ)
+numbered rows = map (λ (r : Row). pos (r .at) ∷ r .cells) rows
+
+numbered-at : (rows : List Row) (i : ℕ) → getD (getD (numbered rows) i []) 0 (pos 0) ≡ pos (getD (map (λ (r : Row). r .at) rows) i 0)
+numbered-at [] i = refl
+numbered-at (r ∷ rows) zero = refl
+numbered-at (r ∷ rows) (suc i) = numbered-at rows i
+
+numbered-cell : (rows : List Row) (i col : ℕ) → getD (getD (numbered rows) i []) (col + 1) (pos 0) ≡ cellIn (printed rows) i col
+numbered-cell [] i col = refl
+numbered-cell (r ∷ rows) zero col = rw add-one
+numbered-cell (r ∷ rows) (suc i) col = numbered-cell rows i col
+
+abbrev pub codedRows : List (List ℤ)
+codedRows = numbered (joined parts)
+
+pub row-at : (i : ℕ) → getD (getD codedRows i []) 0 (pos 0) ≡ pos (getD roofAts i 0)
+unfolding roofAts
+row-at = numbered-at (joined parts)
+
+pub row-cell : (i col : ℕ) → getD (getD codedRows i []) (col + 1) (pos 0) ≡ cellIn roofCells i col
+unfolding roofCells
+row-cell = numbered-cell (joined parts)
+
+-- ---- where the parts of the roofs' tables begin, and where the last ends
+
+abbrev firsts : List ℕ
+firsts = 0 ∷ 7 ∷ 14 ∷ 22 ∷ 23 ∷ 26 ∷ 29 ∷ 33 ∷ []
+
+pub first-row : (k : ℕ) → k < 8 → getD firsts k 0 ≡ firstRow k
+unfolding firstRow
+first-row = each-at (λ (k : ℕ). getD firsts k 0 ≡ firstRow k) 8 (refl, (refl, (refl, (refl, (refl, (refl, (refl, (refl, tt))))))))
