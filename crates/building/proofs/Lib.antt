@@ -1,8 +1,7 @@
 -- The laws of a building in order, of its places, and of a question about one of them.
-pub mod Machine
+pub mod Six
 pub mod Ratios
 pub mod Roofs
-pub mod Limits
 pub mod Accepted
 pub mod Places
 pub mod Judged

@@ -4,6 +4,5 @@ pub mod Ratio
 pub mod Roof
 pub mod Building
 pub mod Order
-pub mod Limits
 pub mod Places
 pub mod Question

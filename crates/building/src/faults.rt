@@ -4,81 +4,44 @@ ghost use mathlib.Core.Bool.{false};
 ghost use Prim.Native.Nat.{_≤_};
 ghost use Rattle.building.specs.Roof.{roofOf, alongOf, acrossOf};
 ghost use Rattle.building.specs.Order.{Ranged};
-ghost use Rattle.building.specs.Building.{outOfForm, outOfRange, outOfWalls, outOfRoof, sizes};
-ghost use Rattle.building.specs.Limits.{someBeyond};
+ghost use Rattle.building.specs.Building.{tooLong, outOfForm, outOfRange, outOfWalls, outOfRoof, sizes};
 use super::Building;
 use super::Sizes;
+use super::tests::any;
 use super::tests::beyond;
 use super::tests::either;
 
-// One of the line's numbers is below the least of its limits, or above the greatest.
-fn some_beyond(least: Building, greatest: Building, g: Building) -> bool
-    ensures { λ r. ⌜ r ≡ someBeyond least greatest g ⌝ }
+// More than 7 digits.
+fn too_long(z: i64) -> bool
+    ensures { λ r. ⌜ r ≡ tooLong z ⌝ }
 {
-    either(
-        beyond(least.h, greatest.h, g.h),
-        either(
-            beyond(least.a, greatest.a, g.a),
-            either(
-                beyond(least.b, greatest.b, g.b),
-                either(
-                    beyond(least.density, greatest.density, g.density),
-                    either(
-                        beyond(least.kind, greatest.kind, g.kind),
-                        beyond(least.x, greatest.x, g.x),
-                    ),
-                ),
-            ),
-        ),
-    )
+    9999999 < whole::magnitude(z)
 }
 
-// More than 7 digits.
 pub(crate) fn out_of_form(g: Building) -> bool
     ensures { λ r. ⌜ r ≡ outOfForm g ⌝ }
 {
-    some_beyond(
-        Building {
-            h: -9999999,
-            a: -9999999,
-            b: -9999999,
-            density: -9999999,
-            kind: -9999999,
-            x: -9999999,
-        },
-        Building {
-            h: 9999999,
-            a: 9999999,
-            b: 9999999,
-            density: 9999999,
-            kind: 9999999,
-            x: 9999999,
-        },
-        g,
+    any(
+        too_long(g.h),
+        too_long(g.a),
+        too_long(g.b),
+        too_long(g.density),
+        too_long(g.kind),
+        too_long(g.x),
     )
 }
 
+// Each number of the line with its least and its greatest.
 pub(crate) fn out_of_range(g: Building) -> bool
     ensures { λ r. ⌜ r ≡ outOfRange g ⌝ }
 {
-    some_beyond(
-        Building {
-            h: 100,
-            a: 100,
-            b: 100,
-            density: 1000,
-            kind: 0,
-            x: 0,
-        },
-        Building {
-            h: 30000,
-            a: 30000,
-            b: 30000,
-            density: 1500,
-            kind: 5,
-            x: 30000,
-        },
-        g,
+    any(
+        beyond(100, 30000, g.h),
+        beyond(100, 30000, g.a),
+        beyond(100, 30000, g.b),
+        beyond(1000, 1500, g.density),
+        beyond(0, 5, g.kind),
+        beyond(0, 30000, g.x),
     )
 }
 

@@ -1,6 +1,6 @@
 // Tests of numbers, and how two of them are put together.
 ghost use mathlib.Core.Path.{_≡_};
-ghost use mathlib.Core.Bool.{_&&_, _||_};
+ghost use mathlib.Core.Bool.{false, _&&_, _||_};
 ghost use Rattle.building.specs.Test as test;
 
 pub(crate) fn both(a: bool, b: bool) -> bool
@@ -19,6 +19,16 @@ pub(crate) fn either(a: bool, b: bool) -> bool
         return true;
     }
     b
+}
+
+// One of six tests: those of a line's numbers.
+pub(crate) fn any(a: bool, b: bool, c: bool, d: bool, e: bool, f: bool) -> bool
+    ensures { λ r. ⌜ r ≡ (a || (b || (c || (d || (e || (f || false)))))) ⌝ }
+{
+    either(
+        a,
+        either(b, either(c, either(d, either(e, either(f, false))))),
+    )
 }
 
 // A byte from one to another, both included.
