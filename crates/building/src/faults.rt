@@ -7,6 +7,7 @@ ghost use Rattle.building.specs.Order.{Ranged};
 ghost use Rattle.building.specs.Building.{tooLong, outOfForm, outOfRange, outOfWalls, outOfRoof, sizes};
 use super::Building;
 use super::Sizes;
+use super::ratio::up_to;
 use super::tests::any;
 use super::tests::beyond;
 use super::tests::either;
@@ -102,9 +103,9 @@ pub(crate) fn sizes_of(g: Building) -> Sizes
     let b = whole::magnitude(g.b);
     let kind = whole::magnitude(g.kind);
     Sizes {
-        h: h,
-        a: whole::magnitude(g.a),
-        b: b,
+        h: h as u32,
+        a: whole::magnitude(g.a) as u32,
+        b: b as u32,
         kind: kind,
         along: along(kind, whole::magnitude(g.x)),
         across: across(kind, h),
@@ -113,19 +114,12 @@ pub(crate) fn sizes_of(g: Building) -> Sizes
 
 // h/b over 6; a/b not over 1; a/b over 4.
 pub(crate) fn out_of_walls(s: Sizes) -> bool
-    requires { ⌜ Ranged s ⌝ }
     ensures { λ r. ⌜ r ≡ outOfWalls s ⌝ }
 {
-    if 6 * s.b < s.h {
-        return true;
-    }
-    if s.a <= s.b {
-        return true;
-    }
-    if 4 * s.b < s.a {
-        return true;
-    }
-    false
+    either(
+        !up_to(s.h, s.b, 6, 1),
+        either(!(s.b < s.a), !up_to(s.a, s.b, 4, 1)),
+    )
 }
 
 // Along over across below the least of the roof's kind, or above the greatest.

@@ -6,6 +6,7 @@ ghost use Rattle.building.specs.Question.{askedOf};
 
 mod faults;
 mod kinds;
+pub mod ratio;
 mod tests;
 
 // The numbers of a building's line: cm, g/m³, the roof's kind and number. 64 bits, so that no number of a host program is cut.
@@ -18,11 +19,12 @@ pub struct Building {
     pub x: i64,
 }
 
-// What of a building the tables ask for, without signs. Along over across is compared with the rows of its roof's table.
+// What of a building the tables ask for, without signs. Lengths have 32 bits, and so their products with a limit fit 64.
+// Along over across is compared with the rows of its roof's table.
 pub struct Sizes {
-    pub h: u64,
-    pub a: u64,
-    pub b: u64,
+    pub h: u32,
+    pub a: u32,
+    pub b: u32,
     pub kind: u64,
     pub along: u64,
     pub across: u64,

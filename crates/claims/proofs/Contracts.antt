@@ -17,6 +17,7 @@ pub use Rattle.line.proofs.put_field.Reads as put-field
 pub use Rattle.line.proofs.put_line.Reads as put-line
 pub use Rattle.building.proofs.building_fault.Reads as building-fault
 pub use Rattle.building.proofs.zone_on.Reads as zone-on
+pub use Rattle.building.proofs.ratio.up_to.Reads as up-to
 pub use Rattle.building.proofs.asked.Reads as asked
 pub use Rattle.book.proofs.outside.Reads as outside
 pub use Rattle.book.proofs.net.Reads as net

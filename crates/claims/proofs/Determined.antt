@@ -77,6 +77,9 @@ building-fault-determined κ a r r′ s s′ p q = same p q
 zone-on-determined : OneAnswer of.zone-on.Post
 zone-on-determined κ a r r′ s s′ p q = same p q
 
+up-to-determined : OneAnswer of.up-to.Post
+up-to-determined κ a r r′ s s′ p q = same p q
+
 asked-determined : OneAnswer of.asked.Post
 asked-determined κ a r r′ s s′ p q = same p q
 

@@ -61,6 +61,9 @@ building-fault-asks κ a = tt
 zone-on-asks : AsksNothing of.zone-on.Asked
 zone-on-asks κ a = tt
 
+up-to-asks : AsksNothing of.up-to.Asked
+up-to-asks κ a = tt
+
 asked-asks : AsksNothing of.asked.Asked
 asked-asks κ a = tt
 

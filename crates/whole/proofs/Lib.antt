@@ -11,3 +11,4 @@ pub mod Lists
 pub mod Digits
 pub mod AreDigits
 pub mod DigitsWorked
+pub mod First

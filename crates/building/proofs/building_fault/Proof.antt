@@ -42,9 +42,6 @@ returns-2 c = rw (in-form (c .before .before), sym (c .before .out-of-range .ens
 sizes-of-requires : tie.Need-sizes-of-requires
 sizes-of-requires c κs = in-range c
 
-out-of-walls-requires : tie.Need-out-of-walls-requires
-out-of-walls-requires c κs = small c
-
 returns-3 : tie.Need-returns-3
 unfolding buildingFault
 returns-3 c =
@@ -77,7 +74,7 @@ building-fault-spec =
     (λ c κs. search needs)
     returns-2
     sizes-of-requires
-    out-of-walls-requires
+    (λ c κs. search needs)
     returns-3
     out-of-roof-requires
     returns-4

@@ -1,8 +1,11 @@
 -- `faults::sizes_of`: each field is read back as it is, and its size taken; a number in its range is small enough for the rest.
 use mathlib.Core.Path.{_≡_, ap₂, _∙_}
-use Prim.Native.Nat.{ℕ}
+use Prim.Native.Nat.{ℕ, _^_, _≤_, _<_}
 use native.Mathlib.Omega.{arith}
-use lib.IntN.{natAbs}
+use lib.IntN.{ℤ, natAbs}
+use lib.Signed.{mag}
+use mir.Syntax.{w32, w64}
+use mir.Val.{Fits, toZ, ofZ}
 use borrow.Author.Needs.{needs}
 use Rattle.building.specs.declared.Building.{Building}
 use Rattle.building.specs.declared.Sizes.{Sizes}
@@ -26,6 +29,28 @@ kind c =
 
 x : (c : tie.After-magnitude5) → c .magnitude5 .result ≡ natAbs (building c .x)
 x c = said natAbs (building c .x) (c .magnitude5 .ensures) (c .before .struct-told5 .given .1 .1 .1 .1 .1 .0 .1)
+
+-- a length in its range fits 32 bits
+narrow : (z : ℤ) {n : ℕ} → n ≡ natAbs (toZ w64 (ofZ w64 z)) → mag z < 2 ^ 63 → natAbs z ≤ 30000 → Fits w32 n
+narrow z e h k = omega (arith, said natAbs z e h)
+
+cast-t5 : tie.Need-cast-t5
+cast-t5 c =
+    let s = c .before .before .before .before .before .before in
+    narrow (s .args .g .h) (c .before .before .before .before .magnitude .ensures)
+    (c .before .struct-told3 .given .0 .1) (fields (s .args .g) (s .pre) .h .to)
+
+cast-t7 : tie.Need-cast-t7
+cast-t7 c =
+    let s = c .before .before .before .before .before .before .before .before in
+    narrow (s .args .g .a) (c .magnitude4 .ensures) (c .before .struct-told4 .given .1 .0 .1)
+    (fields (s .args .g) (s .pre) .a .to)
+
+cast-t8 : tie.Need-cast-t8
+cast-t8 c =
+    let s = c .before .before .before .before .before .before .before .before in
+    narrow (s .args .g .b) (c .before .before .before .before .magnitude2 .ensures)
+    (c .before .struct-told4 .given .1 .1 .0 .1) (fields (s .args .g) (s .pre) .b .to)
 
 along-requires : tie.Need-along-requires
 along-requires c κs =
@@ -64,7 +89,10 @@ sizes-of-spec =
     (λ c κs. search needs)
     (λ c κs. search needs)
     (λ c κs. search needs)
+    cast-t5
     (λ c κs. search needs)
+    cast-t7
+    cast-t8
     (λ c κs. search needs)
     along-requires
     across-requires
