@@ -12,9 +12,11 @@ use mir.Syntax.{w16}
 use mir.Val.{hbits}
 use Rattle.whole.proofs.Size.{Num, back}
 use Rattle.whole.proofs.Table.{each-at}
-use Rattle.building.specs.Ratio.{_÷_}
+use Rattle.building.specs.Ratio.{Limit, _÷_}
+use Rattle.book.specs.declared.roofs.Limit as coded-limits
 use Rattle.book.specs.declared.walls.Wall as coded
 use Rattle.book.specs.Line.{Row, cellIn}
+use Rattle.book.specs.Gable.{heights}
 use Rattle.book.specs.Walls.{Wall, wall, walls, wallCells}
 use Rattle.book.specs.Roofs.{parts, joined, roofAts, roofCells, firstRow}
 use Rattle.book.proofs.Walked.{printed}
@@ -23,44 +25,55 @@ use Rattle.book.proofs.Walked.{printed}
 abbrev pub entry : {z v : ℤ} {k : ℕ} → z ≡ v → natAbs v ≤ k → T (ltb k (2 ^ hbits w16)) → Num
 entry {z} {v} {k} e h t = back w16 (record { has = z; is = v; most = k; same = e; small = h }) t
 
--- ---- the walls' rows: wind 0, wind 90, local
+-- ---- the walls' rows: the limits of h/b and of a/b; wind 0, wind 90, local
 
-abbrev coded-wall : Wall → coded.Wall
-coded-wall r = (take 4 (r .cells), take 4 (drop 4 (r .cells)), getD (r .cells) 8 (pos 0))
+abbrev pub coded-wall : Wall → coded.Wall
+coded-wall r =
+    let h = r .high in
+    let a = r .long in
+    let cells = r .cells in
+    (h .over, h .under, a .over, a .under, take 4 cells, take 4 (drop 4 cells), getD cells 8 (pos 0))
 
-abbrev no-wall : Wall
+abbrev pub no-wall : Wall
 no-wall = wall (0 ÷ 0) (0 ÷ 0) []
 
+abbrev pub codedWall : ℕ → coded.Wall
+codedWall i = getD (map coded-wall walls) i (coded-wall no-wall)
+
+pub wall-is : (i : ℕ) → codedWall i ≡ coded-wall (getD walls i no-wall)
+wall-is i = List·getD-map coded-wall walls i no-wall
+
 module _ (i col : ℕ) where
-  abbrev pub codedWall : coded.Wall
-  codedWall = getD (map coded-wall walls) i ([], [], pos 0)
-
-  -- the row's cells, for whatever the code reads of them
-  of-row : (f : List ℤ → ℤ) (g : coded.Wall → ℤ) → ((r : Wall) → g (coded-wall r) ≡ f (r .cells))
-      → g codedWall ≡ f (getD wallCells i [])
+  -- a number of the row's, whatever of the row the code reads it from
+  of-row : (f : coded.Wall → ℤ) → ((r : Wall) → f (coded-wall r) ≡ getD (r .cells) col (pos 0))
+      → f (codedWall i) ≡ cellIn wallCells i col
   unfolding wallCells
-  of-row f g e =
-      ap g (List·getD-map coded-wall walls i no-wall)
+  of-row f e =
+      ap f (wall-is i)
       ∙ e (getD walls i no-wall)
-      ∙ ap f (sym (List·getD-map (λ (r : Wall). r .cells) walls i no-wall))
+      ∙ ap (λ (l : List ℤ). getD l col (pos 0)) (sym (List·getD-map (λ (r : Wall). r .cells) walls i no-wall))
 
-  pub wind-0 : col < 4 → getD (codedWall .0) col (pos 0) ≡ cellIn wallCells i col
-  wind-0 h =
-      of-row (λ (l : List ℤ). getD l col (pos 0)) (λ (w : coded.Wall). getD (w .0) col (pos 0))
-      (λ (r : Wall). getD-take 4 (r .cells) col (pos 0) h)
+  pub wind-0 : col < 4 → getD (codedWall i .4) col (pos 0) ≡ cellIn wallCells i col
+  wind-0 h = of-row (λ (w : coded.Wall). getD (w .4) col (pos 0)) (λ (r : Wall). getD-take 4 (r .cells) col (pos 0) h)
 
-  pub wind-90 : 4 ≤ col → col < 8 → getD (codedWall .1) (col - 4) (pos 0) ≡ cellIn wallCells i col
+  pub wind-90 : 4 ≤ col → col < 8 → getD (codedWall i .5) (col - 4) (pos 0) ≡ cellIn wallCells i col
   wind-90 g h =
       let e : 4 + (col - 4) ≡ col = omega arith in
-      of-row (λ (l : List ℤ). getD l col (pos 0)) (λ (w : coded.Wall). getD (w .1) (col - 4) (pos 0))
+      of-row (λ (w : coded.Wall). getD (w .5) (col - 4) (pos 0))
       (λ (r : Wall). getD-take 4 (drop 4 (r .cells)) (col - 4) (pos 0) (omega arith)
       ∙ getD-drop 4 (r .cells) (col - 4) (pos 0)
       ∙ ap (λ (n : ℕ). getD (r .cells) n (pos 0)) e)
 
-  pub local : col ≡ 8 → codedWall .2 ≡ cellIn wallCells i col
-  local e =
-      of-row (λ (l : List ℤ). getD l col (pos 0)) (λ (w : coded.Wall). w .2)
-      (λ (r : Wall). ap (λ (n : ℕ). getD (r .cells) n (pos 0)) (sym e))
+  pub local : col ≡ 8 → codedWall i .6 ≡ cellIn wallCells i col
+  local e = of-row (λ (w : coded.Wall). w .6) (λ (r : Wall). ap (λ (n : ℕ). getD (r .cells) n (pos 0)) (sym e))
+
+-- ---- the limits of h/b of a gable's blocks
+
+abbrev coded-limit : Limit → coded-limits.Limit
+coded-limit t = (t .over, t .under)
+
+pub limit-is : (i : ℕ) → getD (map coded-limit heights) i (0, 0) ≡ coded-limit (getD heights i (0 ÷ 0))
+limit-is i = List·getD-map coded-limit heights i (0 ÷ 0)
 
 -- ---- the roofs' rows: the number at which each stands before its hundredths
 

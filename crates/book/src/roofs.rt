@@ -3,18 +3,26 @@ ghost use mathlib.Core.Path.{_≡_};
 ghost use Prim.Native.Nat.{_<_, _≤_, _*_};
 ghost use lib.ListN.{getD};
 ghost use Rattle.book.specs.Line.{cellIn};
+ghost use Rattle.book.specs.Gable.{heights, blockOf};
 ghost use Rattle.book.specs.Roofs.{roofCells, roofAts, firstRow, partAts, partOf, spotIn, roofValue};
 ghost use Rattle.building.specs.Order.{InOrder};
+ghost use Rattle.building.specs.Ratio.{_÷_, upTo};
 use super::line::Spot;
 use super::line::line_at;
-use super::walls::block_of;
 use building::Sizes;
+use building::ratio::up_to;
+
+// A printed limit: a numerator and a denominator.
+struct Limit(u32, u32);
+
+// The gable's blocks, in the book's order: h/b to.
+const HEIGHTS: [Limit; 3] = [Limit(1, 2), Limit(3, 2), Limit(6, 1)];
 
 // The row with which each part begins: gable by h/b; straight eaves, parapet, curved eaves, mansard.
 const FIRST: [usize; 8] = [0, 7, 14, 22, 23, 26, 29, 33];
 
-// First the number at which a row stands: tenths of a degree or, for parapet and curved eaves, thousandths of h. Then its hundredths.
-// Gable: wind 0 E,F; wind 0 G,H; wind 90 E,G; wind 90 F,H. Flat: E; F, with both signs; L1; L2.
+// The number at which a row stands, in tenths of a degree or, for parapet and curved eaves, in thousandths of h; and its
+// hundredths. Gable: wind 0 E,F; wind 0 G,H; wind 90 E,G; wind 90 F,H. Flat: E; F, with both signs; L1; L2.
 const ROWS: [[i16; 5]; 33] = [
     // Gable, h/b to 1/2.
     [0, -80, -40, -80, -40],
@@ -57,6 +65,30 @@ const ROWS: [[i16; 5]; 33] = [
     [600, -50, 20, -190, -190],
     [900, -70, 20, -250, -200],
 ];
+
+// h/b comes up to the limit of a block.
+fn in_block(block: usize, s: Sizes) -> bool
+    requires { ⌜ block < 3 ⌝ }
+    ensures { λ r. ⌜ r ≡ upTo (s .h) (s .b) (getD heights block (0 ÷ 0)) ⌝ }
+{
+    let limit = HEIGHTS[block];
+    up_to(s.h, s.b, limit.0, limit.1)
+}
+
+// The first block, in the book's order, up to whose limit h/b comes.
+fn block_of(s: Sizes) -> usize
+    requires { ⌜ InOrder s ⌝ }
+    ensures { λ r. ⌜ r ≡ blockOf (s .h) (s .b) ⌝ }
+{
+    let mut block: usize = 0;
+    while block < 3 {
+        if in_block(block, s) {
+            return block;
+        }
+        block += 1;
+    }
+    block
+}
 
 fn first_row(k: usize) -> usize
     requires { ⌜ k < 8 ⌝ }

@@ -1,50 +1,56 @@
 // Walls, table 3.2.2.2.1.
 ghost use mathlib.Core.Path.{_≡_};
+ghost use mathlib.Core.Bool.{_&&_};
+ghost use mathlib.Core.List.{[]};
 ghost use Prim.Native.Nat.{_<_};
+ghost use lib.ListN.{getD};
+ghost use Rattle.building.specs.Ratio.{_÷_, upTo};
 ghost use Rattle.book.specs.Line.{cellIn};
-ghost use Rattle.book.specs.Gable.{blockOf};
-ghost use Rattle.book.specs.Walls.{wallRow, wallCells, wallValue};
+ghost use Rattle.book.specs.Walls.{wall, walls, wallRow, wallCells, wallValue};
 ghost use Rattle.building.specs.Order.{InOrder};
 use super::line::line_at;
 use building::Sizes;
+use building::ratio::up_to;
 
-// A row: wind 0, wind 90, local.
-struct Wall([i16; 4], [i16; 4], i16);
+// A row: h/b up to a limit and a/b up to a limit, each a numerator and a denominator; wind 0; wind 90; local.
+struct Wall(u32, u32, u32, u32, [i16; 4], [i16; 4], i16);
 
-// Wind 0: A B C D; wind 90: A B C D; local.
+// h/b to, a/b to; wind 0: A B C D; wind 90: A B C D; local.
 const WALLS: [Wall; 6] = [
-    Wall([70, -20, -50, -50], [-50, -50, 70, -20], -80),
-    Wall([70, -25, -60, -60], [-50, -50, 70, -10], -100),
-    Wall([70, -25, -60, -60], [-60, -60, 70, -25], -110),
-    Wall([70, -30, -70, -70], [-50, -50, 70, -10], -110),
-    Wall([80, -25, -80, -80], [-80, -80, 80, -25], -120),
-    Wall([70, -40, -70, -70], [-50, -50, 80, -10], -120),
+    Wall(1, 2, 3, 2, [70, -20, -50, -50], [-50, -50, 70, -20], -80),
+    Wall(1, 2, 4, 1, [70, -25, -60, -60], [-50, -50, 70, -10], -100),
+    Wall(3, 2, 3, 2, [70, -25, -60, -60], [-60, -60, 70, -25], -110),
+    Wall(3, 2, 4, 1, [70, -30, -70, -70], [-50, -50, 70, -10], -110),
+    Wall(6, 1, 3, 2, [80, -25, -80, -80], [-80, -80, 80, -25], -120),
+    Wall(6, 1, 4, 1, [70, -40, -70, -70], [-50, -50, 80, -10], -120),
 ];
 
-// The block of h/b: to 1/2; over 1/2, to 3/2; over 3/2, to 6.
-pub(crate) fn block_of(s: Sizes) -> usize
-    requires { ⌜ InOrder s ⌝ }
-    ensures { λ r. ⌜ r ≡ blockOf (s .h) (s .b) ⌝ }
+// h/b and a/b come up to the limits of a row.
+fn in_row(row: usize, s: Sizes) -> bool
+    requires { ⌜ row < 6 ⌝ }
+    ensures { λ r. ⌜ (let w = getD walls row (wall (0 ÷ 0) (0 ÷ 0) []) in
+        r ≡ (upTo (s .h) (s .b) (w .high) && upTo (s .a) (s .b) (w .long))) ⌝ }
 {
-    if 2 * s.h <= s.b {
-        return 0;
+    let w = WALLS[row];
+    if up_to(s.h, s.b, w.0, w.1) {
+        return up_to(s.a, s.b, w.2, w.3);
     }
-    if 2 * s.h <= 3 * s.b {
-        return 1;
-    }
-    2
+    false
 }
 
-// In each block a/b to 3/2, and over 3/2, to 4.
+// The first row, in the book's order, up to whose limits h/b and a/b come.
 fn wall_row(s: Sizes) -> usize
     requires { ⌜ InOrder s ⌝ }
     ensures { λ r. ⌜ r ≡ wallRow (s .h) (s .a) (s .b) ⌝ }
 {
-    let block = block_of(s);
-    if 2 * s.a <= 3 * s.b {
-        return 2 * block;
+    let mut row: usize = 0;
+    while row < 6 {
+        if in_row(row, s) {
+            return row;
+        }
+        row += 1;
     }
-    2 * block + 1
+    row
 }
 
 fn wall_cell(row: usize, col: usize) -> i16
@@ -53,12 +59,12 @@ fn wall_cell(row: usize, col: usize) -> i16
 {
     let w = WALLS[row];
     if col < 4 {
-        return w.0[col];
+        return w.4[col];
     }
     if col < 8 {
-        return w.1[col - 4];
+        return w.5[col - 4];
     }
-    w.2
+    w.6
 }
 
 pub(crate) fn wall_value(s: Sizes, col: usize) -> i32

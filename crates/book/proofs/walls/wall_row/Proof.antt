@@ -1,46 +1,57 @@
--- `walls::wall_row`: two rows to a block.
-use mathlib.Core.Path.{sym, ap, _∙_}
-use Prim.Native.Nat.{ℕ, _+_, _*_, _≤_}
+-- `walls::wall_row`: the loop looks for the first row among those that are left.
+use mathlib.Core.Path.{sym, _∙_}
+use Prim.Native.Nat.{_-_}
 use native.Mathlib.Omega.{arith}
 use borrow.Author.Needs.{needs}
-use Rattle.book.proofs.Rows.{row-first, row-second, blockOf-most}
+use Rattle.whole.proofs.First.{Left, left-here, left-later, left-none}
+use Rattle.book.specs.Walls.{walls, wallRow}
+use Rattle.book.proofs.Rows.{within, row-first}
+use Rattle.book.proofs.Coded.{no-wall}
 use Rattle.book.proofs.walls.wall_row.Statement.{statement}
 use Rattle.book.proofs.walls.wall_row.Tie as tie
 
-few : (c : tie.After-block-of) → c .block-of .result ≤ 2
-few c = let s = c .before .args .s in omega (arith, c .block-of .ensures, blockOf-most (s .h) (s .b) (omega arith))
+abbrev Inv-loop : tie.InvT-loop
+Inv-loop s row₀ row = Left (within (s .h) (s .a) (s .b)) no-wall walls (wallRow (s .h) (s .a) (s .b)) row
 
-mul-result : tie.Need-mul-result
-mul-result c = omega (arith, few (c .before .before .before))
+abbrev μ-loop : tie.MeasureT-loop
+μ-loop s row₀ row = 6 - row
 
-returns : tie.Need-returns
+loop-holds : tie.Need-loop-holds Inv-loop μ-loop
+loop-holds c = let s = c .args .s in (omega arith, row-first (s .h) (s .a) (s .b))
+
+returns : tie.Need-returns Inv-loop μ-loop
 returns c =
-    let d = c .before .before .before in
-    let s = d .before .args .s in
-    ap (λ (k : ℕ). 2 * k) (d .block-of .ensures) ∙ sym (row-first (s .h) (s .a) (s .b) (omega arith) (omega arith))
+    let t = c .before in
+    let l = t .before .before in
+    let s = l .before .args .s in
+    left-here (within (s .h) (s .a) (s .b)) no-wall walls (wallRow (s .h) (s .a) (s .b)) (l .loop .row)
+    (l .loop .inv) (omega arith) (sym (t .in-row .ensures) ∙ c .if1 .taken)
 
-mul-result-2 : tie.Need-mul-result-2
-mul-result-2 c = omega (arith, few (c .before .before .before))
+loop-again : tie.Need-loop-again Inv-loop μ-loop
+loop-again c =
+    let t = c .before in
+    let l = t .before .before in
+    let s = l .before .args .s in
+    left-later (within (s .h) (s .a) (s .b)) no-wall walls (wallRow (s .h) (s .a) (s .b)) (l .loop .row)
+    (l .loop .inv) (omega arith) (sym (t .in-row .ensures) ∙ c .if1 .left)
 
-add-result : tie.Need-add-result
-add-result c = omega (arith, few (c .before .before .before))
-
-returns-2 : tie.Need-returns-2
+returns-2 : tie.Need-returns-2 Inv-loop μ-loop
 returns-2 c =
-    let d = c .before .before .before in
-    let s = d .before .args .s in
-    ap (λ (k : ℕ). 2 * k + 1) (d .block-of .ensures)
-    ∙ sym (row-second (s .h) (s .a) (s .b) (omega arith) (omega arith) (omega arith))
+    let l = c .before in
+    let s = l .before .args .s in
+    left-none (within (s .h) (s .a) (s .b)) no-wall walls (wallRow (s .h) (s .a) (s .b)) (l .loop .row)
+    (l .loop .inv) (omega arith)
 
 pub wall-row-spec : {M : Type 1} → statement M
 wall-row-spec =
     tie.close
     (tie.spec
+    Inv-loop
+    μ-loop
+    loop-holds
     (λ c κs. search needs)
-    (λ c. search needs)
-    (λ c. search needs)
-    mul-result
     returns
-    mul-result-2
-    add-result
+    (λ c. search needs)
+    (λ c. search needs)
+    loop-again
     returns-2)
