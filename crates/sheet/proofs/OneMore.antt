@@ -3,14 +3,11 @@ use Prim.Native.Nat.{ℕ, zero, suc, _+_, _≤_, _<_}
 use mathlib.Core.Path.{_≡_}
 use mathlib.Core.List.{List, [], _∷_}
 use native.Mathlib.Omega.{arith}
-use lib.IntN.{ℤ, pos}
+use lib.IntN.{pos}
 use lib.ListN.{length, drop, getD, set, length-append}
 use Rattle.whole.specs.Lists.{Every}
 use Rattle.whole.proofs.Lists.{firstOf-more}
 use Rattle.form.specs.declared.Field.{Field}
-use Rattle.building.specs.declared.Building.{Building}
-use Rattle.entry.specs.declared.Wind.{Wind}
-use Rattle.entry.specs.declared.Face.{Face}
 use Rattle.entry.specs.Says.{buildingOf, windOf, internalOf, faceOf}
 use Rattle.rules.specs.declared.Section.{Section}
 use Rattle.rules.specs.declared.Section.the-variants.{B, W, I, F}
@@ -23,34 +20,29 @@ use Rattle.job.specs.Walk.{learn}
 
 -- ---- what it records
 
-abbrev pub withBuilding : Job → Building → Job
-withBuilding j g = record { building = g; winds = j .winds; internals = j .internals; faces = j .faces }
-
-abbrev pub withWind : Job → Wind → Job
-withWind j y =
+-- the entry that a line says, stored behind the others of its section
+abbrev pub stored : Section → List Field → Job → Job
+stored B fs j = record { building = buildingOf fs; winds = j .winds; internals = j .internals; faces = j .faces }
+stored W fs j =
     record {
       building = j .building;
-      winds = record { count = j .winds .count + 1; entry = set (j .winds .entry) (j .winds .count) y };
+      winds = record { count = j .winds .count + 1; entry = set (j .winds .entry) (j .winds .count) (windOf fs) };
       internals = j .internals;
       faces = j .faces;
     }
-
-abbrev pub withInternal : Job → ℤ → Job
-withInternal j y =
+stored I fs j =
     record {
       building = j .building;
       winds = j .winds;
-      internals = record { count = j .internals .count + 1; entry = set (j .internals .entry) (j .internals .count) y };
+      internals = record { count = j .internals .count + 1; entry = set (j .internals .entry) (j .internals .count) (internalOf fs) };
       faces = j .faces;
     }
-
-abbrev pub withFace : Job → Face → Job
-withFace j y =
+stored F fs j =
     record {
       building = j .building;
       winds = j .winds;
       internals = j .internals;
-      faces = record { count = j .faces .count + 1; entry = set (j .faces .entry) (j .faces .count) y };
+      faces = record { count = j .faces .count + 1; entry = set (j .faces .entry) (j .faces .count) (faceOf fs) };
     }
 
 -- how many entries of a section a record holds; its building is no list
@@ -60,22 +52,13 @@ countIn j W = j .winds .count
 countIn j I = j .internals .count
 countIn j F = j .faces .count
 
-module _ {j : Job} (c : Carried) (e : j ≡ recorded c) (fs : List Field) where
-  pub building-recorded : withBuilding j (buildingOf fs) ≡ recorded (learn (Entry B) fs c)
+module _ (fs : List Field) {j : Job} (c : Carried) (e : j ≡ recorded c) where
+  pub stored-records : (t : Section) → countIn j t < about t .most → stored t fs j ≡ recorded (learn (Entry t) fs c)
   unfolding recorded
-  building-recorded = rw e
-
-  pub wind-recorded : countIn j W < about W .most → withWind j (windOf fs) ≡ recorded (learn (Entry W) fs c)
-  unfolding recorded
-  wind-recorded few = let q : length (c .winds) < 8 = rw e at few in rw (e, length-append, firstOf-more noWind 8)
-
-  pub internal-recorded : countIn j I < about I .most → withInternal j (internalOf fs) ≡ recorded (learn (Entry I) fs c)
-  unfolding recorded
-  internal-recorded few = let q : length (c .internals) < 4 = rw e at few in rw (e, length-append, firstOf-more (pos 0) 4)
-
-  pub face-recorded : countIn j F < about F .most → withFace j (faceOf fs) ≡ recorded (learn (Entry F) fs c)
-  unfolding recorded
-  face-recorded few = let q : length (c .faces) < 24 = rw e at few in rw (e, length-append, firstOf-more noFace 24)
+  stored-records B few = rw e
+  stored-records W few = let q : length (c .winds) < 8 = rw e at few in rw (e, length-append, firstOf-more noWind 8)
+  stored-records I few = let q : length (c .internals) < 4 = rw e at few in rw (e, length-append, firstOf-more (pos 0) 4)
+  stored-records F few = let q : length (c .faces) < 24 = rw e at few in rw (e, length-append, firstOf-more noFace 24)
 
 -- ---- what it counts
 

@@ -4,19 +4,15 @@ use mathlib.Core.Path.{_≡_, refl, ap, _∙_, sym, subst}
 use mathlib.Core.List.{List, [], _∷_, _++_, map}
 use native.Mathlib.Omega.{arith}
 use native.Mathlib.Numerals.{add-one}
-use lib.IntN.{ℤ}
 use lib.ListN.{length, drop}
 use lib.Seq.{drop-cons}
 use Rattle.lines.specs.declared.Line.{Line}
 use Rattle.lines.specs.Lines.{rows}
 use Rattle.lines.specs.Held.{held, lineAt}
 use Rattle.lines.proofs.Lines.{rows-some, rows-end}
-use Rattle.building.specs.declared.Building.{Building}
-use Rattle.entry.specs.declared.Wind.{Wind}
-use Rattle.entry.specs.declared.Face.{Face}
-use Rattle.entry.specs.Says.{size, at, buildingOf, windOf, internalOf, faceOf}
+use Rattle.entry.specs.Says.{size, at}
 use Rattle.rules.specs.declared.Section.{Section}
-use Rattle.rules.specs.declared.Section.the-variants.{B, W, I, F}
+use Rattle.rules.specs.declared.Section.the-variants.{B}
 use Rattle.rules.specs.declared.Kind.{Kind}
 use Rattle.rules.specs.declared.Kind.the-variants.{Count, Entry}
 use Rattle.rules.specs.Sections.{about, lineFault}
@@ -27,8 +23,7 @@ use Rattle.job.specs.Walk.{entries, calls, learn, Accepted, Refused, walk, read
 use Rattle.job.proofs.Alone.{most-24}
 use Rattle.sheet.specs.Sheet.{reading}
 use Rattle.sheet.proofs.Longest.{count-most}
-use Rattle.sheet.proofs.OneMore.{withBuilding, withWind, withInternal, withFace, countIn, sectionAt, one-more, Unread, none-later}
-use Rattle.sheet.proofs.OneMore.{building-recorded, wind-recorded, internal-recorded, face-recorded}
+use Rattle.sheet.proofs.OneMore.{stored, countIn, stored-records, sectionAt, one-more, Unread, none-later}
 use Rattle.sheet.proofs.Steps.{walk-stop, walk-go}
 
 -- s is read up to line `line`, which begins at `next`: j records all that was carried, and what comes of the rest is what comes of s;
@@ -135,14 +130,11 @@ module _ {s : List ℕ} {left i : ℕ} {j : Job} {line next : ℕ} {x : Line} (o
   pub entry-room : {t : Section} → sectionAt i ≡ t → countIn j t < about t .most
   entry-room told = subst (λ (v : Section). countIn j v < about v .most) told (omega (arith, o .so-far .room, o .more))
 
-  -- the next line, with the entry put into the record
-  abbrev Next : Job → Type 0
-  Next k = ReadSoFar s (sectionAt i) (left - 1) (suc i) k (line + 1) (x .next)
-
-  entry-read : {t : Section} → sectionAt i ≡ t → {k : Job} → k ≡ recorded (learn (Entry t) (held x) here) → Next k
-  entry-read told {k} put =
+  -- the next line, with the entry stored in the record
+  pub entry-read : {t : Section} → sectionAt i ≡ t → ReadSoFar s (sectionAt i) (left - 1) (suc i) (stored t (held x) j) (line + 1) (x .next)
+  entry-read {t} told =
       let r = o .so-far in
-      let e : k ≡ recorded (learn (Entry (sectionAt i)) (held x) here) = rw told put in
+      let e : stored t (held x) j ≡ recorded (learn (Entry (sectionAt i)) (held x) here) = rw told (stored-records (held x) here (r .records) t (entry-room told)) in
       let p : countIn (recorded here) (sectionAt i) + left ≤ about (sectionAt i) .most = rw (r .records) at (r .room) in
       let u : Unread (recorded here) (drop (suc i) sections) = rw (r .records) at (r .unread) in
       record {
@@ -153,18 +145,6 @@ module _ {s : List ℕ} {left i : ℕ} {j : Job} {line next : ℕ} {x : Line} (o
         unread = rw e (none-later i here (held x) u);
         lines = omega (arith, o .more, r .lines);
       }
-
-  pub building-read : sectionAt i ≡ B → {y : Building} → y ≡ buildingOf (held x) → Next (withBuilding j y)
-  building-read told h = rw h (entry-read told (building-recorded here (o .so-far .records) (held x)))
-
-  pub wind-read : sectionAt i ≡ W → {y : Wind} → y ≡ windOf (held x) → Next (withWind j y)
-  wind-read told h = rw h (entry-read told (wind-recorded here (o .so-far .records) (held x) (entry-room told)))
-
-  pub internal-read : sectionAt i ≡ I → {y : ℤ} → y ≡ internalOf (held x) → Next (withInternal j y)
-  internal-read told h = rw h (entry-read told (internal-recorded here (o .so-far .records) (held x) (entry-room told)))
-
-  pub face-read : sectionAt i ≡ F → {y : Face} → y ≡ faceOf (held x) → Next (withFace j y)
-  face-read told h = rw h (entry-read told (face-recorded here (o .so-far .records) (held x) (entry-room told)))
 
 -- ---- the end of a section, and of the sheet
 

@@ -6,8 +6,8 @@ use native.Mathlib.Omega.{arith}
 use Rattle.rules.specs.declared.Section.{Section}
 use Rattle.rules.specs.declared.Section.the-variants.{B}
 use Rattle.sheet.specs.Sheet.{answer}
-use Rattle.sheet.proofs.SoFar.{ReadSoFar, EntryLine, read-start, count-stops, count-read, entry-stops, entry-room}
-use Rattle.sheet.proofs.SoFar.{building-read, wind-read, internal-read, face-read, section-end, end-extra, end-accepted}
+use Rattle.sheet.proofs.SoFar.{ReadSoFar, EntryLine, read-start, count-stops, count-read, entry-stops, entry-room, entry-read}
+use Rattle.sheet.proofs.SoFar.{section-end, end-extra, end-accepted}
 use Rattle.entry.specs.Says.{size}
 use Rattle.job.specs.declared.Job.{Job}
 use mir.ValLaws.{toZ-ofZ}
@@ -90,18 +90,18 @@ faces-room : (c : tie.After-face-of Inv-loop2 μ-loop2 Inv-loop μ-loop) → kep
 faces-room c = entry-room (entry (c .before .before .before)) (c .before .enum-told4 .given .1)
 
 loop2-again : tie.Need-loop2-again Inv-loop2 μ-loop2 Inv-loop μ-loop
-loop2-again c = building-read (entry (c .before .before .before)) (c .before .enum-told .given .1) (c .building-of .ensures)
+loop2-again c = rw (c .building-of .ensures) (entry-read (entry (c .before .before .before)) (c .before .enum-told .given .1))
 
 loop2-again-2 : tie.Need-loop2-again-2 Inv-loop2 μ-loop2 Inv-loop μ-loop
-loop2-again-2 c = wind-read (entry (c .before .before .before)) (c .before .enum-told2 .given .1) (c .wind-of .ensures)
+loop2-again-2 c = rw (c .wind-of .ensures) (entry-read (entry (c .before .before .before)) (c .before .enum-told2 .given .1))
 
 loop2-again-3 : tie.Need-loop2-again-3 Inv-loop2 μ-loop2 Inv-loop μ-loop
 loop2-again-3 c =
-    internal-read (entry (c .before .before .before)) (c .before .enum-told3 .given .1)
-    (toZ-ofZ w64 _ (sfits-of (c .internal-of .ok)) ∙ c .internal-of .ensures)
+    rw (toZ-ofZ w64 _ (sfits-of (c .internal-of .ok)), c .internal-of .ensures)
+    (entry-read (entry (c .before .before .before)) (c .before .enum-told3 .given .1))
 
 loop2-again-4 : tie.Need-loop2-again-4 Inv-loop2 μ-loop2 Inv-loop μ-loop
-loop2-again-4 c = face-read (entry (c .before .before .before)) (c .before .enum-told4 .given .1) (c .face-of .ensures)
+loop2-again-4 c = rw (c .face-of .ensures) (entry-read (entry (c .before .before .before)) (c .before .enum-told4 .given .1))
 
 loop-again : tie.Need-loop-again Inv-loop2 μ-loop2 Inv-loop μ-loop
 loop-again c = (omega arith, (_, section-end (c .before .loop2 .inv) (c .loop2-test .left)))
