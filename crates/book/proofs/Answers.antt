@@ -23,7 +23,8 @@ use Rattle.building.specs.Places.{E, F, wallPlace, zoneOn, localOn, knows}
 use Rattle.building.specs.Question.{askedOf}
 use Rattle.building.proofs.Places.{needs-roof, must-be-E}
 use Rattle.building.proofs.Judged.{Told, told, in-question}
-use Rattle.book.specs.Question.{wallColumn, gableColumn, flatColumn, bothSigns, coefficientOf, answer, outsideOf}
+use Rattle.book.specs.Question.{wallColumn, gableColumn, flatColumn, bothSigns, coefficientOf, answer}
+use Rattle.book.specs.Question.{outsideOf}
 use Rattle.book.proofs.Between.{value-on, line-small}
 use Rattle.book.proofs.Tables.{wall-small}
 use Rattle.building.proofs.Accepted.{in-order}
@@ -32,19 +33,23 @@ use Rattle.book.proofs.Roofed.{roofValue-small, flatValue-small, gableV
 -- ---- the four cases of a coefficient
 
 module _ (s : Sizes) (wind place : ℕ) where
-  pub on-wall : wallPlace place ≡ true → coefficientOf s wind place ≡ One (wallValue (s .h) (s .a) (s .b) (wallColumn wind place))
+  pub on-wall : wallPlace place ≡ true
+      → coefficientOf s wind place ≡ One (wallValue (s .h) (s .a) (s .b) (wallColumn wind place))
   unfolding coefficientOf
   on-wall e = rw e
 
-  pub on-gable : wallPlace place ≡ false → s .kind ≡ 1 → coefficientOf s wind place ≡ One (roofValue s (gableColumn wind place))
+  pub on-gable : wallPlace place ≡ false → s .kind ≡ 1
+      → coefficientOf s wind place ≡ One (roofValue s (gableColumn wind place))
   unfolding coefficientOf
   on-gable e f = rw (e, eq-eqb (s .kind) 1 f)
 
-  pub on-f : wallPlace place ≡ false → (s .kind ≡ 1 → ⊥) → place ≡ F → coefficientOf s wind place ≡ bothSigns (roofValue s 1)
+  pub on-f : wallPlace place ≡ false → (s .kind ≡ 1 → ⊥) → place ≡ F
+      → coefficientOf s wind place ≡ bothSigns (roofValue s 1)
   unfolding coefficientOf flatColumn
   on-f e f g = rw (e, ne-eqb (s .kind) 1 f, eq-eqb place F g)
 
-  pub on-flat : wallPlace place ≡ false → (s .kind ≡ 1 → ⊥) → (place ≡ F → ⊥) → coefficientOf s wind place ≡ One (roofValue s (flatColumn place))
+  pub on-flat : wallPlace place ≡ false → (s .kind ≡ 1 → ⊥) → (place ≡ F → ⊥)
+      → coefficientOf s wind place ≡ One (roofValue s (flatColumn place))
   unfolding coefficientOf
   on-flat e f g = rw (e, ne-eqb (s .kind) 1 f, ne-eqb place F g)
 
@@ -59,11 +64,14 @@ wallValue-small h a b col =
     let c = cellIn wallCells (wallRow h a b) col in
     line-small c c 0 1 (lit≤ tt) (lit< tt) 120 (wall-small (wallRow h a b) col) (wall-small (wallRow h a b) col)
 
-module _ (s : Sizes) (o : InOrder s) (wind place k : ℕ) (enough : 1200 ≤ k) (roofed : wallPlace place ≡ false → 0 < s .kind) (flat : wallPlace place ≡ false → (s .kind ≡ 1 → ⊥) → (place ≡ F → ⊥) → natAbs (roofValue s (flatColumn place)) ≤ k) where
+module _ (s : Sizes) (o : InOrder s) (wind place k : ℕ) (enough : 1200 ≤ k)
+    (roofed : wallPlace place ≡ false → 0 < s .kind)
+    (flat : wallPlace place ≡ false → (s .kind ≡ 1 → ⊥) → (place ≡ F → ⊥) → natAbs (roofValue s (flatColumn place)) ≤ k) where
   off-wall : wallPlace place ≡ false → Alternatives k (s .kind) place (coefficientOf s wind place)
   off-wall e = go (eqb (s .kind) 1) (eqb place F) refl refl
     where
-      go : (t u : Bool) → eqb (s .kind) 1 ≡ t → eqb place F ≡ u → Alternatives k (s .kind) place (coefficientOf s wind place)
+      go : (t u : Bool) → eqb (s .kind) 1 ≡ t → eqb place F ≡ u
+          → Alternatives k (s .kind) place (coefficientOf s wind place)
       go true u p q =
           let i = eqb-true (s .kind) 1 p in
           subst (λ (a : Answer). Alternatives k (s .kind) place a) (sym (on-gable s wind place e i))
@@ -76,7 +84,8 @@ module _ (s : Sizes) (o : InOrder s) (wind place k : ℕ) (enough : 1200 ≤ k) 
           (two (omega arith) (omega (arith, natAbs-neg (roofValue s 1))) (eqb-true place F q) (omega arith))
       go false false p q =
           let i = eqb-false (s .kind) 1 p in
-          subst (λ (a : Answer). Alternatives k (s .kind) place a) (sym (on-flat s wind place e i (eqb-false place F q)))
+          subst (λ (a : Answer). Alternatives k (s .kind) place a)
+          (sym (on-flat s wind place e i (eqb-false place F q)))
           (one (flat e i (eqb-false place F q)))
 
   alternatives : Alternatives k (s .kind) place (coefficientOf s wind place)
@@ -108,30 +117,37 @@ small-of (one h) = h
 small-of (two h k e f) = (h, k)
 
 module _ (g : Building) (direction : ℤ) (place : ℕ) where
-  pub answered : buildingFault g ≡ 0 → knows (g .kind) direction ≡ true → (zoneOn (g .kind) place || localOn (g .kind) place) ≡ true → outsideOf g direction place ≡ coefficientOf (sizes g) (natAbs direction) place
+  pub answered : buildingFault g ≡ 0 → knows (g .kind) direction ≡ true
+      → (zoneOn (g .kind) place || localOn (g .kind) place) ≡ true
+      → outsideOf g direction place ≡ coefficientOf (sizes g) (natAbs direction) place
   unfolding outsideOf
   answered e f k = rw (in-question g direction place e f k)
 
   -- a zone that is on the building, under a direction that it knows, has its alternatives, and none is above 1.200
-  pub zone-answered : buildingFault g ≡ 0 → knows (g .kind) direction ≡ true → zoneOn (g .kind) place ≡ true → Alternatives 1200 (natAbs (g .kind)) place (outsideOf g direction place)
+  pub zone-answered : buildingFault g ≡ 0 → knows (g .kind) direction ≡ true → zoneOn (g .kind) place ≡ true
+      → Alternatives 1200 (natAbs (g .kind)) place (outsideOf g direction place)
   zone-answered e f z =
       let o = in-order g e in
       let on = or-true (zoneOn (g .kind) place) (localOn (g .kind) place) z in
       subst (λ (a : Answer). Alternatives 1200 (natAbs (g .kind)) place a) (sym (answered e f on))
       (alternatives (sizes g) o (natAbs direction) place 1200 (lit≤ tt) (λ w. needs-roof (g .kind) place w on)
-      (λ w i h. subst (λ (n : ℕ). natAbs (roofValue (sizes g) n) ≤ 1200) (sym (column-E (must-be-E (g .kind) place z w i h))) (flatValue-small (sizes g) o (needs-roof (g .kind) place w on) 0 (lit< tt))))
+      (λ w i h.
+      subst (λ (n : ℕ). natAbs (roofValue (sizes g) n) ≤ 1200) (sym (column-E (must-be-E (g .kind) place z w i h)))
+      (flatValue-small (sizes g) o (needs-roof (g .kind) place w on) 0 (lit< tt))))
 
   -- any answer: no alternative is above 2.500
   small-answer : (q : Question) → Told g direction place q → Small (answer q (natAbs direction) place)
   small-answer (asked.Of s) f =
-      small-of (alternatives s (f .order) (natAbs direction) place 2500 (lit≤ tt) (f .roofed) (λ w i h. roofValue-small s (f .order) (f .roofed w) (flatColumn place)))
+      small-of
+      (alternatives s (f .order) (natAbs direction) place 2500 (lit≤ tt) (f .roofed) (λ w i h. roofValue-small s (f .order) (f .roofed w) (flatColumn place)))
   small-answer (asked.Refused n l) f = tt
 
   pub answer-small : Small (outsideOf g direction place)
   unfolding outsideOf
   answer-small = small-answer (askedOf g direction place) (told g direction place)
 
--- ---- an answer is no more than its number, its line and its alternatives: what the paper says of it leaves no choice
+-- ---- an answer is no more than its number, its line and its alternatives: what the paper says of it leaves no
+-- choice
 
 pub same-answer : (r s : Answer) → numberOf r ≡ numberOf s → lineOf r ≡ lineOf s → valuesOf r ≡ valuesOf s → r ≡ s
 same-answer (One v) (One w) n l e = cc

@@ -19,18 +19,21 @@ module _ (p q : ℕ) (v w m : ℤ) where
   mean-above h k =
       le-by _ _
       (simp (up-scale, down-scale)
-      (omega (arith, simp (up-scale, down-scale) at (add-law (v *ℤ pos p) (w *ℤ pos q)), mul-le-mul-right p (le-at m v h), mul-le-mul-right q (le-at m w k))))
+      (omega
+      (arith, simp (up-scale, down-scale) at (add-law (v *ℤ pos p) (w *ℤ pos q)), mul-le-mul-right p (le-at m v h), mul-le-mul-right q (le-at m w k))))
 
   mean-below : v ≤ℤ m → w ≤ℤ m → ((v *ℤ pos p +ℤ w *ℤ pos q) *ℤ pos 10) ≤ℤ ((m *ℤ pos 10) *ℤ pos (p + q))
   mean-below h k =
       le-by _ _
       (simp (up-scale, down-scale)
-      (omega (arith, simp (up-scale, down-scale) at (add-law (v *ℤ pos p) (w *ℤ pos q)), mul-le-mul-right p (le-at v m h), mul-le-mul-right q (le-at w m k))))
+      (omega
+      (arith, simp (up-scale, down-scale) at (add-law (v *ℤ pos p) (w *ℤ pos q)), mul-le-mul-right p (le-at v m h), mul-le-mul-right q (le-at w m k))))
 
 tenfold : (k : ℕ) → negℤ (pos k) *ℤ pos 10 ≡ negℤ (pos (k * 10))
 tenfold k =
     eq-by _ _
-    (simp (up-scale, down-scale) (omega (arith, up-neg (pos k), down-neg (pos k), up-neg (pos (k * 10)), down-neg (pos (k * 10)))))
+    (simp (up-scale, down-scale)
+    (omega (arith, up-neg (pos k), down-neg (pos k), up-neg (pos (k * 10)), down-neg (pos (k * 10)))))
 
 module _ (v w : ℤ) (part whole : ℕ) (within : part ≤ whole) (some : 0 < whole) where
   both : (whole - part) + part ≡ whole
@@ -40,13 +43,15 @@ module _ (v w : ℤ) (part whole : ℕ) (within : part ≤ whole) (some : 0 < wh
   unfolding lineAt
   line-above m h k =
       subst (λ (z : ℤ). z ≤ℤ lineAt v w part whole) (roundAway-exact (m *ℤ pos 10) whole some)
-      (roundAway-mono whole _ _ (subst (λ (d : ℕ). ((m *ℤ pos 10) *ℤ pos d) ≤ℤ ((v *ℤ pos (whole - part) +ℤ w *ℤ pos part) *ℤ pos 10)) both (mean-above (whole - part) part v w m h k)))
+      (roundAway-mono whole _ _
+      (subst (λ (d : ℕ). ((m *ℤ pos 10) *ℤ pos d) ≤ℤ ((v *ℤ pos (whole - part) +ℤ w *ℤ pos part) *ℤ pos 10)) both (mean-above (whole - part) part v w m h k)))
 
   line-below : (m : ℤ) → v ≤ℤ m → w ≤ℤ m → lineAt v w part whole ≤ℤ (m *ℤ pos 10)
   unfolding lineAt
   line-below m h k =
       subst (λ (z : ℤ). lineAt v w part whole ≤ℤ z) (roundAway-exact (m *ℤ pos 10) whole some)
-      (roundAway-mono whole _ _ (subst (λ (d : ℕ). ((v *ℤ pos (whole - part) +ℤ w *ℤ pos part) *ℤ pos 10) ≤ℤ ((m *ℤ pos 10) *ℤ pos d)) both (mean-below (whole - part) part v w m h k)))
+      (roundAway-mono whole _ _
+      (subst (λ (d : ℕ). ((v *ℤ pos (whole - part) +ℤ w *ℤ pos part) *ℤ pos 10) ≤ℤ ((m *ℤ pos 10) *ℤ pos d)) both (mean-below (whole - part) part v w m h k)))
 
   -- the one fact over all tables: the value lies between its rows' hundredths, as thousandths
   pub line-between : Between (v *ℤ pos 10) (w *ℤ pos 10) (lineAt v w part whole)
@@ -69,7 +74,8 @@ module _ (v w : ℤ) (part whole : ℕ) (within : part ≤ whole) (some : 0 < wh
   pub line-small : (k : ℕ) → natAbs v ≤ k → natAbs w ≤ k → natAbs (lineAt v w part whole) ≤ k * 10
   line-small k h g =
       size-between (lineAt v w part whole) (k * 10)
-      (subst (λ (z : ℤ). z ≤ℤ lineAt v w part whole) (tenfold k) (line-above (negℤ (pos k)) (size-low v k h) (size-low w k g)))
+      (subst (λ (z : ℤ). z ≤ℤ lineAt v w part whole) (tenfold k)
+      (line-above (negℤ (pos k)) (size-low v k h) (size-low w k g)))
       (line-below (pos k) (size-high v k h) (size-high w k g))
 
 pub value-on : (cells : List (List ℤ)) (i col : ℕ) → valueAt cells col (on i) ≡ cellIn cells i col *ℤ pos 10
@@ -77,16 +83,19 @@ value-on cells i col = let c = cellIn cells i col in line-on c c 0 1 (lit≤ tt)
 
 -- at either end of the way it is that end's
 module _ (v w : ℤ) (n : ℕ) (some : 0 < n) where
-  weighed : (p q : ℕ) (z : ℤ) → n - q ≡ p → (v *ℤ pos p +ℤ w *ℤ pos q) *ℤ pos 10 ≡ (z *ℤ pos 10) *ℤ pos n → lineAt v w q n ≡ z *ℤ pos 10
+  weighed : (p q : ℕ) (z : ℤ) → n - q ≡ p → (v *ℤ pos p +ℤ w *ℤ pos q) *ℤ pos 10 ≡ (z *ℤ pos 10) *ℤ pos n
+      → lineAt v w q n ≡ z *ℤ pos 10
   unfolding lineAt
   weighed p q z e f = rw (e, f) (roundAway-exact (z *ℤ pos 10) n some)
 
   pub line-first : lineAt v w 0 n ≡ v *ℤ pos 10
   line-first =
       weighed n 0 v (omega arith)
-      (eq-by _ _ (simp (up-scale, down-scale) (omega (arith, simp (up-scale, down-scale) at (add-law (v *ℤ pos n) (w *ℤ pos 0))))))
+      (eq-by _ _
+      (simp (up-scale, down-scale) (omega (arith, simp (up-scale, down-scale) at (add-law (v *ℤ pos n) (w *ℤ pos 0))))))
 
   pub line-last : lineAt v w n n ≡ w *ℤ pos 10
   line-last =
       weighed 0 n w (omega arith)
-      (eq-by _ _ (simp (up-scale, down-scale) (omega (arith, simp (up-scale, down-scale) at (add-law (v *ℤ pos 0) (w *ℤ pos n))))))
+      (eq-by _ _
+      (simp (up-scale, down-scale) (omega (arith, simp (up-scale, down-scale) at (add-law (v *ℤ pos 0) (w *ℤ pos n))))))

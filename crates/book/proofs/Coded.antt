@@ -80,12 +80,14 @@ limit-is i = List·getD-map coded-limit heights i (0 ÷ 0)
 abbrev numbered : List Row → List (List ℤ)
 numbered rows = map (λ (r : Row). pos (r .at) ∷ r .cells) rows
 
-numbered-at : (rows : List Row) (i : ℕ) → getD (getD (numbered rows) i []) 0 (pos 0) ≡ pos (getD (map (λ (r : Row). r .at) rows) i 0)
+numbered-at : (rows : List Row) (i : ℕ)
+    → getD (getD (numbered rows) i []) 0 (pos 0) ≡ pos (getD (map (λ (r : Row). r .at) rows) i 0)
 numbered-at [] i = refl
 numbered-at (r ∷ rows) zero = refl
 numbered-at (r ∷ rows) (suc i) = numbered-at rows i
 
-numbered-cell : (rows : List Row) (i col : ℕ) → getD (getD (numbered rows) i []) (col + 1) (pos 0) ≡ cellIn (printed rows) i col
+numbered-cell : (rows : List Row) (i col : ℕ)
+    → getD (getD (numbered rows) i []) (col + 1) (pos 0) ≡ cellIn (printed rows) i col
 numbered-cell [] i col = refl
 numbered-cell (r ∷ rows) zero col = rw add-one
 numbered-cell (r ∷ rows) (suc i) col = numbered-cell rows i col
@@ -108,4 +110,6 @@ firsts = 0 ∷ 7 ∷ 14 ∷ 22 ∷ 23 ∷ 26 ∷ 29 ∷ 33 ∷ []
 
 pub first-row : (k : ℕ) → k < 8 → getD firsts k 0 ≡ firstRow k
 unfolding firstRow
-first-row = each-at (λ (k : ℕ). getD firsts k 0 ≡ firstRow k) 8 (refl, (refl, (refl, (refl, (refl, (refl, (refl, (refl, tt))))))))
+first-row =
+    each-at (λ (k : ℕ). getD firsts k 0 ≡ firstRow k) 8
+    (refl, (refl, (refl, (refl, (refl, (refl, (refl, (refl, tt))))))))

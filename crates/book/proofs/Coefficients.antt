@@ -25,19 +25,23 @@ use Rattle.book.proofs.Answers.{on-wall, on-gable, on-f, on-flat, wall-
 
 module _ (s : Sizes) (o : InOrder s) (wind place : ℕ) where
   -- what is answered for a place that is on the building
-  pub coefficient-is : (wallPlace place ≡ false → 0 < s .kind) → IsCoefficient s wind place (valuesOf (coefficientOf s wind place))
+  pub coefficient-is : (wallPlace place ≡ false → 0 < s .kind)
+      → IsCoefficient s wind place (valuesOf (coefficientOf s wind place))
   unfolding flatColumn
   coefficient-is roofed =
       by-test (wallPlace place)
       (λ w. rw (on-wall s wind place w, wall-on (s .h) (s .a) (s .b) (wallColumn wind place)) (onWall w))
       (λ w. let value = roof-interpolated s o (roofed w) in
       by-test (eqb (s .kind) 1)
-      (λ e. let k = eqb-true (s .kind) 1 e in rw (on-gable s wind place w k) (onGable w k (value (gableColumn wind place))))
+      (λ e.
+      let k = eqb-true (s .kind) 1 e in rw (on-gable s wind place w k) (onGable w k (value (gableColumn wind place))))
       (λ e. let k = eqb-false (s .kind) 1 e in
       let some = roofed w in
       by-test (eqb place F)
       (λ f. let p = eqb-true place F f in rw (on-f s wind place w k p) (onF w (omega arith) p (value 1)))
-      (λ f. let p = eqb-false place F f in rw (on-flat s wind place w k p) (onFlat w (omega arith) p (value (flatColumn place))))))
+      (λ f.
+      let p = eqb-false place F f in
+      rw (on-flat s wind place w k p) (onFlat w (omega arith) p (value (flatColumn place))))))
 
   -- and nothing else is
   one-value : 0 < s .kind → (col : ℕ) {v : ℤ} → OnRoof s col v → v ≡ roofValue s col
@@ -48,8 +52,10 @@ module _ (s : Sizes) (o : InOrder s) (wind place : ℕ) where
   pub coefficient-only : {v : List ℤ} → IsCoefficient s wind place v → v ≡ valuesOf (coefficientOf s wind place)
   unfolding flatColumn
   coefficient-only (onWall w) = rw (on-wall s wind place w, wall-on (s .h) (s .a) (s .b) (wallColumn wind place))
-  coefficient-only (onGable w k i) = rw (on-gable s wind place w k, one-value (omega arith) (gableColumn wind place) i)
-  coefficient-only (onFlat w k p i) = rw (on-flat s wind place w (λ e. omega arith) p, one-value (omega arith) (flatColumn place) i)
+  coefficient-only (onGable w k i) =
+      rw (on-gable s wind place w k, one-value (omega arith) (gableColumn wind place) i)
+  coefficient-only (onFlat w k p i) =
+      rw (on-flat s wind place w (λ e. omega arith) p, one-value (omega arith) (flatColumn place) i)
   coefficient-only (onF w k p i) = rw (on-f s wind place w (λ e. omega arith) p, one-value (omega arith) 1 i)
 
   pub coefficient-unique : {v w : List ℤ} → IsCoefficient s wind place v → IsCoefficient s wind place w → v ≡ w

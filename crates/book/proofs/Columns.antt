@@ -30,9 +30,11 @@ pick-below false h g = g
 pub gableColumn-below : (wind zone : ℕ) → gableColumn wind zone < 4
 unfolding gableColumn
 gableColumn-below wind zone =
-    pick-below (eqb wind 0) (pick-below (leb zone F) (lit< tt) (lit< tt)) (pick-below (eqb zone E || eqb zone G) (lit< tt) (lit< tt))
+    pick-below (eqb wind 0) (pick-below (leb zone F) (lit< tt) (lit< tt))
+    (pick-below (eqb zone E || eqb zone G) (lit< tt) (lit< tt))
 
 pub flatColumn-below : (place : ℕ) → flatColumn place < 4
 unfolding flatColumn
 flatColumn-below place =
-    pick-below (eqb place E) (lit< tt) (pick-below (eqb place F) (lit< tt) (pick-below (eqb place L1) (lit< tt) (lit< tt)))
+    pick-below (eqb place E) (lit< tt)
+    (pick-below (eqb place F) (lit< tt) (pick-below (eqb place L1) (lit< tt) (lit< tt)))

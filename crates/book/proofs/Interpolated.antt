@@ -49,7 +49,9 @@ module _ (rows : List Row) (rises : Rising rows) (col x d : ℕ) (some : 0 < d) 
     one-before : Before u l′ → onLine l u col x d ≡ onLine l′ u′ col x d
     one-before (inl e) =
         let f : u .at * d ≡ l′ .at * d = ap (λ (r : Row). r .at * d) e in
-        on-upper l u b (omega arith) ∙ ap (λ (r : Row). hundredths r col *ℤ pos 10) e ∙ sym (on-lower l′ u′ c (omega arith))
+        on-upper l u b (omega arith)
+        ∙ ap (λ (r : Row). hundredths r col *ℤ pos 10) e
+        ∙ sym (on-lower l′ u′ c (omega arith))
     one-before (inr h) = absurd (omega (arith, mul-lt-mul-of-pos-right h some))
 
   same-line : {l u l′ u′ : Row} → LiesBetween rows x d l u → LiesBetween rows x d l′ u′
@@ -70,7 +72,8 @@ module _ (rows : List Row) (rises : Rising rows) (col x d : ℕ) (some : 0 < d) 
       f ∙ ap (λ (q : Row). hundredths q col *ℤ pos 10) same ∙ sym h
 
   -- "It therefore lies between the neighbouring rows, ends included."
-  pub interpolated-between : {v : ℤ} {lower upper : Row} → Interpolated rows col x d v → LiesBetween rows x d lower upper
+  pub interpolated-between : {v : ℤ} {lower upper : Row} → Interpolated rows col x d v
+      → LiesBetween rows x d lower upper
       → Between (hundredths lower col *ℤ pos 10) (hundredths upper col *ℤ pos 10) v
   interpolated-between {v} {lower} {upper} i b =
       rw (interpolated-unique i (between b (line-near lower upper b)))

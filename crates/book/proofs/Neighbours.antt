@@ -13,7 +13,8 @@ two-rows first e = let z : _≡_ {A = ℕ} 0 1 = cc in omega arith
 two-rows (later n) e = let z : _≡_ {A = ℕ} 0 1 = cc in omega arith
 
 -- of neighbours the upper stands at the larger number
-pub neighbours-rise : {lower upper : Row} (rows : List Row) → Rising rows → Neighbours rows lower upper → lower .at < upper .at
+pub neighbours-rise : {lower upper : Row} (rows : List Row) → Rising rows → Neighbours rows lower upper
+    → lower .at < upper .at
 neighbours-rise (r ∷ s ∷ rows) h first = h .0
 neighbours-rise (r ∷ s ∷ rows) h (later n) = neighbours-rise (s ∷ rows) (h .1) n
 
@@ -21,7 +22,8 @@ neighbours-rise (r ∷ s ∷ rows) h (later n) = neighbours-rise (s ∷ rows) (h
 abbrev pub Before : Row → Row → Type 0
 Before u l = (u ≡ l) ⊎ (u .at < l .at)
 
-head-before : {r lower upper : Row} (rows : List Row) → Rising (r ∷ rows) → Neighbours (r ∷ rows) lower upper → Before r lower
+head-before : {r lower upper : Row} (rows : List Row) → Rising (r ∷ rows) → Neighbours (r ∷ rows) lower upper
+    → Before r lower
 head-before (s ∷ rows) h first = inl refl
 head-before {r} {lower} (s ∷ rows) h (later n) = go (head-before rows (h .1) n)
   where
@@ -35,7 +37,8 @@ pub data Met (l u l′ u′ : Row) : Type 0 where
   before : Before u l′ → Met l u l′ u′
   after : Before u′ l → Met l u l′ u′
 
-pub meet : {l u l′ u′ : Row} (rows : List Row) → Rising rows → Neighbours rows l u → Neighbours rows l′ u′ → Met l u l′ u′
+pub meet : {l u l′ u′ : Row} (rows : List Row) → Rising rows → Neighbours rows l u → Neighbours rows l′ u′
+    → Met l u l′ u′
 meet (r ∷ s ∷ rows) h first first = same refl refl
 meet (r ∷ s ∷ rows) h first (later n) = before (head-before rows (h .1) n)
 meet (r ∷ s ∷ rows) h (later n) first = after (head-before rows (h .1) n)

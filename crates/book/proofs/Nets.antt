@@ -18,22 +18,27 @@ internal-small (pos n) e = ltb-false 100 n (or-false false (ltb 100 n) e .1)
 internal-small (negsuc n) e = omega (arith, ltb-false 99 n (or-false (ltb 99 n) false e .0))
 
 module _ (g : Building) (direction : ℤ) (place : ℕ) (internal : ℤ) where
-  pub net-refused : {n l : ℕ} → outsideOf g direction place ≡ Refused n l → netOf g direction place internal ≡ Refused n l
+  pub net-refused : {n l : ℕ} → outsideOf g direction place ≡ Refused n l
+      → netOf g direction place internal ≡ Refused n l
   unfolding netOf
   net-refused e = rw e
 
-  pub net-one : {v : ℤ} → outsideOf g direction place ≡ One v → beyond (negℤ (pos 100)) (pos 100) internal ≡ false → netOf g direction place internal ≡ One (net v internal)
+  pub net-one : {v : ℤ} → outsideOf g direction place ≡ One v → beyond (negℤ (pos 100)) (pos 100) internal ≡ false
+      → netOf g direction place internal ≡ One (net v internal)
   unfolding netOf
   net-one e f = rw (e, f)
 
-  pub net-two : {v w : ℤ} → outsideOf g direction place ≡ Two v w → beyond (negℤ (pos 100)) (pos 100) internal ≡ false → netOf g direction place internal ≡ Two (net v internal) (net w internal)
+  pub net-two : {v w : ℤ} → outsideOf g direction place ≡ Two v w → beyond (negℤ (pos 100)) (pos 100) internal ≡ false
+      → netOf g direction place internal ≡ Two (net v internal) (net w internal)
   unfolding netOf
   net-two e f = rw (e, f)
 
-  pub net-bad-one : {v : ℤ} → outsideOf g direction place ≡ One v → beyond (negℤ (pos 100)) (pos 100) internal ≡ true → netOf g direction place internal ≡ Refused 3 0
+  pub net-bad-one : {v : ℤ} → outsideOf g direction place ≡ One v → beyond (negℤ (pos 100)) (pos 100) internal ≡ true
+      → netOf g direction place internal ≡ Refused 3 0
   unfolding netOf
   net-bad-one e f = rw (e, f)
 
-  pub net-bad-two : {v w : ℤ} → outsideOf g direction place ≡ Two v w → beyond (negℤ (pos 100)) (pos 100) internal ≡ true → netOf g direction place internal ≡ Refused 3 0
+  pub net-bad-two : {v w : ℤ} → outsideOf g direction place ≡ Two v w
+      → beyond (negℤ (pos 100)) (pos 100) internal ≡ true → netOf g direction place internal ≡ Refused 3 0
   unfolding netOf
   net-bad-two e f = rw (e, f)

@@ -74,7 +74,8 @@ module _ (k : ℕ) (below : k < 7) (x d i : ℕ) where
   walk-stops h to =
       let r = part k below .reach in
       let e = same-row (i + 1) h in
-      spot-stops (rowsTo k) x d i i (omega arith) (rw e to) ∙ ap₂ (λ (s t : ℕ). way i s t x d) (same-row i (omega arith)) e
+      spot-stops (rowsTo k) x d i i (omega arith) (rw e to)
+      ∙ ap₂ (λ (s t : ℕ). way i s t x d) (same-row i (omega arith)) e
 
   pub walk-passes : i + 1 < firstRow (k + 1) → getD roofAts (i + 1) 0 * d < x
       → walkFrom ≡ spotFrom (i + 1) (drop (i + 1) (rowsTo k)) x d

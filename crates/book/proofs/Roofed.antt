@@ -30,7 +30,8 @@ gable-begins = each-at (λ (k : ℕ). getD (partAts k) 0 0 ≡ roofOf 1 .least) 
 flat-begins : (kind : ℕ) → kind < 6 → getD (partAts (kind + 1)) 0 0 ≡ roofOf kind .least
 unfolding partAts roofOf
 flat-begins =
-    each-at (λ (kind : ℕ). getD (partAts (kind + 1)) 0 0 ≡ roofOf kind .least) 6 (refl, (refl, (refl, (refl, (refl, (refl, tt))))))
+    each-at (λ (kind : ℕ). getD (partAts (kind + 1)) 0 0 ≡ roofOf kind .least) 6
+    (refl, (refl, (refl, (refl, (refl, (refl, tt))))))
 
 -- and its last at the greatest
 gable-ends : (k : ℕ) → k < 3 → lastAt (partRows k) ≡ roofOf 1 .greatest
@@ -39,7 +40,8 @@ gable-ends = each-at (λ (k : ℕ). lastAt (partRows k) ≡ roofOf 1 .greatest) 
 
 flat-ends : (n : ℕ) → n < 4 → lastAt (partRows (n + 3)) ≡ roofOf (n + 2) .greatest
 unfolding roofOf
-flat-ends = each-at (λ (n : ℕ). lastAt (partRows (n + 3)) ≡ roofOf (n + 2) .greatest) 4 (refl, (refl, (refl, (refl, tt))))
+flat-ends =
+    each-at (λ (n : ℕ). lastAt (partRows (n + 3)) ≡ roofOf (n + 2) .greatest) 4 (refl, (refl, (refl, (refl, tt))))
 
 gable-end : (k : ℕ) → k < 4 → firstRow k ≤ 22
 unfolding firstRow
@@ -87,16 +89,32 @@ module _ (s : Sizes) (o : InOrder s) (roofed : 0 < s .kind) where
   unfolding spotIn
   found =
       let p = part (partOf s) (covered .below) in
-      let r = spot-good 900 (firstRow (partOf s)) (partAts (partOf s)) (s .along) (s .across) (p .rises) (o .ranged .across-least) reached in
+      let r =
+      spot-good 900 (firstRow (partOf s)) (partAts (partOf s)) (s .along) (s .across) (p .rises)
+      (o .ranged .across-least) reached in
       let n = p .next in
       let m = o .ranged .across-most in
-      record { from = r .from; lower = omega arith; upper = omega arith; within = r .within; some = r .some; small = omega arith }
+      record {
+        from = r .from;
+        lower = omega arith;
+        upper = omega arith;
+        within = r .within;
+        some = r .some;
+        small = omega arith;
+      }
 
   pub found-any : Good 0 33 27000001 (spotIn (partOf s) (s .along) (s .across))
   found-any =
       let e = part (partOf s) (covered .below) .end in
       let f = found in
-      record { from = omega arith; lower = omega arith; upper = omega arith; within = f .within; some = f .some; small = f .small }
+      record {
+        from = omega arith;
+        lower = omega arith;
+        upper = omega arith;
+        within = f .within;
+        some = f .some;
+        small = f .small;
+      }
 
   -- the part rises
   pub roof-rises : Rising (partRows (partOf s))
@@ -109,23 +127,30 @@ module _ (s : Sizes) (o : InOrder s) (roofed : 0 < s .kind) where
   roof-interpolated col =
       let k = partOf s in
       let rises = part k (covered .below) .rises in
-      walked-interpolated roofCells _ col (s .along) (s .across) (o .ranged .across-least) 900 (firstRow k) (partRows k)
+      walked-interpolated roofCells _ col (s .along) (s .across) (o .ranged .across-least) 900 (firstRow k)
+      (partRows k)
       (part-printed k (covered .below)) rises reached
       (subst (λ (n : ℕ). s .along ≤ n * s .across) (sym (covered .ends)) (o .x-to))
 
   -- the value lies between its two rows, ends included
-  pub roof-between : (col : ℕ) → let r = spotIn (partOf s) (s .along) (s .across) in Between (cellIn roofCells (r .lower) col *ℤ pos 10) (cellIn roofCells (r .upper) col *ℤ pos 10) (roofValue s col)
+  pub roof-between : (col : ℕ)
+      → let r = spotIn (partOf s) (s .along) (s .across) in Between (cellIn roofCells (r .lower) col *ℤ pos 10)
+      (cellIn roofCells (r .upper) col *ℤ pos 10) (roofValue s col)
   unfolding roofValue
   roof-between col =
       let r = spotIn (partOf s) (s .along) (s .across) in
-      line-between (cellIn roofCells (r .lower) col) (cellIn roofCells (r .upper) col) (r .part) (r .whole) (found .within) (found .some)
+      line-between (cellIn roofCells (r .lower) col) (cellIn roofCells (r .upper) col) (r .part) (r .whole)
+      (found .within) (found .some)
 
   -- and so is small
-  value-small : (k col : ℕ) → natAbs (cellIn roofCells (spotIn (partOf s) (s .along) (s .across) .lower) col) ≤ k → natAbs (cellIn roofCells (spotIn (partOf s) (s .along) (s .across) .upper) col) ≤ k → natAbs (roofValue s col) ≤ k * 10
+  value-small : (k col : ℕ) → natAbs (cellIn roofCells (spotIn (partOf s) (s .along) (s .across) .lower) col) ≤ k
+      → natAbs (cellIn roofCells (spotIn (partOf s) (s .along) (s .across) .upper) col) ≤ k
+      → natAbs (roofValue s col) ≤ k * 10
   unfolding roofValue
   value-small k col h g =
       let r = spotIn (partOf s) (s .along) (s .across) in
-      line-small (cellIn roofCells (r .lower) col) (cellIn roofCells (r .upper) col) (r .part) (r .whole) (found .within) (found .some) k h g
+      line-small (cellIn roofCells (r .lower) col) (cellIn roofCells (r .upper) col) (r .part) (r .whole)
+      (found .within) (found .some) k h g
 
   pub roofValue-small : (col : ℕ) → natAbs (roofValue s col) ≤ 2500
   roofValue-small col = value-small 250 col (roof-small _ col) (roof-small _ col)

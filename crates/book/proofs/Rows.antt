@@ -17,7 +17,8 @@ module _ (h b : ℕ) where
   block-first = refl
 
   pub blockOf-most : h ≤ 6 * b → blockOf h b ≤ 2
-  blockOf-most l = rw block-first (first-most (upTo h b) (0 ÷ 0) heights 0 2 (lit< tt) (upTo-yes h b 6 1 (omega arith)))
+  blockOf-most l =
+      rw block-first (first-most (upTo h b) (0 ÷ 0) heights 0 2 (lit< tt) (upTo-yes h b 6 1 (omega arith)))
 
 module _ (h a b : ℕ) where
   -- h/b and a/b come up to a row's limits

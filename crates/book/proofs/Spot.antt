@@ -36,11 +36,19 @@ rising-most k s (t ∷ l) h =
     omega arith
 
 -- x/d is not below the first row
-pub spot-good : (k i : ℕ) (l : List ℕ) (x d : ℕ) → T (rising k l) → 0 < d → getD l 0 0 * d ≤ x → Good i (i + length l) (k * d + 1) (spotFrom i l x d)
+pub spot-good : (k i : ℕ) (l : List ℕ) (x d : ℕ) → T (rising k l) → 0 < d → getD l 0 0 * d ≤ x
+    → Good i (i + length l) (k * d + 1) (spotFrom i l x d)
 unfolding spotFrom
 spot-good k i [] x d h p g = absurd h
 spot-good k i (s ∷ []) x d h p g =
-    record { from = omega arith; lower = omega arith; upper = omega arith; within = omega arith; some = omega arith; small = omega arith }
+    record {
+      from = omega arith;
+      lower = omega arith;
+      upper = omega arith;
+      within = omega arith;
+      some = omega arith;
+      small = omega arith;
+    }
 spot-good k i (s ∷ t ∷ l) x d h p g = go (leb x (t * d)) refl (λ q. spot-good k (i + 1) (t ∷ l) x d rest p q)
   where
     rest : T (rising k (t ∷ l))
@@ -49,14 +57,30 @@ spot-good k i (s ∷ t ∷ l) x d h p g = go (leb x (t * d)) refl (λ q. spot-go
     apart : s * d < t * d
     apart = mul-lt-mul-of-pos-right (ltb→lt s t (both-left (ltb s t) (rising k (t ∷ l)) h)) p
 
-    go : (u : Bool) → leb x (t * d) ≡ u → (t * d ≤ x → Good (i + 1) (i + 1 + length (t ∷ l)) (k * d + 1) (spotFrom (i + 1) (t ∷ l) x d)) → Good i (i + length (s ∷ t ∷ l)) (k * d + 1) (cond u (way i s t x d) (spotFrom (i + 1) (t ∷ l) x d))
+    go : (u : Bool) → leb x (t * d) ≡ u
+        → (t * d ≤ x → Good (i + 1) (i + 1 + length (t ∷ l)) (k * d + 1) (spotFrom (i + 1) (t ∷ l) x d))
+        → Good i (i + length (s ∷ t ∷ l)) (k * d + 1) (cond u (way i s t x d) (spotFrom (i + 1) (t ∷ l) x d))
     go true e f =
         let most = mul-le-mul-right d (rising-most k t l rest) in
         let to = leb-true x (t * d) e in
-        record { from = omega arith; lower = omega arith; upper = omega arith; within = omega arith; some = omega (arith, apart); small = omega arith }
+        record {
+          from = omega arith;
+          lower = omega arith;
+          upper = omega arith;
+          within = omega arith;
+          some = omega (arith, apart);
+          small = omega arith;
+        }
     go false e f =
         let r = f (omega (arith, leb-false x (t * d) e)) in
-        record { from = omega arith; lower = omega arith; upper = omega arith; within = r .within; some = r .some; small = r .small }
+        record {
+          from = omega arith;
+          lower = omega arith;
+          upper = omega arith;
+          within = r .within;
+          some = r .some;
+          small = r .small;
+        }
 
 -- ---- the walk as a loop takes it: `spotFrom j (drop i l) x d`, with j the number of row i
 
@@ -64,18 +88,27 @@ module _ (l : List ℕ) (x d j i : ℕ) where
   two : suc (i + 1) ≤ length l → drop i l ≡ getD l i 0 ∷ getD l (i + 1) 0 ∷ drop (suc (i + 1)) l
   two h =
       let e : suc i ≡ i + 1 = omega arith in
-      drop-cons l i 0 (omega arith) ∙ ap (λ (t : List ℕ). getD l i 0 ∷ t) (ap (λ (n : ℕ). drop n l) e ∙ drop-cons l (i + 1) 0 h)
+      drop-cons l i 0 (omega arith)
+      ∙ ap (λ (t : List ℕ). getD l i 0 ∷ t) (ap (λ (n : ℕ). drop n l) e ∙ drop-cons l (i + 1) 0 h)
 
   -- row i + 1 is the first that is not below x/d
-  pub spot-stops : i + 1 < length l → x ≤ getD l (i + 1) 0 * d → spotFrom j (drop i l) x d ≡ way j (getD l i 0) (getD l (i + 1) 0) x d
+  pub spot-stops : i + 1 < length l → x ≤ getD l (i + 1) 0 * d
+      → spotFrom j (drop i l) x d ≡ way j (getD l i 0) (getD l (i + 1) 0) x d
   unfolding spotFrom
-  spot-stops h k = ap (λ (t : List ℕ). spotFrom j t x d) (two (omega arith)) ∙ ap (λ (t : Bool). cond t (way j (getD l i 0) (getD l (i + 1) 0) x d) (spotFrom (j + 1) (getD l (i + 1) 0 ∷ drop (suc (i + 1)) l) x d)) (le-leb x (getD l (i + 1) 0 * d) k)
+  spot-stops h k =
+      ap (λ (t : List ℕ). spotFrom j t x d) (two (omega arith))
+      ∙ ap
+      (λ (t : Bool). cond t (way j (getD l i 0) (getD l (i + 1) 0) x d) (spotFrom (j + 1) (getD l (i + 1) 0 ∷ drop (suc (i + 1)) l) x d))
+      (le-leb x (getD l (i + 1) 0 * d) k)
 
-  pub spot-passes : i + 1 < length l → getD l (i + 1) 0 * d < x → spotFrom j (drop i l) x d ≡ spotFrom (j + 1) (drop (i + 1) l) x d
+  pub spot-passes : i + 1 < length l → getD l (i + 1) 0 * d < x
+      → spotFrom j (drop i l) x d ≡ spotFrom (j + 1) (drop (i + 1) l) x d
   unfolding spotFrom
   spot-passes h k =
       ap (λ (t : List ℕ). spotFrom j t x d) (two (omega arith))
-      ∙ ap (λ (t : Bool). cond t (way j (getD l i 0) (getD l (i + 1) 0) x d) (spotFrom (j + 1) (getD l (i + 1) 0 ∷ drop (suc (i + 1)) l) x d)) (lt-leb x (getD l (i + 1) 0 * d) k)
+      ∙ ap
+      (λ (t : Bool). cond t (way j (getD l i 0) (getD l (i + 1) 0) x d) (spotFrom (j + 1) (getD l (i + 1) 0 ∷ drop (suc (i + 1)) l) x d))
+      (lt-leb x (getD l (i + 1) 0 * d) k)
       ∙ ap (λ (t : List ℕ). spotFrom (j + 1) t x d) (sym (drop-cons l (i + 1) 0 (omega arith)))
 
 pub spot-ends : (l : List ℕ) (x d j i : ℕ) → length l ≤ i + 1 → spotFrom j (drop i l) x d ≡ on j

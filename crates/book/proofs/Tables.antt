@@ -15,9 +15,11 @@ use Rattle.book.specs.Roofs.{roofAts, roofCells}
 abbrev small : ℕ → ℤ → Bool
 small k z = leb (natAbs z) k
 
-every-small : (k : ℕ) (cells : List (List ℤ)) → T (all (all (small k)) cells) → (i col : ℕ) → natAbs (cellIn cells i col) ≤ k
+every-small : (k : ℕ) (cells : List (List ℤ)) → T (all (all (small k)) cells) → (i col : ℕ)
+    → natAbs (cellIn cells i col) ≤ k
 every-small k cells t i col =
-    leb→le _ k (all-at (small k) (getD cells i []) (pos 0) (le→leb 0 k zero-le) (all-at (all (small k)) cells [] tt t i) col)
+    leb→le _ k
+    (all-at (small k) (getD cells i []) (pos 0) (le→leb 0 k zero-le) (all-at (all (small k)) cells [] tt t i) col)
 
 pub wall-small : (i col : ℕ) → natAbs (cellIn wallCells i col) ≤ 120
 unfolding wallCells
@@ -31,14 +33,16 @@ roof-small = every-small 250 roofCells tt
 pub gable-small : (i col : ℕ) → i < 22 → natAbs (cellIn roofCells i col) ≤ 120
 unfolding roofCells
 gable-small i col h =
-    subst (λ (r : List ℤ). natAbs (getD r col (pos 0)) ≤ 120) (getD-take 22 roofCells i [] h) (every-small 120 (take 22 roofCells) tt i col)
+    subst (λ (r : List ℤ). natAbs (getD r col (pos 0)) ≤ 120) (getD-take 22 roofCells i [] h)
+    (every-small 120 (take 22 roofCells) tt i col)
 
 pub flat-small : (i col : ℕ) → col < 2 → natAbs (cellIn roofCells i col) ≤ 120
 unfolding roofCells
 flat-small i col h =
     leb→le _ 120
     (subst (λ (z : ℤ). T (small 120 z)) (getD-take 2 (getD roofCells i []) col (pos 0) h)
-    (all-at (small 120) (take 2 (getD roofCells i [])) (pos 0) tt (all-at (λ (l : List ℤ). all (small 120) (take 2 l)) roofCells [] tt tt i) col))
+    (all-at (small 120) (take 2 (getD roofCells i [])) (pos 0) tt
+    (all-at (λ (l : List ℤ). all (small 120) (take 2 l)) roofCells [] tt tt i) col))
 
 -- the numbers at which rows stand
 pub at-small : (i : ℕ) → getD roofAts i 0 ≤ 900

@@ -49,7 +49,8 @@ module _ (cells rest : List (List ℤ)) (col x d : ℕ) (some : 0 < d) where
   this-row : (i : ℕ) (r : Row) (rows : List Row) → From i (r ∷ rows) → cellIn cells i col ≡ hundredths r col
   this-row i r rows e =
       let none : i + 0 ≡ i = omega arith in
-      let found : getD cells (i + 0) [] ≡ r .cells = sym (getD-drop i cells 0 []) ∙ ap (λ (l : List (List ℤ)). getD l 0 []) e in
+      let found : getD cells (i + 0) [] ≡ r .cells =
+      sym (getD-drop i cells 0 []) ∙ ap (λ (l : List (List ℤ)). getD l 0 []) e in
       ap (λ (l : List ℤ). getD l col (pos 0)) (rw none at found)
 
   next-from : (i : ℕ) (r : Row) (rows : List Row) → From i (r ∷ rows) → From (i + 1) rows

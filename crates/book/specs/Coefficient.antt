@@ -1,4 +1,5 @@
--- What the outside coefficient of a zone or local is, in thousandths: a case for each table, and one for zone F of a flat roof.
+-- What the outside coefficient of a zone or local is, in thousandths: a case for each table, and one for zone F of a
+-- flat roof.
 use mathlib.Core.Path.{_≡_}
 use mathlib.Core.Bool.{true, false}
 use mathlib.Core.List.{List, [], _∷_}

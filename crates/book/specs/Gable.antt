@@ -1,4 +1,5 @@
--- Gable roofs, table 3.2.2.2.2: slopes in tenths of a degree, and the hundredths of wind 0 E,F; wind 0 G,H; wind 90 E,G; wind 90 F,H.
+-- Gable roofs, table 3.2.2.2.2: slopes in tenths of a degree, and the hundredths of wind 0 E,F; wind 0 G,H; wind 90
+-- E,G; wind 90 F,H.
 use mathlib.Core.List.{List, [], _∷_}
 use Prim.Native.Nat.{ℕ}
 use Rattle.book.specs.Number.{p, m}

@@ -29,7 +29,8 @@ pub record LiesBetween (rows : List Row) (x d : ℕ) (lower upper : Row) : Type 
 abbrev pub hundredths : Row → ℕ → ℤ
 hundredths r col = getD (r .cells) col (pos 0)
 
--- v, in thousandths, is nearest to what column col has at x/d on the straight line from row to row, a half going away from zero
+-- v, in thousandths, is nearest to what column col has at x/d on the straight line from row to row, a half going away
+-- from zero
 abbrev pub NearLine : Row → Row → ℕ → ℕ → ℕ → ℤ → Type 0
 NearLine lower upper col x d v =
     let s = lower .at * d in
@@ -39,5 +40,6 @@ NearLine lower upper col x d v =
 -- v, in thousandths, is the value of column col at x/d: nearest to the straight line between two neighbouring rows,
 -- or, where the table has one row only, that row's
 pub data Interpolated (rows : List Row) (col x d : ℕ) (v : ℤ) : Type 0 where
-  between : {lower upper : Row} → LiesBetween rows x d lower upper → NearLine lower upper col x d v → Interpolated rows col x d v
+  between : {lower upper : Row} → LiesBetween rows x d lower upper → NearLine lower upper col x d v
+      → Interpolated rows col x d v
   alone : {r : Row} → rows ≡ r ∷ [] → v ≡ hundredths r col *ℤ pos 10 → Interpolated rows col x d v

@@ -1,4 +1,5 @@
--- What the book prints and paper 01 decides: the tables, the rows, the value between rows, and the answer to a question about one zone or local.
+-- What the book prints and paper 01 decides: the tables, the rows, the value between rows, and the answer to a
+-- question about one zone or local.
 pub mod Number
 pub mod Line
 pub mod Interpolated

@@ -1,4 +1,5 @@
--- Interpolation, one definition for every table. Between rows the exact value lies on the straight line; it is then rounded once to a thousandth, a half going away from zero.
+-- Interpolation, one definition for every table. Between rows the exact value lies on the straight line; it is then
+-- rounded once to a thousandth, a half going away from zero.
 use mathlib.Core.Bool.{cond}
 use mathlib.Core.List.{List, [], _∷_}
 use Prim.Native.Nat.{ℕ, _+_, _-_, _*_}

@@ -21,7 +21,8 @@ const HEIGHTS: [Limit; 3] = [Limit(1, 2), Limit(3, 2), Limit(6, 1)];
 // The row with which each part begins: gable by h/b; straight eaves, parapet, curved eaves, mansard.
 const FIRST: [usize; 8] = [0, 7, 14, 22, 23, 26, 29, 33];
 
-// The number at which a row stands, in tenths of a degree or, for parapet and curved eaves, in thousandths of h; and its
+// The number at which a row stands, in tenths of a degree or, for parapet and curved eaves, in thousandths of h; and
+// its
 // hundredths. Gable: wind 0 E,F; wind 0 G,H; wind 90 E,G; wind 90 F,H. Flat: E; F, with both signs; L1; L2.
 const ROWS: [[i16; 5]; 33] = [
     // Gable, h/b to 1/2.

@@ -1,4 +1,5 @@
--- Laws of the sheet: how long a line and a sheet can be, and that a part of a text decides; that reading and writing undo each other;
+-- Laws of the sheet: how long a line and a sheet can be, and that a part of a text decides; that reading and writing
+-- undo each other;
 -- what the code needs for each of its steps; and worked sheets.
 pub mod Bytes
 pub mod OutOfForm

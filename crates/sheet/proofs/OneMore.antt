@@ -1,4 +1,5 @@
--- Laws of a record with one entry more: it records what is then carried, and counts one more of its section and none of a later one.
+-- Laws of a record with one entry more: it records what is then carried, and counts one more of its section and none
+-- of a later one.
 use Prim.Native.Nat.{ℕ, zero, suc, _+_, _≤_, _<_}
 use mathlib.Core.Path.{_≡_}
 use mathlib.Core.List.{List, [], _∷_}
@@ -34,7 +35,11 @@ stored I fs j =
     record {
       building = j .building;
       winds = j .winds;
-      internals = record { count = j .internals .count + 1; entry = set (j .internals .entry) (j .internals .count) (internalOf fs) };
+      internals =
+          record {
+            count = j .internals .count + 1;
+            entry = set (j .internals .entry) (j .internals .count) (internalOf fs);
+          };
       faces = j .faces;
     }
 stored F fs j =
@@ -57,7 +62,8 @@ module _ (fs : List Field) {j : Job} (c : Carried) (e : j ≡ recorded c) where
   unfolding recorded
   stored-records B few = rw e
   stored-records W few = let q : length (c .winds) < 8 = rw e at few in rw (e, length-append, firstOf-more noWind 8)
-  stored-records I few = let q : length (c .internals) < 4 = rw e at few in rw (e, length-append, firstOf-more (pos 0) 4)
+  stored-records I few =
+      let q : length (c .internals) < 4 = rw e at few in rw (e, length-append, firstOf-more (pos 0) 4)
   stored-records F few = let q : length (c .faces) < 24 = rw e at few in rw (e, length-append, firstOf-more noFace 24)
 
 -- ---- what it counts
@@ -66,7 +72,8 @@ module _ (fs : List Field) {j : Job} (c : Carried) (e : j ≡ recorded c) where
 abbrev pub sectionAt : ℕ → Section
 sectionAt i = getD sections i B
 
-pub one-more : (t : Section) (c : Carried) (fs : List Field) → countIn (recorded (learn (Entry t) fs c)) t ≤ countIn (recorded c) t + 1
+pub one-more : (t : Section) (c : Carried) (fs : List Field)
+    → countIn (recorded (learn (Entry t) fs c)) t ≤ countIn (recorded c) t + 1
 unfolding recorded
 one-more B c fs = omega arith
 one-more W c fs = omega (arith, length-append (c .winds) (windOf fs ∷ []))

@@ -1,4 +1,5 @@
--- An accepted sheet has at most 827 bytes, and a part of a text that holds as much and a longest line in form decides the answer for the whole.
+-- An accepted sheet has at most 827 bytes, and a part of a text that holds as much and a longest line in form decides
+-- the answer for the whole.
 use Prim.Native.Nat.{ℕ, zero, suc, _+_, _-_, _≤_, _<_}
 use mathlib.Core.Path.{_≡_, refl, ap, _∙_, sym}
 use mathlib.Core.Bool.{false}
@@ -41,10 +42,12 @@ longer x e (ended l t f b) = ended (x ∷ l) t (rw e (ap suc f)) b
 pub by-lines : (s : List ℕ) → ByLines s
 unfolding until
 by-lines [] = none
-by-lines (x ∷ s) = by-test (eqb x 10) (λ e. rw (eqb-true x 10 e) (ended [] s refl (by-lines s))) (λ e. longer x e (by-lines s))
+by-lines (x ∷ s) =
+    by-test (eqb x 10) (λ e. rw (eqb-true x 10 e) (ended [] s refl (by-lines s))) (λ e. longer x e (by-lines s))
 
 -- a first line that no kind takes
-no-line : (ks : List Kind) (c : Carried) (n : ℕ) (x : List Field) (xs : List (List Field)) → ((k : Kind) (g : Building) → lineFault k g x ≡ 1) → walk ks c n (x ∷ xs) ≡ Refused 1 n
+no-line : (ks : List Kind) (c : Carried) (n : ℕ) (x : List Field) (xs : List (List Field))
+    → ((k : Kind) (g : Building) → lineFault k g x ≡ 1) → walk ks c n (x ∷ xs) ≡ Refused 1 n
 unfolding walk
 no-line [] c n x xs h = refl
 no-line (k ∷ ks) c n x xs h = rw (h k (c .building))
@@ -54,16 +57,22 @@ no-line (k ∷ ks) c n x xs h = rw (h k (c .building))
 accepted-no : (c : Carried) (m n : ℕ) → Refused m n ≡ Accepted c → ⊥
 accepted-no c m n e = let z : _≡_ {A = ℕ} 0 1 = cc in omega arith
 
-walk-short : {s : List ℕ} → ByLines s → (ks : List Kind) (c e : Carried) (n : ℕ) → walk ks c n (rows s) ≡ Accepted e → length s ≤ longest ks
+walk-short : {s : List ℕ} → ByLines s → (ks : List Kind) (c e : Carried) (n : ℕ) → walk ks c n (rows s) ≡ Accepted e
+    → length s ≤ longest ks
 walk-short none ks c e n a = omega arith
 walk-short (unended x s f) ks c e n a =
-    absurd (accepted-no e 1 n (sym (no-line ks c n (Bad ∷ []) [] bad-first) ∙ sym (ap (walk ks c n) (rows-open x s f)) ∙ a))
-walk-short (ended l t f b) [] c e n a = absurd (accepted-no-more c e n (fieldsOf l) (rows t) (rw (rows-seam l t f) at a))
+    absurd
+    (accepted-no e 1 n (sym (no-line ks c n (Bad ∷ []) [] bad-first) ∙ sym (ap (walk ks c n) (rows-open x s f)) ∙ a))
+walk-short (ended l t f b) [] c e n a =
+    absurd (accepted-no-more c e n (fieldsOf l) (rows t) (rw (rows-seam l t f) at a))
 walk-short (ended l t f b) (k ∷ ks) c e n a =
     let q : walk (k ∷ ks) c n (fieldsOf l ∷ rows t) ≡ Accepted e = rw (rows-seam l t f) at a in
     let z = accepted-line k ks c n (fieldsOf l) (rows t) q in
-    let r = walk-short b (calls k (fieldsOf l) ++ ks) (learn k (fieldsOf l) c) e (n + 1) (sym (walk-on k ks c n (fieldsOf l) (rows t) z) ∙ q) in
-    omega (arith, length-append l (10 ∷ t), in-order-short k (c .building) l z, longest-on k ks (c .building) (fieldsOf l) z)
+    let r =
+    walk-short b (calls k (fieldsOf l) ++ ks) (learn k (fieldsOf l) c) e (n + 1)
+    (sym (walk-on k ks c n (fieldsOf l) (rows t) z) ∙ q) in
+    omega
+    (arith, length-append l (10 ∷ t), in-order-short k (c .building) l z, longest-on k ks (c .building) (fieldsOf l) z)
 
 -- no accepted sheet is longer
 pub longest-sheet : (s : List ℕ) (c : Carried) → reading s ≡ Accepted c → length s ≤ 827
@@ -98,8 +107,12 @@ walk-alike : (k : Kind) (ks : List Kind) (c : Carried) (n : ℕ) (x : List Field
     → walk (k ∷ ks) c n (x ∷ xs) ≡ walk (k ∷ ks) c n (x ∷ ys)
 walk-alike k ks c n x xs ys h =
     by-test (eqb (lineFault k (c .building) x) 0)
-    (λ e. let z = eqb-true (lineFault k (c .building) x) 0 e in walk-on k ks c n x xs z ∙ h z ∙ sym (walk-on k ks c n x ys z))
-    (λ e. let z = eqb-false (lineFault k (c .building) x) 0 e in walk-refused k ks c n x xs z ∙ sym (walk-refused k ks c n x ys z))
+    (λ e.
+    let z = eqb-true (lineFault k (c .building) x) 0 e in
+    walk-on k ks c n x xs z ∙ h z ∙ sym (walk-on k ks c n x ys z))
+    (λ e.
+    let z = eqb-false (lineFault k (c .building) x) 0 e in
+    walk-refused k ks c n x xs z ∙ sym (walk-refused k ks c n x ys z))
 
 -- the first line ends in the part, or it is longer than any line in form
 first-line : (l t : List ℕ) → Free 10 l → (ks : List Kind) (c : Carried) (n m : ℕ) → 54 ≤ m
@@ -113,9 +126,11 @@ first-line l t f ks c n m h on =
     (λ e.
     let k : m ≤ length l = ltb-false (length l) m e in
     rw (take-append-le m l (10 ∷ t) k, rows-part m l (omega arith) (omega arith) f, rows-seam l t f)
-    (no-line ks c n (Bad ∷ []) [] bad-first ∙ sym (no-line ks c n (fieldsOf l) (rows t) (λ i g. line-long i g l (omega arith)))))
+    (no-line ks c n (Bad ∷ []) [] bad-first ∙ sym
+    (no-line ks c n (fieldsOf l) (rows t) (λ i g. line-long i g l (omega arith)))))
 
-walk-part : {s : List ℕ} → ByLines s → (ks : List Kind) (c : Carried) (n m : ℕ) → longest ks + 54 ≤ m → walk ks c n (rows (take m s)) ≡ walk ks c n (rows s)
+walk-part : {s : List ℕ} → ByLines s → (ks : List Kind) (c : Carried) (n m : ℕ) → longest ks + 54 ≤ m
+    → walk ks c n (rows (take m s)) ≡ walk ks c n (rows s)
 unfolding walk
 walk-part none ks c n m h = rw take-nil
 walk-part (unended x s f) ks c n m h = rw (rows-part m (x ∷ s) (omega arith) (omega arith) f, rows-open x s f)

@@ -31,7 +31,8 @@ read-written s c a = ap textOf (accepted-lines (rows s) c a) ∙ rows-text s (ac
 
 -- so with the record that was read and a lent buffer: what comes of writing it is what comes of writing the text
 pub read-rewritten : (s : List ℕ) (c : Carried) → reading s ≡ Accepted c → (buf : List ℕ)
-    → (jobWriting sheetText (judged (answer (reading s) .job)) buf ≡ writing s buf) × (jobBuffer sheetText (judged (answer (reading s) .job)) buf ≡ bufferAfter s buf)
+    → (jobWriting sheetText (judged (answer (reading s) .job)) buf ≡ writing s buf)
+    × (jobBuffer sheetText (judged (answer (reading s) .job)) buf ≡ bufferAfter s buf)
 unfolding reading
 read-rewritten s c a buf = rw (a, recorded-accepted (rows s) c a, read-written s c a) (refl, refl)
 
@@ -44,10 +45,12 @@ module _ (j : Job) (c : Carried) (a : judged j ≡ Accepted c) where
   -- an accepted job, written and read again, is what it carries
   pub written-read : reading (sheetText (carried j)) ≡ Accepted (carried j)
   unfolding judged
-  written-read = judge-is-reader j (accepted-in-form (linesOf (carried j)) c a) ∙ a ∙ ap Accepted (judged-carried j c a)
+  written-read =
+      judge-is-reader j (accepted-in-form (linesOf (carried j)) c a) ∙ a ∙ ap Accepted (judged-carried j c a)
 
   -- so it is the same job, in a record with zeros after each count
-  pub written-same : (answer (reading (sheetText (carried j))) .job ≡ recorded (carried j)) × SameJob j (answer (reading (sheetText (carried j))) .job)
+  pub written-same : (answer (reading (sheetText (carried j))) .job ≡ recorded (carried j)) × SameJob j
+      (answer (reading (sheetText (carried j))) .job)
   written-same =
       let e = ap (λ (r : Reading). answer r .job) written-read in
       let s = same-recorded j c a in

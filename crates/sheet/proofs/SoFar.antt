@@ -26,7 +26,8 @@ use Rattle.sheet.proofs.Longest.{count-most}
 use Rattle.sheet.proofs.OneMore.{stored, countIn, stored-records, sectionAt, one-more, Unread, none-later}
 use Rattle.sheet.proofs.Steps.{walk-stop, walk-go}
 
--- s is read up to line `line`, which begins at `next`: j records all that was carried, and what comes of the rest is what comes of s;
+-- s is read up to line `line`, which begins at `next`: j records all that was carried, and what comes of the rest is
+-- what comes of s;
 -- `left` entries of a section are still called for, and then the sections after the first `begun`
 pub record ReadSoFar (s : List ℕ) (sec : Section) (left begun : ℕ) (j : Job) (line next : ℕ) : Type 0 where
   pub carries : Carried
@@ -54,8 +55,10 @@ read-start s e =
 
 -- x is the line at `next`, and f its fault as a line of kind k
 module _
-    (s : List ℕ) (k : Kind) (ks : List Kind) {j : Job} (c : Carried) (e : j ≡ recorded c) (line next : ℕ) {x : Line} (hx : x ≡ lineAt s next)
-    {f : ℕ} (hf : f ≡ lineFault k (j .building) (held x)) (rest : walk (k ∷ ks) c line (rows (drop next s)) ≡ reading s) where
+    (s : List ℕ) (k : Kind) (ks : List Kind) {j : Job} (c : Carried) (e : j ≡ recorded c) (line next : ℕ) {x : Line}
+    (hx : x ≡ lineAt s next)
+    {f : ℕ} (hf : f ≡ lineFault k (j .building) (held x))
+    (rest : walk (k ∷ ks) c line (rows (drop next s)) ≡ reading s) where
   fault-is : f ≡ lineFault k (c .building) (held x)
   unfolding recorded
   fault-is = hf ∙ ap (λ (i : Job). lineFault k (i .building) (held x)) e
@@ -63,13 +66,15 @@ module _
   line-stops : (f ≡ 0 → ⊥) → reading s ≡ Refused f line
   line-stops h = sym rest ∙ walk-stop k ks c line s next x hx f fault-is h
 
-  line-goes : f ≡ 0 → walk (calls k (held x) ++ ks) (learn k (held x) c) (line + 1) (rows (drop (x .next) s)) ≡ reading s
+  line-goes : f ≡ 0
+      → walk (calls k (held x) ++ ks) (learn k (held x) c) (line + 1) (rows (drop (x .next) s)) ≡ reading s
   line-goes z = sym (walk-go k ks c line s next x hx f fault-is z) ∙ rest
 
 -- ---- the count of the next section
 
 module _ {s : List ℕ} {sec : Section} {i : ℕ} {j : Job} {line next : ℕ} (r : ReadSoFar s sec 0 i j line next) (few : i < 4)
-    {x : Line} (hx : x ≡ lineAt s next) {f : ℕ} (hf : f ≡ lineFault (Count (sectionAt i)) (j .building) (held x)) where
+    {x : Line} (hx : x ≡ lineAt s next) {f : ℕ}
+    (hf : f ≡ lineFault (Count (sectionAt i)) (j .building) (held x)) where
   abbrev later : List Section
   later = drop (suc i) sections
 
@@ -80,17 +85,22 @@ module _ {s : List ℕ} {sec : Section} {i : ℕ} {j : Job} {line next : ℕ} (r
   count-called = rw next-section at (r .rest)
 
   pub count-stops : (f ≡ 0 → ⊥) → reading s ≡ Refused f line
-  count-stops = line-stops s (Count (sectionAt i)) (map Count later) (r .carries) (r .records) line next hx hf count-called
+  count-stops =
+      line-stops s (Count (sectionAt i)) (map Count later) (r .carries) (r .records) line next hx hf count-called
 
-  pub count-read : f ≡ 0 → {left : ℕ} → left ≡ size (at (held x) 1) → ReadSoFar s (sectionAt i) left (suc i) j (line + 1) (x .next)
+  pub count-read : f ≡ 0 → {left : ℕ} → left ≡ size (at (held x) 1)
+      → ReadSoFar s (sectionAt i) left (suc i) j (line + 1) (x .next)
   count-read z {left} hl =
       let u : Unread j (sectionAt i ∷ later) = rw next-section at (r .unread) in
       let l : line + 0 + 25 * suc (length later) ≤ 101 = rw next-section at (r .lines) in
-      let m : left ≤ about (sectionAt i) .most = rw hl (count-most (sectionAt i) (j .building) (held x) (sym hf ∙ z)) in
+      let m : left ≤ about (sectionAt i) .most =
+      rw hl (count-most (sectionAt i) (j .building) (held x) (sym hf ∙ z)) in
       record {
         carries = r .carries;
         records = r .records;
-        rest = rw hl (line-goes s (Count (sectionAt i)) (map Count later) (r .carries) (r .records) line next hx hf count-called z);
+        rest =
+            rw hl
+            (line-goes s (Count (sectionAt i)) (map Count later) (r .carries) (r .records) line next hx hf count-called z);
         room = omega (arith, u .0);
         unread = u .1;
         lines = omega (arith, most-24 (sectionAt i));
@@ -104,14 +114,16 @@ entries-next t (suc n) h =
     let q : suc n - 1 ≡ n = omega arith in
     rw q
 
-module _ {s : List ℕ} {left i : ℕ} {j : Job} {line next : ℕ} (r : ReadSoFar s (sectionAt i) left (suc i) j line next) (more : left ≡ 0 → ⊥) where
+module _ {s : List ℕ} {left i : ℕ} {j : Job} {line next : ℕ} (r : ReadSoFar s (sectionAt i) left (suc i) j line next)
+    (more : left ≡ 0 → ⊥) where
   abbrev behind : List Kind
   behind = entries (sectionAt i) (left - 1) ++ map Count (drop (suc i) sections)
 
   entry-called : walk (Entry (sectionAt i) ∷ behind) (r .carries) line (rows (drop next s)) ≡ reading s
   entry-called = rw (entries-next (sectionAt i) left more) at (r .rest)
 
-  pub entry-stops : {x : Line} → x ≡ lineAt s next → {f : ℕ} → f ≡ lineFault (Entry (sectionAt i)) (j .building) (held x) → (f ≡ 0 → ⊥)
+  pub entry-stops : {x : Line} → x ≡ lineAt s next → {f : ℕ}
+      → f ≡ lineFault (Entry (sectionAt i)) (j .building) (held x) → (f ≡ 0 → ⊥)
       → reading s ≡ Refused f line
   entry-stops hx hf = line-stops s (Entry (sectionAt i)) behind (r .carries) (r .records) line next hx hf entry-called
 
@@ -128,19 +140,25 @@ module _ {s : List ℕ} {left i : ℕ} {j : Job} {line next : ℕ} {x : Line} (o
 
   -- the record has room for it
   pub entry-room : {t : Section} → sectionAt i ≡ t → countIn j t < about t .most
-  entry-room told = subst (λ (v : Section). countIn j v < about v .most) told (omega (arith, o .so-far .room, o .more))
+  entry-room told =
+      subst (λ (v : Section). countIn j v < about v .most) told (omega (arith, o .so-far .room, o .more))
 
   -- the next line, with the entry stored in the record
-  pub entry-read : {t : Section} → sectionAt i ≡ t → ReadSoFar s (sectionAt i) (left - 1) (suc i) (stored t (held x) j) (line + 1) (x .next)
+  pub entry-read : {t : Section} → sectionAt i ≡ t
+      → ReadSoFar s (sectionAt i) (left - 1) (suc i) (stored t (held x) j) (line + 1) (x .next)
   entry-read {t} told =
       let r = o .so-far in
-      let e : stored t (held x) j ≡ recorded (learn (Entry (sectionAt i)) (held x) here) = rw told (stored-records (held x) here (r .records) t (entry-room told)) in
-      let p : countIn (recorded here) (sectionAt i) + left ≤ about (sectionAt i) .most = rw (r .records) at (r .room) in
+      let e : stored t (held x) j ≡ recorded (learn (Entry (sectionAt i)) (held x) here) =
+      rw told (stored-records (held x) here (r .records) t (entry-room told)) in
+      let p : countIn (recorded here) (sectionAt i) + left ≤ about (sectionAt i) .most =
+      rw (r .records) at (r .room) in
       let u : Unread (recorded here) (drop (suc i) sections) = rw (r .records) at (r .unread) in
       record {
         carries = learn (Entry (sectionAt i)) (held x) here;
         records = e;
-        rest = line-goes s (Entry (sectionAt i)) (behind r (o .more)) here (r .records) line next (o .is) (o .in-order) (entry-called r (o .more)) refl;
+        rest =
+            line-goes s (Entry (sectionAt i)) (behind r (o .more)) here (r .records) line next (o .is) (o .in-order)
+            (entry-called r (o .more)) refl;
         room = rw e (omega (arith, o .more, one-more (sectionAt i) here (held x)));
         unread = rw e (none-later i here (held x) u);
         lines = omega (arith, o .more, r .lines);
@@ -148,11 +166,13 @@ module _ {s : List ℕ} {left i : ℕ} {j : Job} {line next : ℕ} {x : Line} (o
 
 -- ---- the end of a section, and of the sheet
 
-pub section-end : {s : List ℕ} {sec : Section} {left i : ℕ} {j : Job} {line next : ℕ} → ReadSoFar s sec left (suc i) j line next → left ≡ 0
+pub section-end : {s : List ℕ} {sec : Section} {left i : ℕ} {j : Job} {line next : ℕ}
+    → ReadSoFar s sec left (suc i) j line next → left ≡ 0
     → ReadSoFar s sec 0 (i + 1) j line next
 section-end r z = rw add-one (rw z at r)
 
-module _ {s : List ℕ} {sec : Section} {i : ℕ} {j : Job} {line next : ℕ} (r : ReadSoFar s sec 0 i j line next) (all : i ≡ 4) where
+module _ {s : List ℕ} {sec : Section} {i : ℕ} {j : Job} {line next : ℕ} (r : ReadSoFar s sec 0 i j line next)
+    (all : i ≡ 4) where
   nothing-called : walk [] (r .carries) line (rows (drop next s)) ≡ reading s
   nothing-called = rw all at (r .rest)
 

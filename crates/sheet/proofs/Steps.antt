@@ -24,7 +24,8 @@ module _
   f-one : held x ≡ [] → f ≡ 1
   f-one e = hf ∙ ap (lineFault k (c .building)) e ∙ none-held k (c .building)
 
-  refused-at : (y : List Field) (ys : List (List Field)) → f ≡ lineFault k (c .building) y → (f ≡ 0 → ⊥) → walk (k ∷ ks) c n (y ∷ ys) ≡ Refused f n
+  refused-at : (y : List Field) (ys : List (List Field)) → f ≡ lineFault k (c .building) y → (f ≡ 0 → ⊥)
+      → walk (k ∷ ks) c n (y ∷ ys) ≡ Refused f n
   refused-at y ys e h = walk-refused k ks c n y ys (λ z. h (e ∙ z)) ∙ ap (λ (g : ℕ). Refused g n) (sym e)
 
   missing : f ≡ 1 → walk (k ∷ ks) c n [] ≡ Refused f n
@@ -40,10 +41,14 @@ module _
       go (unended eh e) = rw e (refused-at (Bad ∷ []) [] (f-one eh ∙ sym (bad-first k (c .building))) h)
       go (long fs rest eh e m) = rw e (refused-at fs rest (f-one eh ∙ sym (many-held k (c .building) fs m)) h)
 
-  pub walk-go : f ≡ 0 → walk (k ∷ ks) c n (rows (drop p s)) ≡ walk (calls k (held x) ++ ks) (learn k (held x) c) (n + 1) (rows (drop (x .next) s))
+  pub walk-go : f ≡ 0
+      → walk (k ∷ ks) c n (rows (drop p s)) ≡ walk (calls k (held x) ++ ks) (learn k (held x) c) (n + 1)
+      (rows (drop (x .next) s))
   walk-go h = go (at-is s p x hx)
     where
-      go : At s p x → walk (k ∷ ks) c n (rows (drop p s)) ≡ walk (calls k (held x) ++ ks) (learn k (held x) c) (n + 1) (rows (drop (x .next) s))
+      go : At s p x
+          → walk (k ∷ ks) c n (rows (drop p s)) ≡ walk (calls k (held x) ++ ks) (learn k (held x) c) (n + 1)
+          (rows (drop (x .next) s))
       go (taken e) = rw e (walk-on k ks c n (held x) (rows (drop (x .next) s)) (sym hf ∙ h))
       go (gone eh e) = absurd (omega (arith, f-one eh))
       go (unended eh e) = absurd (omega (arith, f-one eh))

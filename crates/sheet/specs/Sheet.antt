@@ -1,4 +1,5 @@
--- What the text of a sheet says, and the text of a job: from bytes to lines of fields, from there to what the sheet carries, and the same way back.
+-- What the text of a sheet says, and the text of a job: from bytes to lines of fields, from there to what the sheet
+-- carries, and the same way back.
 use Prim.Native.Nat.{ℕ}
 use mathlib.Core.List.{List}
 use Rattle.page.specs.declared.Writing.{Writing}

@@ -1,4 +1,5 @@
-// A sheet read: its sections in order, each its count and as many entries, up to the first fault; and nothing after them.
+// A sheet read: its sections in order, each its count and as many entries, up to the first fault; and nothing after
+// them.
 use crate::empty::no_job;
 use building::Building;
 use entry::says::building_of;
@@ -19,7 +20,8 @@ ghost use mathlib.Core.Path.{_≡_};
 ghost use Rattle.job.specs.Walk.{Refused};
 ghost use Rattle.sheet.specs.Sheet.{reading, answer};
 
-// What comes of reading: the number of the fault and the line that has it, both 0 where the sheet is accepted; and the job, all zero where it is refused.
+// What comes of reading: the number of the fault and the line that has it, both 0 where the sheet is accepted; and
+// the job, all zero where it is refused.
 pub struct Read {
     pub number: u32,
     pub line: u32,

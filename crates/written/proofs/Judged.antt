@@ -1,4 +1,5 @@
--- Laws of a job that is written: refused as it is judged, and else its text is what it carries and fits a page of 827 bytes.
+-- Laws of a job that is written: refused as it is judged, and else its text is what it carries and fits a page of 827
+-- bytes.
 use Prim.Native.Nat.{ℕ}
 use mathlib.Core.Path.{_≡_, refl}
 use mathlib.Core.List.{List}
@@ -22,7 +23,8 @@ use Rattle.sheet.proofs.RoundTrip.{written-read}
 
 module _ (j : Job) (v : Verdict) (e : v ≡ verdict (judged j)) where
   pub job-refused : (v .number ≡ 0 → ⊥) → (buf : List ℕ)
-      → (written.Refused (v .number) (v .line) ≡ jobWriting sheetText (judged j) buf) × (buf ≡ jobBuffer sheetText (judged j) buf)
+      → (written.Refused (v .number) (v .line) ≡ jobWriting sheetText (judged j) buf)
+      × (buf ≡ jobBuffer sheetText (judged j) buf)
   job-refused h buf =
       rw (judged-refused j v e h) (refl, refl)
 
@@ -34,11 +36,17 @@ module _ (j : Job) (v : Verdict) (e : v ≡ verdict (judged j)) where
     unfolding judged
     job-roomed =
         let o = accepted-in-order (linesOf (carried j)) (carried j) judged-is in
-        record { winds = o .winds-counted .high; internals = o .internals-counted .high; faces = o .faces-counted .high }
+        record {
+          winds = o .winds-counted .high;
+          internals = o .internals-counted .high;
+          faces = o .faces-counted .high;
+        }
 
     -- the text on a page that has room for the longest, put into a buffer
     module _ {l page : List ℕ} {n : ℕ} (w : Put l 0 (sheetText (carried j)) page n) (room : length l ≡ 827) where
-      pub job-written : {o : Writing} {after : List ℕ} (buf : List ℕ) → (o ≡ writing (take n page) buf) × (after ≡ bufferAfter (take n page) buf)
+      pub job-written : {o : Writing} {after : List ℕ} (buf : List ℕ)
+          → (o ≡ writing (take n page) buf) × (after ≡ bufferAfter (take n page) buf)
           → (o ≡ jobWriting sheetText (judged j) buf) × (after ≡ jobBuffer sheetText (judged j) buf)
       job-written buf e =
-          rw judged-is (emitted w (omega (arith, longest-sheet (sheetText (carried j)) (carried j) (written-read j (carried j) judged-is))) buf e)
+          rw judged-is
+          (emitted w (omega (arith, longest-sheet (sheetText (carried j)) (carried j) (written-read j (carried j) judged-is))) buf e)

@@ -24,7 +24,8 @@ ghost use Rattle.written.specs.Roomed.{Roomed};
 // A section of n entries: its count, and the entries.
 fn put_section(buf: &mut [u8], at: usize, j: Job, sec: Section, n: u32) -> usize
     requires { ⌜ (n ≡ length (entriesOf (carried j) sec)) × (n ≤ about sec .most) ⌝ }
-    ensures { λ r. ⌜ Put (now (buf .entry)) at (textOf (sectionOf sec (entriesOf (carried j) sec))) (now (buf .exit)) r ⌝ }
+    ensures { λ r. ⌜ Put (now (buf .entry)) at (textOf (sectionOf sec (entriesOf (carried j) sec)))
+        (now (buf .exit)) r ⌝ }
 {
     let g = j.building;
     let winds = j.winds;
@@ -67,7 +68,8 @@ fn put_sheet(buf: &mut [u8], j: Job) -> usize
 
 // The text of j at the start of `buf`; no accepted job has one of more than 827 bytes.
 pub fn write_sheet(j: Job, buf: &mut [u8]) -> Writing
-    ensures { λ r. ⌜ (r ≡ jobWriting sheetText (judged j) (now (buf .entry))) × (now (buf .exit) ≡ jobBuffer sheetText (judged j) (now (buf .entry))) ⌝ }
+    ensures { λ r. ⌜ (r ≡ jobWriting sheetText (judged j) (now (buf .entry)))
+        × (now (buf .exit) ≡ jobBuffer sheetText (judged j) (now (buf .entry))) ⌝ }
 {
     let v = judge(j);
     if v.number != 0 {

@@ -15,14 +15,17 @@ use Rattle.book.proofs.outside.Tie as tie
 asked : (c : tie.After-asked) → let a = c .before .args in c .asked .result ≡ askedOf (a .g) (a .direction) (a .place)
 asked c =
     let s = c .before in
-    said (λ (d : ℤ). askedOf (s .args .g) d (s .args .place)) (s .args .direction) (c .asked .ensures) (s .fits .direction .sfits)
+    said (λ (d : ℤ). askedOf (s .args .g) d (s .args .place)) (s .args .direction) (c .asked .ensures)
+    (s .fits .direction .sfits)
 
 coefficient-requires : tie.Need-coefficient-requires
 coefficient-requires c κs =
     let q = c .before .before in
     let d = q .before .before in
     let a = d .before .args in
-    let f = subst (Told (a .g) (a .direction) (a .place)) (sym (asked d) ∙ q .q .given .1) (told (a .g) (a .direction) (a .place)) in
+    let f =
+    subst (Told (a .g) (a .direction) (a .place)) (sym (asked d) ∙ q .q .given .1)
+    (told (a .g) (a .direction) (a .place)) in
     (f .order, f .roofed)
 
 returns : tie.Need-returns
@@ -33,7 +36,8 @@ returns c =
     let s = d .before in
     let a = s .args in
     c .coefficient .ensures
-    ∙ ap (λ (n : ℕ). coefficientOf (q .q .given .0 .0) n (a .place)) (said natAbs (a .direction) (c .before .magnitude .ensures) (s .fits .direction .sfits))
+    ∙ ap (λ (n : ℕ). coefficientOf (q .q .given .0 .0) n (a .place))
+    (said natAbs (a .direction) (c .before .magnitude .ensures) (s .fits .direction .sfits))
     ∙ ap (λ (q : Question). answer q (natAbs (a .direction)) (a .place)) (sym (q .q .given .1) ∙ asked d)
 
 returns-2 : tie.Need-returns-2
@@ -47,11 +51,5 @@ returns-2 c =
 pub outside-spec : {M : Type 1} → statement M
 outside-spec =
     tie.close
-    (tie.spec
-    (λ c κs. search needs)
-    (λ c. search needs)
-    (λ c κs. search needs)
-    coefficient-requires
-    (λ c. search needs)
-    returns
-    returns-2)
+    (tie.spec (λ c κs. search needs) (λ c. search needs) (λ c κs. search needs) coefficient-requires
+    (λ c. search needs) returns returns-2)

@@ -26,7 +26,8 @@ use Rattle.written.proofs.put_section.Tie as tie
 
 abbrev Inv-loop : tie.InvT-loop
 Inv-loop buf₀ at sec n g winds internals faces next₀ i₀ buf next i =
-    (i ≤ n) × Put buf₀ next₀ (textOf (take i (entriesOf (carried (record { building = g; winds = winds; internals = internals; faces = faces })) sec))) buf next
+    (i ≤ n) × Put buf₀ next₀
+    (textOf (take i (entriesOf (carried (record { building = g; winds = winds; internals = internals; faces = faces })) sec))) buf next
 
 abbrev μ-loop : tie.MeasureT-loop
 μ-loop buf₀ at sec n g winds internals faces next₀ i₀ buf next i = n - i
@@ -85,7 +86,8 @@ module _ (c : tie.At-match-came Inv-loop μ-loop) where
       (λ w. w .4 ∙ w .3 .ensures ∙ told (w .1 .given .1))))
       (c .match .came)
     where
-      told : {t : Section} → section ≡ t → lineOf 0 (entryOf job t (i (c .before))) ≡ lineOf 0 (entryOf job section (i (c .before)))
+      told : {t : Section} → section ≡ t
+          → lineOf 0 (entryOf job t (i (c .before))) ≡ lineOf 0 (entryOf job section (i (c .before)))
       told e = ap (λ (t : Section). lineOf 0 (entryOf job t (i (c .before)))) (sym e)
 
 add-i : tie.Need-add-i Inv-loop μ-loop
@@ -96,8 +98,12 @@ loop-again c =
     let p = c .before .before in
     let m = p .before .before in
     let t = m .before in
-    let h : i t < length (entriesOf (carried (job m)) (section m)) = omega (arith, t .loop-test .taken, start t .pre .0) in
-    (omega arith, put-entry (entriesOf (carried (job m)) (section m)) (i t) (m .match .x) h (entry-held (job m) (section m) (i t) (m .match .x) h (made m)) (t .before .loop .inv .1) (p .put-line2 .ensures))
+    let h : i t < length (entriesOf (carried (job m)) (section m)) =
+    omega (arith, t .loop-test .taken, start t .pre .0) in (
+      omega arith,
+      put-entry (entriesOf (carried (job m)) (section m)) (i t) (m .match .x) h
+          (entry-held (job m) (section m) (i t) (m .match .x) h (made m)) (t .before .loop .inv .1) (p .put-line2 .ensures),
+    )
 
 same-length : tie.Need-same-length Inv-loop μ-loop
 same-length c =
@@ -110,36 +116,15 @@ returns c =
     let n = p .before in
     let s = n .before .before .before .before .before .before .before in
     let es = entriesOf (carried (s .args .j)) (s .args .sec) in
-    put-all (s .args .sec) es (c .before .loop .i) (n .count-line .result) (omega (arith, c .loop-test .left, s .pre .0))
-    (n .count-line .ensures ∙ ap (λ (k : ℕ). lineOf 0 (countLine (s .args .sec) k)) (s .pre .0)) (p .put-line .ensures) (c .before .loop .inv .1)
+    put-all (s .args .sec) es (c .before .loop .i) (n .count-line .result)
+    (omega (arith, c .loop-test .left, s .pre .0))
+    (n .count-line .ensures ∙ ap (λ (k : ℕ). lineOf 0 (countLine (s .args .sec) k)) (s .pre .0))
+    (p .put-line .ensures) (c .before .loop .inv .1)
 
 pub put-section-spec : {M : Type 1} → statement M
 put-section-spec =
     tie.close
-    (tie.spec
-    Inv-loop
-    μ-loop
-    (λ c κs. search needs)
-    (λ c κs. search needs)
-    loop-holds
-    cast-k
-    (λ c. search needs)
-    (λ c κs. search needs)
-    (λ c. search needs)
-    mul-w
-    element-copy-out-w
-    (λ c κs. search needs)
-    (λ c. search needs)
-    mul-z
-    element-copy-out-z
-    (λ c κs. search needs)
-    (λ c. search needs)
-    mul-f
-    element-copy-out-f
-    (λ c κs. search needs)
-    (λ c κs. search needs)
-    add-i
-    (λ c. search needs)
-    loop-again
-    same-length
-    returns)
+    (tie.spec Inv-loop μ-loop (λ c κs. search needs) (λ c κs. search needs) loop-holds cast-k (λ c. search needs)
+    (λ c κs. search needs) (λ c. search needs) mul-w element-copy-out-w (λ c κs. search needs) (λ c. search needs)
+    mul-z element-copy-out-z (λ c κs. search needs) (λ c. search needs) mul-f element-copy-out-f
+    (λ c κs. search needs) (λ c κs. search needs) add-i (λ c. search needs) loop-again same-length returns)

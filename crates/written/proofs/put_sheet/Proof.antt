@@ -28,7 +28,8 @@ put-section-requires-3 c κs =
 
 put-section-requires-4 : tie.Need-put-section-requires-4
 put-section-requires-4 c κs =
-    let s = c .before .before .before .before .before .before .before .before .before .before .before .before .before .before in
+    let s =
+    c .before .before .before .before .before .before .before .before .before .before .before .before .before .before in
     let q = faces-counted (s .args .j) in
     (sym q, omega (arith, s .pre .faces, length-map (carried (s .args .j) .faces) faceFields))
 
@@ -45,15 +46,11 @@ returns c =
     let ws = sectionOf W (entriesOf d W) in
     rw append-nil
     (then-lines (sectionOf B (entriesOf d B)) (ws ++ (is ++ fs)) (b .put-section .ensures)
-    (then-lines ws (is ++ fs) (w .put-section2 .ensures) (then-lines is fs (i .put-section3 .ensures) (f .put-section4 .ensures))))
+    (then-lines ws (is ++ fs) (w .put-section2 .ensures)
+    (then-lines is fs (i .put-section3 .ensures) (f .put-section4 .ensures))))
 
 pub put-sheet-spec : {M : Type 1} → statement M
 put-sheet-spec =
     tie.close
-    (tie.spec
-    (λ c κs. search needs)
-    put-section-requires-2
-    put-section-requires-3
-    put-section-requires-4
-    (λ c. search needs)
-    returns)
+    (tie.spec (λ c κs. search needs) put-section-requires-2 put-section-requires-3 put-section-requires-4
+    (λ c. search needs) returns)

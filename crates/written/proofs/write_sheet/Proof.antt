@@ -25,17 +25,11 @@ returns-2 c =
     let e = p .before .before in
     let v = e .before .before in
     let s = v .before .before in
-    job-written (s .args .j) (v .judge .result) (v .judge .ensures) (e .if1 .left) (p .put-sheet .ensures) refl (s .args .buf .now) (m .emit .ensures)
+    job-written (s .args .j) (v .judge .result) (v .judge .ensures) (e .if1 .left) (p .put-sheet .ensures) refl
+    (s .args .buf .now) (m .emit .ensures)
 
 pub write-sheet-spec : {M : Type 1} → statement M
 write-sheet-spec =
     tie.close
-    (tie.spec
-    (λ c κs. search needs)
-    returns
-    (λ c. search needs)
-    put-sheet-requires
-    (λ c. search needs)
-    (λ c κs. search needs)
-    (λ c. search needs)
-    returns-2)
+    (tie.spec (λ c κs. search needs) returns (λ c. search needs) put-sheet-requires (λ c. search needs)
+    (λ c κs. search needs) (λ c. search needs) returns-2)

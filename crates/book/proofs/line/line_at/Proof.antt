@@ -1,4 +1,5 @@
--- `line::line_at`: the sum of the two parts fits, and what is rounded lies between the rows and so fits the narrower type.
+-- `line::line_at`: the sum of the two parts fits, and what is rounded lies between the rows and so fits the narrower
+-- type.
 use mathlib.Core.Path.{_≡_, sym, ap, _∙_, subst}
 use Prim.Native.Nat.{_-_, _≤_}
 use native.Mathlib.Omega.{arith}
@@ -52,16 +53,21 @@ mul-n-3 c = fit (tenfold c) tt
 round-away-requires : tie.Need-round-away-requires
 round-away-requires c κs = (omega (arith, bound (back w64 (tenfold c) tt)), omega arith, omega arith)
 
-value : (c : tie.After-round-away) → c .round-away .result ≡ lineAt (c .before .args .v) (c .before .args .w) (c .before .args .part) (c .before .args .whole)
+value : (c : tie.After-round-away)
+    → c .round-away .result ≡ lineAt (c .before .args .v) (c .before .args .w) (c .before .args .part)
+    (c .before .args .whole)
 unfolding lineAt
-value c = c .round-away .ensures ∙ ap (λ (z : ℤ). roundAway z (c .before .args .whole)) (back w64 (tenfold (c .before)) tt .same)
+value c =
+    c .round-away .ensures
+    ∙ ap (λ (z : ℤ). roundAway z (c .before .args .whole)) (back w64 (tenfold (c .before)) tt .same)
 
 abbrev answer : tie.After-round-away → Num
 answer c =
     let a = c .before .args in
     let p = c .before .pre in
     param≤ {w = w64} {z = c .round-away .result} {k = 2500} (record { sfits = c .round-away .ok })
-    (subst (λ (z : ℤ). natAbs z ≤ 2500) (sym (value c)) (line-small (a .v) (a .w) (a .part) (a .whole) (p .2) (p .3) 250 (p .0) (p .1)))
+    (subst (λ (z : ℤ). natAbs z ≤ 2500) (sym (value c))
+    (line-small (a .v) (a .w) (a .part) (a .whole) (p .2) (p .3) 250 (p .0) (p .1)))
 
 cast-result : tie.Need-cast-result
 cast-result c = fit (answer c) tt
@@ -72,16 +78,5 @@ returns c = back w32 (answer c) tt .same ∙ value c
 pub line-at-spec : {M : Type 1} → statement M
 line-at-spec =
     tie.close
-    (tie.spec
-    cast-n
-    (λ c. search needs)
-    (λ c. search needs)
-    mul-n
-    cast-n-3
-    (λ c. search needs)
-    mul-n-2
-    add-n
-    mul-n-3
-    round-away-requires
-    cast-result
-    returns)
+    (tie.spec cast-n (λ c. search needs) (λ c. search needs) mul-n cast-n-3 (λ c. search needs) mul-n-2 add-n mul-n-3
+    round-away-requires cast-result returns)

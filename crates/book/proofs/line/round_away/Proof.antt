@@ -14,7 +14,8 @@ use Rattle.book.proofs.line.round_away.Tie as tie
 size : (c : tie.After-magnitude) → c .magnitude .result ≡ natAbs (c .before .args .z)
 size c = said natAbs (c .before .args .z) (c .magnitude .ensures) (c .before .fits .z .sfits)
 
-rounded : (c : tie.After-half-up) → c .half-up .result ≡ halfUp (natAbs (c .before .before .args .z)) (c .before .before .args .d)
+rounded : (c : tie.After-half-up)
+    → c .half-up .result ≡ halfUp (natAbs (c .before .before .args .z)) (c .before .before .args .d)
 unfolding halfUp
 rounded c = c .half-up .ensures ∙ ap (λ (n : ℕ). halfUp n (c .before .before .args .d)) (size (c .before))
 

@@ -33,27 +33,37 @@ wall-column-requires c κs = wall c
 
 wall-value-requires : tie.Need-wall-value-requires
 wall-value-requires c κs =
-    let s = c .before .before .before in
-    (s .pre .0, subst (λ (n : ℕ). n < 9) (sym (c .wall-column .ensures)) (wallColumn-below (s .args .wind) (s .args .place) (wall (c .before))))
+    let s = c .before .before .before in (
+      s .pre .0,
+      subst (λ (n : ℕ). n < 9) (sym (c .wall-column .ensures))
+          (wallColumn-below (s .args .wind) (s .args .place) (wall (c .before))),
+    )
 
 returns : tie.Need-returns
 returns c =
     let a = c .before .before .before .before .args in
     let s = a .s in
-    ap One (returned w32 (c .wall-value .result) (c .wall-value .ok) .same ∙ c .wall-value .ensures ∙ ap (λ (n : ℕ). wallValue (s .h) (s .a) (s .b) n) (c .before .wall-column .ensures))
+    ap One
+    (returned w32 (c .wall-value .result) (c .wall-value .ok) .same ∙ c .wall-value .ensures ∙ ap (λ (n : ℕ). wallValue (s .h) (s .a) (s .b) n) (c .before .wall-column .ensures))
     ∙ sym (on-wall s (a .wind) (a .place) (wall (c .before .before)))
 
 roof-value-requires : tie.Need-roof-value-requires
 roof-value-requires c κs =
     let e = c .before .before .before in
-    let s = e .before .before in
-    (s .pre .0, (roofed e, subst (λ (n : ℕ). n < 4) (sym (c .gable-column .ensures)) (gableColumn-below (s .args .wind) (s .args .place))))
+    let s = e .before .before in (
+      s .pre .0,
+      (
+        roofed e,
+        subst (λ (n : ℕ). n < 4) (sym (c .gable-column .ensures)) (gableColumn-below (s .args .wind) (s .args .place)),
+      ),
+    )
 
 returns-2 : tie.Need-returns-2
 returns-2 c =
     let e = c .before .before .before .before in
     let a = e .before .before .args in
-    ap One (returned w32 (c .roof-value .result) (c .roof-value .ok) .same ∙ c .roof-value .ensures ∙ ap (roofValue (a .s)) (c .before .gable-column .ensures))
+    ap One
+    (returned w32 (c .roof-value .result) (c .roof-value .ok) .same ∙ c .roof-value .ensures ∙ ap (roofValue (a .s)) (c .before .gable-column .ensures))
     ∙ sym (on-gable (a .s) (a .wind) (a .place) (off-wall e) (c .before .before .if2 .taken))
 
 roof-value-requires-2 : tie.Need-roof-value-requires-2
@@ -63,7 +73,9 @@ both-signs-requires : tie.Need-both-signs-requires
 both-signs-requires c κs =
     let e = c .before .before .before .before in
     let s = e .before .before in
-    subst (λ (z : ℤ). natAbs z ≤ 2500) (sym (returned w32 (c .roof-value2 .result) (c .roof-value2 .ok) .same ∙ c .roof-value2 .ensures)) (roofValue-small (s .args .s) (s .pre .0) (roofed e) 1)
+    subst (λ (z : ℤ). natAbs z ≤ 2500)
+    (sym (returned w32 (c .roof-value2 .result) (c .roof-value2 .ok) .same ∙ c .roof-value2 .ensures))
+    (roofValue-small (s .args .s) (s .pre .0) (roofed e) 1)
 
 returns-3 : tie.Need-returns-3
 returns-3 c =
@@ -71,37 +83,30 @@ returns-3 c =
     let e = t .before .before .before in
     let a = e .before .before .args in
     c .both-signs .ensures
-    ∙ ap bothSigns (returned w32 (c .before .roof-value2 .result) (c .before .roof-value2 .ok) .same ∙ c .before .roof-value2 .ensures)
+    ∙ ap bothSigns
+    (returned w32 (c .before .roof-value2 .result) (c .before .roof-value2 .ok) .same ∙ c .before .roof-value2 .ensures)
     ∙ sym (on-f (a .s) (a .wind) (a .place) (off-wall e) (t .before .if2 .left) (t .if3 .taken))
 
 roof-value-requires-3 : tie.Need-roof-value-requires-3
 roof-value-requires-3 c κs =
     let e = c .before .before .before .before in
-    let s = e .before .before in
-    (s .pre .0, (roofed e, subst (λ (n : ℕ). n < 4) (sym (c .flat-column .ensures)) (flatColumn-below (s .args .place))))
+    let s = e .before .before in (
+      s .pre .0,
+      (roofed e, subst (λ (n : ℕ). n < 4) (sym (c .flat-column .ensures)) (flatColumn-below (s .args .place))),
+    )
 
 returns-4 : tie.Need-returns-4
 returns-4 c =
     let t = c .before .before in
     let e = t .before .before .before in
     let a = e .before .before .args in
-    ap One (returned w32 (c .roof-value3 .result) (c .roof-value3 .ok) .same ∙ c .roof-value3 .ensures ∙ ap (roofValue (a .s)) (c .before .flat-column .ensures))
+    ap One
+    (returned w32 (c .roof-value3 .result) (c .roof-value3 .ok) .same ∙ c .roof-value3 .ensures ∙ ap (roofValue (a .s)) (c .before .flat-column .ensures))
     ∙ sym (on-flat (a .s) (a .wind) (a .place) (off-wall e) (t .before .if2 .left) (t .if3 .left))
 
 pub coefficient-spec : {M : Type 1} → statement M
 coefficient-spec =
     tie.close
-    (tie.spec
-    (λ c κs. search needs)
-    wall-column-requires
-    wall-value-requires
-    returns
-    (λ c κs. search needs)
-    roof-value-requires
-    returns-2
-    roof-value-requires-2
-    both-signs-requires
-    returns-3
-    (λ c κs. search needs)
-    roof-value-requires-3
-    returns-4)
+    (tie.spec (λ c κs. search needs) wall-column-requires wall-value-requires returns (λ c κs. search needs)
+    roof-value-requires returns-2 roof-value-requires-2 both-signs-requires returns-3 (λ c κs. search needs)
+    roof-value-requires-3 returns-4)

@@ -27,12 +27,5 @@ returns-3 c = search tests
 pub wall-column-spec : {M : Type 1} → statement M
 wall-column-spec =
     tie.close
-    (tie.spec
-    returns
-    sub-result
-    (λ c. search needs)
-    returns-2
-    sub-result-2
-    (λ c. search needs)
-    (λ c. search needs)
+    (tie.spec returns sub-result (λ c. search needs) returns-2 sub-result-2 (λ c. search needs) (λ c. search needs)
     returns-3)

@@ -15,8 +15,4 @@ returns c =
 pub in-block-spec : {M : Type 1} → statement M
 in-block-spec =
     tie.close
-    (tie.spec
-    (λ c. search needs)
-    (λ c. search needs)
-    (λ c κs. search needs)
-    returns)
+    (tie.spec (λ c. search needs) (λ c. search needs) (λ c κs. search needs) returns)

@@ -17,7 +17,8 @@ use Rattle.book.proofs.Roofed.{covered, reached, found-any}
 use Rattle.book.proofs.roofs.roof_value.Statement.{statement}
 use Rattle.book.proofs.roofs.roof_value.Tie as tie
 
-spot-is : (c : tie.After-spot-in) → let s = c .before .before .args .s in c .spot-in .result ≡ spotIn (partOf s) (s .along) (s .across)
+spot-is : (c : tie.After-spot-in)
+    → let s = c .before .before .args .s in c .spot-in .result ≡ spotIn (partOf s) (s .along) (s .across)
 spot-is c =
     let s = c .before .before .args .s in
     c .spot-in .ensures ∙ ap (λ (k : ℕ). spotIn k (s .along) (s .across)) (c .before .part-of .ensures)
@@ -27,7 +28,8 @@ spot-in-requires c κs =
     let a = c .before in
     let s = a .args .s in
     let o = a .pre .0 in
-    subst (λ (k : ℕ). (k < 7) × (0 < s .across) × (s .across ≤ 30000) × (getD (partAts k) 0 0 * s .across ≤ s .along)) (sym (c .part-of .ensures))
+    subst (λ (k : ℕ). (k < 7) × (0 < s .across) × (s .across ≤ 30000) × (getD (partAts k) 0 0 * s .across ≤ s .along))
+    (sym (c .part-of .ensures))
     (covered s o (a .pre .1 .0) .below, o .ranged .across-least, o .ranged .across-most, reached s o (a .pre .1 .0))
 
 good : (c : tie.After-spot-in) → Good 0 33 27000001 (c .spot-in .result)
@@ -42,16 +44,25 @@ cell-requires-2 : tie.Need-cell-requires-2
 cell-requires-2 c κs = let g = good (c .before) in (omega arith, omega arith)
 
 -- the two cells, as the call of `line_at` has them
-from : (c : tie.After-cell) → toZ w16 (ofZ w16 (c .cell .result)) ≡ cellIn roofCells (c .before .spot-in .result .lower) (c .before .before .before .args .col)
+from : (c : tie.After-cell)
+    → toZ w16 (ofZ w16 (c .cell .result)) ≡ cellIn roofCells (c .before .spot-in .result .lower)
+    (c .before .before .before .args .col)
 from c = returned w16 (c .cell .result) (c .cell .ok) .same ∙ c .cell .ensures
 
-to : (c : tie.After-cell2) → toZ w16 (ofZ w16 (c .cell2 .result)) ≡ cellIn roofCells (c .before .before .spot-in .result .upper) (c .before .before .before .before .args .col)
+to : (c : tie.After-cell2)
+    → toZ w16 (ofZ w16 (c .cell2 .result)) ≡ cellIn roofCells (c .before .before .spot-in .result .upper)
+    (c .before .before .before .before .args .col)
 to c = returned w16 (c .cell2 .result) (c .cell2 .ok) .same ∙ c .cell2 .ensures
 
 line-at-requires : tie.Need-line-at-requires
 line-at-requires c κs =
-    let g = good (c .before .before) in
-    (subst (λ (z : ℤ). natAbs z ≤ 250) (sym (from (c .before))) (roof-small _ _), subst (λ (z : ℤ). natAbs z ≤ 250) (sym (to c)) (roof-small _ _), g .within, g .some, omega arith)
+    let g = good (c .before .before) in (
+      subst (λ (z : ℤ). natAbs z ≤ 250) (sym (from (c .before))) (roof-small _ _),
+      subst (λ (z : ℤ). natAbs z ≤ 250) (sym (to c)) (roof-small _ _),
+      g .within,
+      g .some,
+      omega arith,
+    )
 
 returns : tie.Need-returns
 unfolding roofValue
@@ -59,9 +70,11 @@ returns c =
     let d = c .before .before .before in
     returned w32 (c .line-at .result) (c .line-at .ok) .same
     ∙ c .line-at .ensures
-    ∙ ap₂ (λ (v w : ℤ). lineAt v w (d .spot-in .result .part) (d .spot-in .result .whole)) (from (c .before .before)) (to (c .before))
+    ∙ ap₂ (λ (v w : ℤ). lineAt v w (d .spot-in .result .part) (d .spot-in .result .whole)) (from (c .before .before))
+    (to (c .before))
     ∙ ap (λ (r : Spot). valueAt roofCells (d .before .before .args .col) r) (spot-is d)
 
 pub roof-value-spec : {M : Type 1} → statement M
 roof-value-spec =
-    tie.close (tie.spec (λ c κs. search needs) spot-in-requires cell-requires cell-requires-2 line-at-requires returns)
+    tie.close
+    (tie.spec (λ c κs. search needs) spot-in-requires cell-requires cell-requires-2 line-at-requires returns)

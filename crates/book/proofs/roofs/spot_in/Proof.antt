@@ -66,7 +66,8 @@ mul-t c =
     omega (arith, small (l .loop .i + 1) (s .args .d) (s .pre .2) (c .stands2 .ensures))
 
 -- where the walk stops, x/d is not before row i, and not past row i + 1
-from : (c : tie.Then1 Inv-loop μ-loop) → let s = start (c .before .before .before .before) in c .before .before .stands .result * s .args .d ≤ s .args .x
+from : (c : tie.Then1 Inv-loop μ-loop)
+    → let s = start (c .before .before .before .before) in c .before .before .stands .result * s .args .d ≤ s .args .x
 from c =
     let l = c .before .before .before .before in
     omega (arith, scaled (start l .args .d) (c .before .before .stands .ensures), l .loop .inv .1)
@@ -95,8 +96,11 @@ loop-again c =
     let s = start l in
     let a = s .args in
     let e = last l in
-    let past = scaled (a .d) (t .stands2 .ensures) in
-    (omega arith, omega arith, l .loop .inv .2 ∙ walk-passes (a .k) (s .pre .0) (a .x) (a .d) (l .loop .i) (omega arith) (omega arith))
+    let past = scaled (a .d) (t .stands2 .ensures) in (
+      omega arith,
+      omega arith,
+      l .loop .inv .2 ∙ walk-passes (a .k) (s .pre .0) (a .x) (a .d) (l .loop .i) (omega arith) (omega arith),
+    )
 
 returns-2 : tie.Need-returns-2 Inv-loop μ-loop
 returns-2 c =
@@ -109,24 +113,6 @@ returns-2 c =
 pub spot-in-spec : {M : Type 1} → statement M
 spot-in-spec =
     tie.close
-    (tie.spec
-    Inv-loop
-    μ-loop
-    (λ c. search needs)
-    (λ c κs. search needs)
-    (λ c κs. search needs)
-    loop-holds
-    add-loop
-    stands-requires
-    mul-s
-    (λ c. search needs)
-    stands-requires-2
-    mul-t
-    (λ c. search needs)
-    sub-t13
-    sub-t14
-    returns
-    (λ c. search needs)
-    (λ c. search needs)
-    loop-again
-    returns-2)
+    (tie.spec Inv-loop μ-loop (λ c. search needs) (λ c κs. search needs) (λ c κs. search needs) loop-holds add-loop
+    stands-requires mul-s (λ c. search needs) stands-requires-2 mul-t (λ c. search needs) sub-t13 sub-t14 returns
+    (λ c. search needs) (λ c. search needs) loop-again returns-2)

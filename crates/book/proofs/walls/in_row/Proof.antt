@@ -29,10 +29,4 @@ returns-2 c = rw (sym (high (c .before)) ∙ c .if1 .left)
 pub in-row-spec : {M : Type 1} → statement M
 in-row-spec =
     tie.close
-    (tie.spec
-    (λ c. search needs)
-    (λ c. search needs)
-    (λ c κs. search needs)
-    (λ c κs. search needs)
-    returns
-    returns-2)
+    (tie.spec (λ c. search needs) (λ c. search needs) (λ c κs. search needs) (λ c κs. search needs) returns returns-2)

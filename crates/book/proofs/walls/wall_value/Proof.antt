@@ -18,11 +18,15 @@ use Rattle.book.proofs.walls.wall_value.Tie as tie
 wall-cell-requires : tie.Need-wall-cell-requires
 wall-cell-requires c κs =
     let s = c .before .args .s in
-    let o = c .before .pre .0 in
-    (subst (λ (n : ℕ). n < 6) (sym (c .wall-row .ensures)) (wallRow-below (s .h) (s .a) (s .b) (o .h-over-b) (o .a-over-b)), omega arith)
+    let o = c .before .pre .0 in (
+      subst (λ (n : ℕ). n < 6) (sym (c .wall-row .ensures)) (wallRow-below (s .h) (s .a) (s .b) (o .h-over-b) (o .a-over-b)),
+      omega arith,
+    )
 
 -- the cell, as the call of `line_at` has it
-cell : (c : tie.After-wall-cell) → let s = c .before .before .args .s in toZ w16 (ofZ w16 (c .wall-cell .result)) ≡ cellIn wallCells (wallRow (s .h) (s .a) (s .b)) (c .before .before .args .col)
+cell : (c : tie.After-wall-cell)
+    → let s = c .before .before .args .s in toZ w16 (ofZ w16 (c .wall-cell .result)) ≡ cellIn wallCells
+    (wallRow (s .h) (s .a) (s .b)) (c .before .before .args .col)
 cell c =
     returned w16 (c .wall-cell .result) (c .wall-cell .ok) .same
     ∙ c .wall-cell .ensures
@@ -31,7 +35,8 @@ cell c =
 small : (c : tie.After-wall-cell) → natAbs (toZ w16 (ofZ w16 (c .wall-cell .result))) ≤ 250
 small c =
     let s = c .before .before .args .s in
-    subst (λ (z : ℤ). natAbs z ≤ 250) (sym (cell c)) (omega (arith, wall-small (wallRow (s .h) (s .a) (s .b)) (c .before .before .args .col)))
+    subst (λ (z : ℤ). natAbs z ≤ 250) (sym (cell c))
+    (omega (arith, wall-small (wallRow (s .h) (s .a) (s .b)) (c .before .before .args .col)))
 
 line-at-requires : tie.Need-line-at-requires
 line-at-requires c κs = (small c, small c, lit≤ tt, lit< tt, lit< tt)
