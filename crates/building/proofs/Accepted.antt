@@ -5,15 +5,15 @@ use Prim.Native.Nat.{ℕ, suc, _*_, _≤_, _<_}
 use native.Mathlib.Omega.{arith}
 use lib.IntN.{ℤ, pos, negsuc, natAbs}
 use lib.Dec.{ltb}
-use borrow.Author.Tests.{not-false, ltb-true, ltb-false, leb-true}
+use borrow.Author.Tests.{not-false, le-ltb, ltb-true, ltb-false, leb-true}
 use Rattle.whole.proofs.Tests.{or-false}
 use Rattle.building.specs.declared.Building.{Building}
 use Rattle.building.specs.declared.Sizes.{Sizes}
-use Rattle.building.specs.Test.{beyond}
+use Rattle.building.specs.Test.{beyond, tooLong}
 use Rattle.building.specs.Ratio.{_÷_, upTo}
 use Rattle.building.specs.Roof.{roofOf}
 use Rattle.building.specs.Order.{Ranged, InOrder}
-use Rattle.building.specs.Building.{begun, outOfForm, outOfRange, outOfWalls, outOfRoof, sizes, buildingFault}
+use Rattle.building.specs.Building.{begun, outOfForm, outOfRange, outOfWalls, outOfRoof, sizes, buildingFault, givenFault}
 use Rattle.building.proofs.Roofs.{across-range}
 
 -- ---- each number in its range
@@ -105,41 +105,62 @@ passed true n m e = absurd (omega arith)
 passed false n m e = (refl, e)
 
 module _ (g : Building) (good : buildingFault g ≡ 0) where
-  passes : (outOfForm g ≡ false) × (outOfRange g ≡ false) × (outOfWalls (sizes g) ≡ false) × (outOfRoof (sizes g) ≡ false)
+  passes : (outOfRange g ≡ false) × (outOfWalls (sizes g) ≡ false) × (outOfRoof (sizes g) ≡ false)
   unfolding buildingFault
   passes =
-      let r₁ = passed (outOfForm g) 0 _ good in
-      let r₂ = passed (outOfRange g) 2 _ (r₁ .1) in
-      let r₃ = passed (outOfWalls (sizes g)) 3 _ (r₂ .1) in
-      let r₄ = passed (outOfRoof (sizes g)) 4 0 (r₃ .1) in
-      (r₁ .0, r₂ .0, r₃ .0, r₄ .0)
+      let r₁ = passed (outOfRange g) 2 _ good in
+      let r₂ = passed (outOfWalls (sizes g)) 3 _ (r₁ .1) in
+      let r₃ = passed (outOfRoof (sizes g)) 4 0 (r₂ .1) in
+      (r₁ .0, r₂ .0, r₃ .0)
 
   pub in-range : outOfRange g ≡ false
-  in-range = passes .1
+  in-range = passes .0
 
   pub good-fields : Fields g
   good-fields = fields g in-range
 
   pub in-order : InOrder (sizes g)
-  in-order = orderly g good-fields (passes .2) (passes .3)
+  in-order = orderly g good-fields (passes .1) (passes .2)
+
+-- ---- given as a record: a number in its range is not too long
+
+short : {least greatest : ℕ} {z : ℤ} → Within least greatest z → greatest ≤ 9999999 → tooLong z ≡ false
+unfolding tooLong
+short {z = z} w h = le-ltb 9999999 (natAbs z) (omega (arith, w .to))
+
+pub given-none : (g : Building) → buildingFault g ≡ 0 → givenFault g ≡ 0
+unfolding givenFault outOfForm
+given-none g e =
+    let f = good-fields g e in
+    rw (
+      short (f .h) (omega arith),
+      short (f .a) (omega arith),
+      short (f .b) (omega arith),
+      short (f .density) (omega arith),
+      short (f .kind) (omega arith),
+      short (f .x) (omega arith),
+    )
+    e
+
+pub none-given : (g : Building) → givenFault g ≡ 0 → buildingFault g ≡ 0
+unfolding givenFault
+none-given g e = passed (outOfForm g) 0 _ e .1
 
 -- ---- and a fault has failed its test, having passed those before
 
 -- what each number says of the building
 pub data Why (g : Building) : ℕ → Type 0 where
-  in-form-and-order : Fields g → InOrder (sizes g) → Why g 0
-  a-number-too-long : outOfForm g ≡ true → Why g 1
-  a-number-out-of-range : outOfForm g ≡ false → outOfRange g ≡ true → Why g 3
+  in-order-throughout : Fields g → InOrder (sizes g) → Why g 0
+  a-number-out-of-range : outOfRange g ≡ true → Why g 3
   outside-the-wall-table : Fields g → outOfWalls (sizes g) ≡ true → Why g 4
   outside-the-roof's-range : Fields g → outOfWalls (sizes g) ≡ false → outOfRoof (sizes g) ≡ true → Why g 5
 
 pub why : (g : Building) → Why g (buildingFault g)
 unfolding buildingFault
-why g = go (outOfForm g) (outOfRange g) (outOfWalls (sizes g)) (outOfRoof (sizes g)) refl refl refl refl
+why g = go (outOfRange g) (outOfWalls (sizes g)) (outOfRoof (sizes g)) refl refl refl
   where
-    go : (t u v w : Bool) → outOfForm g ≡ t → outOfRange g ≡ u → outOfWalls (sizes g) ≡ v → outOfRoof (sizes g) ≡ w → Why g (cond t 1 (cond u 3 (cond v 4 (cond w 5 0))))
-    go true u v w p q r s = a-number-too-long p
-    go false true v w p q r s = a-number-out-of-range p q
-    go false false true w p q r s = outside-the-wall-table (fields g q) r
-    go false false false true p q r s = outside-the-roof's-range (fields g q) r s
-    go false false false false p q r s = in-form-and-order (fields g q) (orderly g (fields g q) r s)
+    go : (t u v : Bool) → outOfRange g ≡ t → outOfWalls (sizes g) ≡ u → outOfRoof (sizes g) ≡ v → Why g (cond t 3 (cond u 4 (cond v 5 0)))
+    go true u v p q r = a-number-out-of-range p
+    go false true v p q r = outside-the-wall-table (fields g p) q
+    go false false true p q r = outside-the-roof's-range (fields g p) q r
+    go false false false p q r = in-order-throughout (fields g p) (orderly g (fields g p) q r)

@@ -10,10 +10,10 @@ use Rattle.building.specs.declared.Sizes.{Sizes}
 use Rattle.building.specs.declared.Question.{Question}
 use Rattle.building.specs.declared.Question.the-variants.{Of, Refused}
 use Rattle.building.specs.Order.{InOrder}
-use Rattle.building.specs.Building.{buildingFault, sizes}
+use Rattle.building.specs.Building.{buildingFault, givenFault, sizes}
 use Rattle.building.specs.Places.{zoneOn, localOn, knows, wallPlace}
 use Rattle.building.specs.Question.{refuse, askedOf}
-use Rattle.building.proofs.Accepted.{in-order}
+use Rattle.building.proofs.Accepted.{in-order, given-none, none-given}
 use Rattle.building.proofs.Places.{needs-roof}
 
 refuse-some : (n line : ℕ) (a : Question) → (n ≡ 0 → ⊥) → refuse n line a ≡ Refused n line
@@ -24,21 +24,21 @@ module _ (g : Building) (direction : ℤ) (place : ℕ) where
   abbrev pub On : Bool → Type 0
   On t = (zoneOn (g .kind) place || localOn (g .kind) place) ≡ t
 
-  pub bad-building : (buildingFault g ≡ 0 → ⊥) → askedOf g direction place ≡ Refused (buildingFault g) 2
+  pub bad-building : (givenFault g ≡ 0 → ⊥) → askedOf g direction place ≡ Refused (givenFault g) 2
   unfolding askedOf
-  bad-building h = refuse-some (buildingFault g) 2 _ h
+  bad-building h = refuse-some (givenFault g) 2 _ h
 
   pub bad-direction : buildingFault g ≡ 0 → knows (g .kind) direction ≡ false → askedOf g direction place ≡ Refused 3 0
   unfolding askedOf
-  bad-direction e f = rw (e, f)
+  bad-direction e f = rw (given-none g e, f)
 
   pub bad-place : buildingFault g ≡ 0 → knows (g .kind) direction ≡ true → On false → askedOf g direction place ≡ Refused 6 0
   unfolding askedOf
-  bad-place e f k = rw (e, f, k)
+  bad-place e f k = rw (given-none g e, f, k)
 
   pub in-question : buildingFault g ≡ 0 → knows (g .kind) direction ≡ true → On true → askedOf g direction place ≡ Of (sizes g)
   unfolding askedOf
-  in-question e f k = rw (e, f, k)
+  in-question e f k = rw (given-none g e, f, k)
 
   -- what a question in order tells of its sizes
   pub record Fit (s : Sizes) : Type 0 where
@@ -50,12 +50,12 @@ module _ (g : Building) (direction : ℤ) (place : ℕ) where
   Told (Refused number line) = Unit {0}
 
   pub told : Told (askedOf g direction place)
-  told = go (eqb (buildingFault g) 0) (knows (g .kind) direction) (zoneOn (g .kind) place || localOn (g .kind) place) refl refl refl
+  told = go (eqb (givenFault g) 0) (knows (g .kind) direction) (zoneOn (g .kind) place || localOn (g .kind) place) refl refl refl
     where
-      go : (t u v : Bool) → eqb (buildingFault g) 0 ≡ t → knows (g .kind) direction ≡ u → On v → Told (askedOf g direction place)
-      go false u v p q r = subst Told (sym (bad-building (eqb-false (buildingFault g) 0 p))) tt
-      go true false v p q r = subst Told (sym (bad-direction (eqb-true (buildingFault g) 0 p) q)) tt
-      go true true false p q r = subst Told (sym (bad-place (eqb-true (buildingFault g) 0 p) q r)) tt
+      go : (t u v : Bool) → eqb (givenFault g) 0 ≡ t → knows (g .kind) direction ≡ u → On v → Told (askedOf g direction place)
+      go false u v p q r = subst Told (sym (bad-building (eqb-false (givenFault g) 0 p))) tt
+      go true false v p q r = subst Told (sym (bad-direction (none-given g (eqb-true (givenFault g) 0 p)) q)) tt
+      go true true false p q r = subst Told (sym (bad-place (none-given g (eqb-true (givenFault g) 0 p)) q r)) tt
       go true true true p q r =
-          let e = eqb-true (buildingFault g) 0 p in
+          let e = none-given g (eqb-true (givenFault g) 0 p) in
           subst Told (sym (in-question e q r)) (record { order = in-order g e; roofed = λ w. needs-roof (g .kind) place w r })

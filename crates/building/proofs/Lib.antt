@@ -1,5 +1,7 @@
 -- The laws of a building in order, of its places, and of a question about one of them.
 pub mod Six
+pub mod Machine
+pub mod Ranges
 pub mod Ratios
 pub mod Roofs
 pub mod Accepted

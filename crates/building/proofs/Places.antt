@@ -1,14 +1,17 @@
--- Zones and locals: a place that is not on the walls needs a roof.
-use mathlib.Core.Path.{_≡_, refl}
+-- Zones and locals: a place that is not on the walls needs a roof. And what the directions are that a roof knows.
+use mathlib.Core.Path.{_≡_, refl, sym, subst}
+use mathlib.Core.Logic.{_⊎_, ⊎-elim, inl, inr}
 use mathlib.Core.Bool.{Bool, true, false, _&&_, _||_, true≢false, false≢true}
 use Prim.Native.Nat.{ℕ, zero, suc, _≤_, _<_}
 use native.Mathlib.Omega.{arith}
 use lib.Dec.{leb, eqb}
 use lib.IntN.{ℤ, pos, negsuc, natAbs}
 use borrow.Author.Tests.{leb-true, ne-eqb}
-use Rattle.whole.proofs.Tests.{or-false, and-true}
-use Rattle.building.specs.Test.{among, beyond}
-use Rattle.building.specs.Places.{A, D, E, F, H, wallLocal, gable, flat, zoneOn, localOn, wallPlace}
+use Rattle.whole.proofs.Tests.{or-true, or-false, and-true}
+use Rattle.building.specs.Test.{among, is, beyond}
+use Rattle.building.specs.Places.{A, D, E, F, H, wallLocal, gable, flat, zoneOn, localOn, knows, wallPlace}
+use Rattle.building.proofs.Accepted.{Within}
+use Rattle.building.proofs.Machine.{is-same}
 
 pub among-yes : (least greatest n : ℕ) → among least greatest n ≡ true → (least ≤ n) × (n ≤ greatest)
 among-yes least greatest n e =
@@ -42,3 +45,14 @@ must-be-E kind zone e f g h =
     (last-of (among A D zone) (gable kind) (among E H zone) (flat kind) (among E F zone) (or-false (among A D zone) (eqb zone wallLocal) f .0) (no-gable kind g) e)
     in
     omega arith
+
+-- a direction that a roof knows is 0 or 90
+pub known : (kind direction : ℤ) → knows kind direction ≡ true → (direction ≡ pos 0) ⊎ (direction ≡ pos 90)
+known kind direction e =
+    ⊎-elim (λ q. inl (is-same (pos 0) direction q)) (λ q. inr (is-same (pos 90) direction q))
+    (or-true (is (pos 0) direction) (is (pos 90) direction) e)
+
+pub known-within : (kind direction : ℤ) → knows kind direction ≡ true → Within 0 90 direction
+known-within kind direction e =
+    ⊎-elim (λ q. subst (Within 0 90) (sym q) (record { from = omega arith; to = omega arith; plain = refl }))
+    (λ q. subst (Within 0 90) (sym q) (record { from = omega arith; to = omega arith; plain = refl })) (known kind direction e)

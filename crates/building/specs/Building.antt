@@ -1,4 +1,4 @@
--- The building's line, h a b density kind x, and its faults, the lowest number first.
+-- The building's line, h a b density kind x, and its faults, the lowest number first; and what it gets as a record.
 use mathlib.Core.Bool.{Bool, false, cond, not, _||_}
 use mathlib.Core.List.{List, [], _∷_}
 use Prim.Native.Nat.{ℕ, _*_}
@@ -6,11 +6,12 @@ use lib.IntN.{ℤ, pos, natAbs}
 use lib.Dec.{ltb}
 use Rattle.building.specs.declared.Building.{Building}
 use Rattle.building.specs.declared.Sizes.{Sizes}
-use Rattle.building.specs.Test.{beyond}
+use Rattle.building.specs.Test.{beyond, tooLong}
+use Rattle.building.specs.Fault.{Fault, fault, first}
 use Rattle.building.specs.Ratio.{_÷_, upTo}
 use Rattle.building.specs.Roof.{roofOf, alongOf, acrossOf}
 
--- ---- 1 and 3: each number by itself
+-- ---- 3: each number by itself
 
 pub record Field : Type 0 where
   pub number : ℤ
@@ -31,16 +32,9 @@ fields g =
     ∷ field (g .x) 0 30000
     ∷ []
 
--- more than 7 digits, which no sheet carries
-unfoldable pub tooLong : ℤ → Bool
-tooLong z = ltb 9999999 (natAbs z)
-
 abbrev pub some : (Field → Bool) → List Field → Bool
 some f [] = false
 some f (r ∷ rs) = f r || some f rs
-
-unfoldable pub outOfForm : Building → Bool
-outOfForm g = some (λ r. tooLong (r .number)) (fields g)
 
 unfoldable pub outOfRange : Building → Bool
 outOfRange g = some (λ r. beyond (pos (r .least)) (pos (r .greatest)) (r .number)) (fields g)
@@ -73,25 +67,19 @@ outOfRoof s = ltb (s .along) (roofOf (s .kind) .least * s .across) || ltb (roofO
 
 -- ---- the faults in their order
 
-pub record Fault : Type 0 where
-  pub number : ℕ
-  pub found : Bool
-
-abbrev pub fault : ℕ → Bool → Fault
-fault number found = record { number = number; found = found }
-
 abbrev pub faults : Building → List Fault
-faults g =
-    fault 1 (outOfForm g)
-    ∷ fault 3 (outOfRange g)
-    ∷ fault 4 (outOfWalls (sizes g))
-    ∷ fault 5 (outOfRoof (sizes g))
-    ∷ []
-
-abbrev pub first : List Fault → ℕ
-first [] = 0
-first (f ∷ fs) = cond (f .found) (f .number) (first fs)
+faults g = fault 3 (outOfRange g) ∷ fault 4 (outOfWalls (sizes g)) ∷ fault 5 (outOfRoof (sizes g)) ∷ []
 
 -- the number that the building's line gets, 0 where it is in order
 unfoldable pub buildingFault : Building → ℕ
 buildingFault g = first (faults g)
+
+-- ---- a building given as a record
+
+-- some number is too long
+unfoldable pub outOfForm : Building → Bool
+outOfForm g = some (λ r. tooLong (r .number)) (fields g)
+
+-- the number that its line would get
+unfoldable pub givenFault : Building → ℕ
+givenFault g = cond (outOfForm g) 1 (buildingFault g)

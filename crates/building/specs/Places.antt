@@ -35,7 +35,7 @@ L2 = 50
 
 -- kind 1 is a gable, kinds 2 to 5 are flat
 abbrev pub gable : ℤ → Bool
-gable kind = is 1 kind
+gable kind = is (pos 1) kind
 
 abbrev pub flat : ℤ → Bool
 flat kind = within (pos 2) (pos 5) kind
@@ -50,7 +50,7 @@ localOn kind place = eqb place wallLocal || flat kind && (eqb place L1 || eqb pl
 
 -- the directions that a roof of this kind knows
 abbrev pub knows : ℤ → ℤ → Bool
-knows kind direction = is 0 direction || is 90 direction
+knows kind direction = is (pos 0) direction || is (pos 90) direction
 
 -- A to D, and the wall's local
 abbrev pub wallPlace : ℕ → Bool

@@ -6,7 +6,7 @@ use Rattle.building.specs.declared.Building.{Building}
 use Rattle.building.specs.declared.Question.{Question}
 use Rattle.building.specs.declared.Question.the-variants.{Of, Refused}
 use Rattle.building.specs.Test.{unless}
-use Rattle.building.specs.Building.{buildingFault, sizes}
+use Rattle.building.specs.Building.{givenFault, sizes}
 use Rattle.building.specs.Places.{zoneOn, localOn, knows}
 
 -- a number other than 0 refuses, at that line
@@ -16,7 +16,7 @@ refuse (suc n) line asked = Refused (suc n) line
 
 unfoldable pub askedOf : Building → ℤ → ℕ → Question
 askedOf g direction place =
-    refuse (buildingFault g) 2
+    refuse (givenFault g) 2
     (refuse (unless 3 (knows (g .kind) direction)) 0
     (refuse (unless 6 (zoneOn (g .kind) place || localOn (g .kind) place)) 0
     (Of (sizes g))))

@@ -1,23 +1,17 @@
 // The tests of a building's line, in their order.
 ghost use mathlib.Core.Path.{_≡_};
-ghost use mathlib.Core.Bool.{false};
+ghost use mathlib.Core.Bool.{false, _||_};
 ghost use Prim.Native.Nat.{_≤_};
 ghost use Rattle.building.specs.Roof.{roofOf, alongOf, acrossOf};
 ghost use Rattle.building.specs.Order.{Ranged};
-ghost use Rattle.building.specs.Building.{tooLong, outOfForm, outOfRange, outOfWalls, outOfRoof, sizes};
+ghost use Rattle.building.specs.Building.{outOfForm, outOfRange, outOfWalls, outOfRoof, sizes};
 use super::Building;
 use super::Sizes;
+use super::limits::beyond;
+use super::limits::too_long;
 use super::ratio::up_to;
 use super::tests::any;
-use super::tests::beyond;
 use super::tests::either;
-
-// More than 7 digits.
-fn too_long(z: i64) -> bool
-    ensures { λ r. ⌜ r ≡ tooLong z ⌝ }
-{
-    9999999 < whole::magnitude(z)
-}
 
 pub(crate) fn out_of_form(g: Building) -> bool
     ensures { λ r. ⌜ r ≡ outOfForm g ⌝ }

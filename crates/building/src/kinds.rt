@@ -2,7 +2,7 @@
 ghost use mathlib.Core.Path.{_≡_};
 ghost use Rattle.building.specs.Places as places;
 ghost use Rattle.building.specs.Places.{localOn};
-use super::tests::beyond;
+use super::limits::beyond;
 use super::tests::both;
 use super::tests::either;
 use super::tests::is;
@@ -20,7 +20,7 @@ pub(crate) fn flat(kind: i64) -> bool
 }
 
 // The directions that a roof of this kind knows.
-pub(crate) fn knows(kind: i64, direction: i64) -> bool
+pub fn knows(kind: i64, direction: i64) -> bool
     ensures { λ r. ⌜ r ≡ places.knows kind direction ⌝ }
 {
     either(is(0, direction), is(90, direction))

@@ -1,11 +1,12 @@
 // A building: what is wrong with its numbers, which zones its roof has, and a question about one place of it, judged.
 ghost use mathlib.Core.Path.{_≡_};
-ghost use Rattle.building.specs.Building.{buildingFault};
+ghost use Rattle.building.specs.Building.{buildingFault, givenFault};
 ghost use Rattle.building.specs.Places.{zoneOn};
 ghost use Rattle.building.specs.Question.{askedOf};
 
 mod faults;
-mod kinds;
+pub mod kinds;
+pub mod limits;
 pub mod ratio;
 mod tests;
 
@@ -40,9 +41,6 @@ pub enum Question {
 pub fn building_fault(g: Building) -> u32
     ensures { λ r. ⌜ r ≡ buildingFault g ⌝ }
 {
-    if faults::out_of_form(g) {
-        return 1;
-    }
     if faults::out_of_range(g) {
         return 3;
     }
@@ -54,6 +52,16 @@ pub fn building_fault(g: Building) -> u32
         return 5;
     }
     0
+}
+
+// The number that the line of a building given as a record would get.
+pub fn given_fault(g: Building) -> u32
+    ensures { λ r. ⌜ r ≡ givenFault g ⌝ }
+{
+    if faults::out_of_form(g) {
+        return 1;
+    }
+    building_fault(g)
 }
 
 // Whether a roof of this kind has the zone.
@@ -73,7 +81,7 @@ pub fn zone_on(kind: i64, zone: u8) -> bool
 pub fn asked(g: Building, direction: i64, place: u8) -> Question
     ensures { λ r. ⌜ r ≡ askedOf g direction place ⌝ }
 {
-    let n = building_fault(g);
+    let n = given_fault(g);
     if n != 0 {
         return Question::Refused(n, 2);
     }

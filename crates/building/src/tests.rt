@@ -39,18 +39,8 @@ pub(crate) fn among(least: u8, greatest: u8, n: u8) -> bool
 }
 
 // A signed number is n.
-pub(crate) fn is(n: u64, z: i64) -> bool
+pub(crate) fn is(n: i64, z: i64) -> bool
     ensures { λ r. ⌜ r ≡ test.is n z ⌝ }
 {
-    if z < 0 {
-        return false;
-    }
-    whole::magnitude(z) == n
-}
-
-// Below the least number of a range, or above its greatest.
-pub(crate) fn beyond(least: i64, greatest: i64, z: i64) -> bool
-    ensures { λ r. ⌜ r ≡ test.beyond least greatest z ⌝ }
-{
-    either(z < least, greatest < z)
+    z == n
 }

@@ -125,7 +125,7 @@ pub(crate) fn questions() {
 }
 
 // A job of one wind, one internal coefficient and one face, with these counts, this zone and this mark.
-fn record(winds: u32, faces: u32, zone: u8, mark: u32) -> Job {
+fn record(winds: u32, faces: u32, zone: u8, mark: i64) -> Job {
     let wind = Wind {
         direction: 0,
         speed: 400,

@@ -74,11 +74,23 @@ put-line-determined κ a r r′ s s′ p q = same-put p q
 building-fault-determined : OneAnswer of.building-fault.Post
 building-fault-determined κ a r r′ s s′ p q = same p q
 
+given-fault-determined : OneAnswer of.given-fault.Post
+given-fault-determined κ a r r′ s s′ p q = same p q
+
 zone-on-determined : OneAnswer of.zone-on.Post
 zone-on-determined κ a r r′ s s′ p q = same p q
 
 up-to-determined : OneAnswer of.up-to.Post
 up-to-determined κ a r r′ s s′ p q = same p q
+
+knows-determined : OneAnswer of.knows.Post
+knows-determined κ a r r′ s s′ p q = same p q
+
+beyond-determined : OneAnswer of.beyond.Post
+beyond-determined κ a r r′ s s′ p q = same p q
+
+too-long-determined : OneAnswer of.too-long.Post
+too-long-determined κ a r r′ s s′ p q = same p q
 
 asked-determined : OneAnswer of.asked.Post
 asked-determined κ a r r′ s s′ p q = same p q
@@ -95,6 +107,15 @@ net-determined κ a r r′ s s′ p q = same p q
 
 size-of-determined : OneAnswer of.size-of.Post
 size-of-determined κ a r r′ s s′ p q = same p q
+
+number-of-determined : OneAnswer of.number-of.Post
+number-of-determined κ a r r′ s s′ p q = same p q
+
+letter-of-determined : OneAnswer of.letter-of.Post
+letter-of-determined κ a r r′ s s′ p q = same p q
+
+is-dash-determined : OneAnswer of.is-dash.Post
+is-dash-determined κ a r r′ s s′ p q = same p q
 
 building-of-determined : OneAnswer of.building-of.Post
 building-of-determined κ a r r′ s s′ p q = same p q
@@ -131,11 +152,20 @@ limits-of-determined κ a r r′ s s′ p q =
 count-line-determined : OneAnswer of.count-line.Post
 count-line-determined κ a r r′ s s′ p q = same p q
 
+count-fault-determined : OneAnswer of.count-fault.Post
+count-fault-determined κ a r r′ s s′ p q = same p q
+
+wind-fault-determined : OneAnswer of.wind-fault.Post
+wind-fault-determined κ a r r′ s s′ p q = same p q
+
+internal-fault-determined : OneAnswer of.internal-fault.Post
+internal-fault-determined κ a r r′ s s′ p q = same p q
+
+face-fault-determined : OneAnswer of.face-fault.Post
+face-fault-determined κ a r r′ s s′ p q = same p q
+
 line-fault-determined : OneAnswer of.line-fault.Post
 line-fault-determined κ a r r′ s s′ p q = same p q
-
-lower-of-determined : OneAnswer of.lower-of.Post
-lower-of-determined κ a r r′ s s′ p q = same p q
 
 -- ---- job
 

@@ -58,11 +58,23 @@ put-line-asks κ a = tt
 building-fault-asks : AsksNothing of.building-fault.Asked
 building-fault-asks κ a = tt
 
+given-fault-asks : AsksNothing of.given-fault.Asked
+given-fault-asks κ a = tt
+
 zone-on-asks : AsksNothing of.zone-on.Asked
 zone-on-asks κ a = tt
 
 up-to-asks : AsksNothing of.up-to.Asked
 up-to-asks κ a = tt
+
+knows-asks : AsksNothing of.knows.Asked
+knows-asks κ a = tt
+
+beyond-asks : AsksNothing of.beyond.Asked
+beyond-asks κ a = tt
+
+too-long-asks : AsksNothing of.too-long.Asked
+too-long-asks κ a = tt
 
 asked-asks : AsksNothing of.asked.Asked
 asked-asks κ a = tt
@@ -79,6 +91,15 @@ net-asks κ a = tt
 
 size-of-asks : AsksNothing of.size-of.Asked
 size-of-asks κ a = tt
+
+number-of-asks : AsksNothing of.number-of.Asked
+number-of-asks κ a = tt
+
+letter-of-asks : AsksNothing of.letter-of.Asked
+letter-of-asks κ a = tt
+
+is-dash-asks : AsksNothing of.is-dash.Asked
+is-dash-asks κ a = tt
 
 building-of-asks : AsksNothing of.building-of.Asked
 building-of-asks κ a = tt
@@ -114,11 +135,20 @@ limits-of-asks κ a = tt
 count-line-asks : AsksNothing of.count-line.Asked
 count-line-asks κ a = tt
 
+count-fault-asks : AsksNothing of.count-fault.Asked
+count-fault-asks κ a = tt
+
+wind-fault-asks : AsksNothing of.wind-fault.Asked
+wind-fault-asks κ a = tt
+
+internal-fault-asks : AsksNothing of.internal-fault.Asked
+internal-fault-asks κ a = tt
+
+face-fault-asks : AsksNothing of.face-fault.Asked
+face-fault-asks κ a = tt
+
 line-fault-asks : AsksNothing of.line-fault.Asked
 line-fault-asks κ a = tt
-
-lower-of-asks : AsksNothing of.lower-of.Asked
-lower-of-asks κ a = tt
 
 -- ---- job
 

@@ -13,18 +13,18 @@ use Rattle.whole.specs.Digits.{allDigits, valueAfter, value}
 use Rattle.form.specs.Field.{digitsInForm, unsigned, negative, number, field}
 use Rattle.lines.specs.Lines.{split, fieldsOf, rowsOf, rows}
 use Rattle.building.specs.declared.Building.{Building}
-use Rattle.building.specs.Test.{beyond}
+use Rattle.building.specs.Test.{beyond, tooLong}
 use Rattle.book.specs.Line.{spotFrom, lineAt}
 use Rattle.book.specs.Walls.{wallRow, wallCells}
 use Rattle.book.specs.Gable.{blockOf}
 use Rattle.book.specs.Roofs.{roofValue, roofCells, spotIn, partAts, firstRow}
 use Rattle.building.specs.Roof.{roofOf}
-use Rattle.building.specs.Building.{buildingFault, outOfForm, outOfRange, outOfWalls, outOfRoof, tooLong}
+use Rattle.building.specs.Building.{givenFault, buildingFault, outOfForm, outOfRange, outOfWalls, outOfRoof}
 use Rattle.book.specs.Answer.{valuesOf}
 use Rattle.building.specs.Places.{E, L1, zoneOn, localOn}
 use Rattle.building.specs.Question.{askedOf}
 use Rattle.book.specs.Question.{outsideOf, coefficientOf, wallColumn, gableColumn, flatColumn}
-use Rattle.rules.specs.Rules.{fieldFault, lower, lowest, fieldsFault}
+use Rattle.rules.specs.Form.{hasForm, inForm}
 use Rattle.entry.specs.Says.{both}
 use Rattle.rules.specs.Sections.{lineFault}
 use Rattle.job.specs.Walk.{walk, verdict, readLines}
@@ -47,7 +47,7 @@ abbrev pub alone : ℕ → ℕ → ℤ → ℤ → ℤ
 alone density speed net area =
     force X
     (record { density = pos density; outside = λ direction zone. net ∷ []; winds = []; internals = []; faces = [] })
-    (record { direction = 0; speed = speed }) (pos 0)
+    (record { direction = pos 0; speed = pos speed }) (pos 0)
     (record { zone = 65; mark = both; x = area; y = pos 0; z = pos 0 }) 1
 
 -- the bytes of a quoted text
@@ -57,7 +57,7 @@ bytes (c then s) = code c ∷ bytes s
 
 abbrev pub Holds : Row → Type 0
 Holds (gives g direction place values) = valuesOf (outsideOf g (pos direction) place) ≡ values
-Holds (gets g number) = (buildingFault g ≡ number)
+Holds (gets g number) = (givenFault g ≡ number)
 Holds (pushes density speed net area units whole) =
     (alone density speed net area ≡ units) × (newtons units ≡ whole) × (remainder units ≡ 0)
 Holds (reads text number line) = (verdict (reading (bytes text)) ≡ record { number = number; line = line })
@@ -107,11 +107,10 @@ _and_ : {P Q : Type 0} → P → Q → P × Q
 p and q = (p, q)
 
 pub printed-hold : Every Holds printed
-unfolding outsideOf askedOf buildingFault outOfForm outOfRange outOfWalls outOfRoof tooLong beyond zoneOn localOn
-    roofOf coefficientOf wallColumn gableColumn flatColumn wallRow wallCells blockOf roofValue roofCells spotIn
-    partAts firstRow spotFrom lineAt halfUp roundAway roundDown leftOver reading rows rowsOf split fieldsOf field
-    number unsigned negative digitsInForm allDigits valueAfter value readLines walk lineFault fieldsFault lowest
-    lower fieldFault
+unfolding outsideOf askedOf givenFault buildingFault outOfForm outOfRange outOfWalls outOfRoof tooLong beyond zoneOn
+    localOn roofOf coefficientOf wallColumn gableColumn flatColumn wallRow wallCells blockOf roofValue roofCells
+    spotIn partAts firstRow spotFrom lineAt halfUp roundAway roundDown leftOver reading rows rowsOf split fieldsOf
+    field number unsigned negative digitsInForm allDigits valueAfter value readLines walk lineFault inForm hasForm
 printed-hold =
     refl and refl and refl and refl  -- P1 to P4
     and refl and refl and refl and refl and refl  -- P5 to P7

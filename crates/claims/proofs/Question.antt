@@ -12,9 +12,9 @@ use Rattle.building.specs.declared.Building.{Building}
 use Rattle.building.specs.declared.Question.{Question}
 use Rattle.building.specs.declared.Question.the-variants as asked
 use Rattle.building.specs.Question.{askedOf}
-use Rattle.building.specs.Building.{buildingFault, sizes}
+use Rattle.building.specs.Building.{buildingFault, givenFault, sizes}
 use Rattle.building.specs.Places.{zoneOn, localOn, knows}
-use Rattle.building.proofs.Accepted.{in-order}
+use Rattle.building.proofs.Accepted.{in-order, given-none, none-given}
 use Rattle.building.proofs.Judged as judged
 use Rattle.job.proofs.Written.{building-given}
 use Rattle.book.specs.declared.Answer as book
@@ -33,7 +33,7 @@ pub clash : {A : Type 0} {t : Bool} → t ≡ true → t ≡ false → A
 clash e f = absurd (subst T (sym e ∙ f) tt)
 
 module _ (g : Building) (direction : ℤ) (place : ℕ) where
-  sheet-fault : buildingFault g ≡ sheetFault g
+  sheet-fault : givenFault g ≡ sheetFault g
   sheet-fault = building-given g g
 
   -- ---- the refusals come in one order, and not where the question is in order
@@ -58,22 +58,23 @@ module _ (g : Building) (direction : ℤ) (place : ℕ) where
 
   in-question : buildingFault g ≡ 0 → knows (g .kind) direction ≡ true
       → (zoneOn (g .kind) place || localOn (g .kind) place) ≡ true → InQuestion g direction place
-  in-question e f h = record { in-order = sym sheet-fault ∙ e; known = f; there = h }
+  in-question e f h = record { in-order = sym sheet-fault ∙ given-none g e; known = f; there = h }
 
   -- the refusal, or that there is none
   judged-so : {P : Type 0}
       → ((n l : ℕ) → Refusal g direction place n l → askedOf g direction place ≡ asked.Refused n l → P)
       → (InQuestion g direction place → askedOf g direction place ≡ asked.Of (sizes g) → P) → P
   judged-so bad good =
-      by-test (eqb (buildingFault g) 0)
-      (λ e. let fine = eqb-true (buildingFault g) 0 e in
+      by-test (eqb (givenFault g) 0)
+      (λ e. let none = eqb-true (givenFault g) 0 e in
+      let fine = none-given g none in
       by-test (knows (g .kind) direction)
       (λ f. by-test (zoneOn (g .kind) place || localOn (g .kind) place)
       (λ h. good (in-question fine f h) (judged.in-question g direction place fine f h))
-      (λ h. bad 6 0 (bad-place (sym sheet-fault ∙ fine) f h) (judged.bad-place g direction place fine f h)))
-      (λ f. bad 3 0 (bad-direction (sym sheet-fault ∙ fine) f) (judged.bad-direction g direction place fine f)))
-      (λ e. let faulty = eqb-false (buildingFault g) 0 e in
-      bad (buildingFault g) 2 (bad-building (omega arith) (sym sheet-fault))
+      (λ h. bad 6 0 (bad-place (sym sheet-fault ∙ none) f h) (judged.bad-place g direction place fine f h)))
+      (λ f. bad 3 0 (bad-direction (sym sheet-fault ∙ none) f) (judged.bad-direction g direction place fine f)))
+      (λ e. let faulty = eqb-false (givenFault g) 0 e in
+      bad (givenFault g) 2 (bad-building (omega arith) (sym sheet-fault))
       (judged.bad-building g direction place faulty))
 
   pub question-judged : Judged g direction place (askedOf g direction place)
@@ -94,7 +95,7 @@ module _ (g : Building) (direction : ℤ) (place : ℕ) where
   unfolding outsideOf
   outside-by bad good =
       judged-so (λ n l f e. bad n l f (rw e))
-      (λ q e. good q (outside-is g direction place (sheet-fault ∙ q .in-order) (q .known) (q .there)))
+      (λ q e. good q (outside-is g direction place (none-given g (sheet-fault ∙ q .in-order)) (q .known) (q .there)))
 
   -- a coefficient is no refusal
   told-number : (r : book.Answer) → IsCoefficient (sizes g) (natAbs direction) place (valuesOf r)
@@ -112,7 +113,7 @@ module _ (g : Building) (direction : ℤ) (place : ℕ) where
   outside-unique (refused f) (told q n l i) = not-both f q
   outside-unique (told q n l i) (refused f) = not-both f q
   outside-unique (told {r} q n l i) (told {r = r′} q′ n′ l′ i′) =
-      let good : buildingFault g ≡ 0 = sheet-fault ∙ q .in-order in
+      let good : buildingFault g ≡ 0 = none-given g (sheet-fault ∙ q .in-order) in
       same-answer r r′ (n ∙ sym n′) (l ∙ sym l′)
       (coefficient-unique (sizes g) (in-order g good) (natAbs direction) place i i′)
 

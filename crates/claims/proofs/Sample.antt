@@ -14,12 +14,12 @@ use Rattle.book.specs.Walls.{wallRow, wallCells}
 use Rattle.book.specs.Gable.{blockOf}
 use Rattle.book.specs.Roofs.{roofCells, partAts, firstRow, spotIn, roofValue}
 use Rattle.building.specs.Roof.{roofOf}
-use Rattle.building.specs.Building.{buildingFault, outOfForm, outOfRange, outOfWalls, outOfRoof, tooLong}
+use Rattle.building.specs.Building.{givenFault, buildingFault, outOfForm, outOfRange, outOfWalls, outOfRoof}
 use Rattle.building.specs.Places.{zoneOn, localOn}
 use Rattle.building.specs.Question.{askedOf}
 use Rattle.book.specs.Question.{wallColumn, gableColumn, flatColumn, coefficientOf, outsideOf}
-use Rattle.building.specs.Test.{beyond}
-use Rattle.rules.specs.Rules.{fieldFault, lower, lowest, fieldsFault}
+use Rattle.building.specs.Test.{beyond, tooLong}
+use Rattle.rules.specs.Form.{hasForm, inForm}
 use Rattle.rules.specs.Sections.{lineFault}
 use Rattle.job.specs.Walk.{walk, readLines}
 use Rattle.sheet.specs.Sheet.{reading}
@@ -50,8 +50,8 @@ lines =
 pub sample : totalsText (reading (bytes sheet)) ≡ bytes lines
 unfolding halfUp roundAway digitsWithin digits decimal allDigits valueAfter value digitsInForm unsigned negative
     number field split fieldsOf rowsOf rows spotFrom lineAt wallRow wallCells blockOf outOfRoof roofOf roofCells
-    partAts firstRow spotIn roofValue buildingFault outOfForm outOfRange outOfWalls tooLong zoneOn localOn
-    wallColumn gableColumn flatColumn coefficientOf outsideOf askedOf beyond fieldFault lower lowest fieldsFault
-    lineFault walk readLines reading better best numbers each choices total cases caseTotal worst padded shown
-    sixExtremes spaced extremeText axisText sixText reportText
+    partAts firstRow spotIn roofValue givenFault buildingFault outOfForm outOfRange outOfWalls tooLong zoneOn
+    localOn wallColumn gableColumn flatColumn coefficientOf outsideOf askedOf beyond hasForm inForm lineFault walk
+    readLines reading better best numbers each choices total cases caseTotal worst padded shown sixExtremes spaced
+    extremeText axisText sixText reportText
 sample = refl

@@ -4,11 +4,14 @@ use mathlib.Core.Logic.{⊎-elim}
 use mathlib.Core.List.{List, [], _∷_, List·Memᴰ, List·Memᴰ·head, List·Memᴰ·tail, List·Memᴰ·not-nil}
 use mathlib.Core.List.{List·Memᴰ·cases-cons}
 use native.Mathlib.Omega.{arith}
-use Prim.Native.Nat.{ℕ}
-use lib.IntN.{pos}
+use Prim.Native.Nat.{ℕ, _≤_, _<_}
+use lib.IntN.{ℤ, pos, negsuc, natAbs}
+use lib.Signed.{_≤ℤ_}
 use Rattle.whole.specs.Lists.{Every}
+use Rattle.whole.proofs.Parts.{le-at}
 use Rattle.page.specs.declared.Writing.{Writing}
 use Rattle.page.specs.Writing.{writing, bufferAfter}
+use Rattle.building.specs.declared.Building.{Building}
 use Rattle.entry.specs.declared.Wind.{Wind}
 use Rattle.job.specs.Carried.{Carried}
 use Rattle.job.specs.InOrder.{InOrder, WindInOrder}
@@ -118,16 +121,24 @@ reported-unique c before {after′ = after′} {w′ = w′} h k =
 included : {X : Type 0} {xs ys : List X} → Includes ys xs → AllIn _≡_ xs ys
 included h x m = (x, h x m, refl)
 
+-- speeds are above 0, so that no lower is no smaller
+no-smaller : (a b : ℤ) → pos 1 ≤ℤ a → a ≤ℤ b → (0 < natAbs a) × (natAbs a ≤ natAbs b)
+no-smaller (pos m) (pos n) h k = (omega (arith, le-at _ _ h), omega (arith, le-at _ _ k))
+no-smaller (pos m) (negsuc n) h k = absurd (k .le)
+no-smaller (negsuc m) b h k = absurd (h .le)
+
 -- each wind has its faster one in its own place
-raised : (ws vs : List Wind) → Every WindInOrder ws → Raised ws vs → AllIn Faster ws vs
-raised [] [] o r x m = absurd (List·Memᴰ·not-nil m)
-raised [] (v ∷ vs) o r x m = absurd r
-raised (w ∷ ws) [] o r x m = absurd r
-raised (w ∷ ws) (v ∷ vs) o r x m =
+raised : (g : Building) (ws vs : List Wind) → Every (WindInOrder g) ws → Raised ws vs → AllIn Faster ws vs
+raised g [] [] o r x m = absurd (List·Memᴰ·not-nil m)
+raised g [] (v ∷ vs) o r x m = absurd r
+raised g (w ∷ ws) [] o r x m = absurd r
+raised g (w ∷ ws) (v ∷ vs) o r x m =
     ⊎-elim
-    (λ e. let f : Faster w v = record { direction = r .0; some = omega (arith, o .0 .speed .low); risen = r .1 } in
+    (λ e.
+    let t = no-smaller (w .speed) (v .speed) (o .0 .least-speed) (r .1) in
+    let f : Faster w v = record { direction = r .0; some = t .0; risen = t .1 } in
     (v, List·Memᴰ·head refl, subst (λ (u : Wind). Faster u v) (sym e) f))
-    (λ n. let t = raised ws vs (o .1) (r .2) x n in (t .0, List·Memᴰ·tail (t .1), t .2))
+    (λ n. let t = raised g ws vs (o .1) (r .2) x n in (t .0, List·Memᴰ·tail (t .1), t .2))
     (List·Memᴰ·cases-cons m)
 
 module _ {c d : Carried} (o : InOrder c) (p : InOrder d) (axis : Axis) (side : Side) where
@@ -138,5 +149,5 @@ module _ {c d : Carried} (o : InOrder c) (p : InOrder d) (axis : Axis) (side : S
   pub faster-no-less : faster.Faster c d → Within side (pos 0) (extreme axis side c .total)
       → Within side (extreme axis side c .total) (extreme axis side d .total)
   faster-no-less m =
-      extreme-faster c d (m .building) (m .faces) o p (raised (c .winds) (d .winds) (o .winds) (m .winds))
+      extreme-faster c d (m .building) (m .faces) o p (raised (c .building) (c .winds) (d .winds) (o .winds) (m .winds))
       (λ x n. (x, subst (List·Memᴰ x) (m .internals) n, refl)) axis side

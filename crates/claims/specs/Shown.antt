@@ -1,7 +1,8 @@
 -- What may be shown for a job on one axis and one side, and how two jobs compare.
 use mathlib.Core.Path.{_≡_}
 use mathlib.Core.List.{List, [], _∷_, List·Memᴰ}
-use Prim.Native.Nat.{ℕ, _≤_}
+use Prim.Native.Nat.{ℕ}
+use lib.Signed.{_≤ℤ_}
 use lib.ListN.{length}
 use Rattle.page.specs.declared.Writing.{Writing}
 use Rattle.entry.specs.declared.Wind.{Wind}
@@ -83,7 +84,7 @@ abbrev pub Raised : List Wind → List Wind → Type 0
 Raised [] [] = Unit
 Raised [] (v ∷ vs) = ⊥
 Raised (w ∷ ws) [] = ⊥
-Raised (w ∷ ws) (v ∷ vs) = (w .direction ≡ v .direction) × (w .speed ≤ v .speed) × Raised ws vs
+Raised (w ∷ ws) (v ∷ vs) = (w .direction ≡ v .direction) × (w .speed ≤ℤ v .speed) × Raised ws vs
 
 -- only speeds change from c to d, and none is lowered
 pub record Faster (c d : Carried) : Type 0 where

@@ -1,5 +1,6 @@
 -- What a field says, as a number, a letter or a mark; and what the fields of a line say, as an entry.
 use Prim.Native.Nat.{ℕ}
+use mathlib.Core.Bool.{Bool, true, false, cond}
 use mathlib.Core.List.{List}
 use lib.ListN.{getD}
 use lib.IntN.{ℤ, pos, negℤ}
@@ -10,8 +11,8 @@ use Rattle.entry.specs.declared.Wind.{Wind}
 use Rattle.entry.specs.declared.Face.{Face}
 
 -- a mark that stands for both directions
-abbrev pub both : ℕ
-both = 4294967295
+abbrev pub both : ℤ
+both = pos 4294967295
 
 abbrev pub number : Field → ℤ
 number (Plus m) = pos m
@@ -20,6 +21,7 @@ number (Letter b) = pos 0
 number Dash = pos 0
 number Bad = pos 0
 
+-- a count, which has no sign
 abbrev pub size : Field → ℕ
 size (Plus m) = m
 size (Minus m) = m
@@ -34,12 +36,15 @@ letter (Minus m) = 0
 letter Dash = 0
 letter Bad = 0
 
-abbrev pub mark : Field → ℕ
-mark Dash = both
-mark (Plus m) = m
-mark (Minus m) = m
-mark (Letter b) = 0
-mark Bad = 0
+abbrev pub isDash : Field → Bool
+isDash Dash = true
+isDash (Plus m) = false
+isDash (Minus m) = false
+isDash (Letter b) = false
+isDash Bad = false
+
+abbrev pub mark : Field → ℤ
+mark f = cond (isDash f) both (number f)
 
 abbrev pub at : List Field → ℕ → Field
 at fs i = getD fs i Bad
@@ -49,7 +54,7 @@ buildingOf fs =
     record { h = number (at fs 0); a = number (at fs 1); b = number (at fs 2); density = number (at fs 3); kind = number (at fs 4); x = number (at fs 5) }
 
 abbrev pub windOf : List Field → Wind
-windOf fs = record { direction = size (at fs 0); speed = size (at fs 1) }
+windOf fs = record { direction = number (at fs 0); speed = number (at fs 1) }
 
 abbrev pub internalOf : List Field → ℤ
 internalOf fs = number (at fs 0)

@@ -1,20 +1,21 @@
 // The entries of a sheet beside the building, as records; and what the fields of a line say as an entry.
+// Numbers have 64 bits, so that no number of a host program is cut.
 pub mod says;
 
 // A wind: its direction in degrees and its speed in 0.1 m/s.
 pub struct Wind {
-    pub direction: u32,
-    pub speed: u32,
+    pub direction: i64,
+    pub speed: i64,
 }
 
 // A face: its zone's letter, the direction that it is marked for, and its projected areas in dm².
 pub struct Face {
     pub zone: u8,
-    pub mark: u32,
+    pub mark: i64,
     pub x: i64,
     pub y: i64,
     pub z: i64,
 }
 
 // The mark of a face that stands for both directions: no sheet can carry this number.
-pub const BOTH: u32 = 4294967295;
+pub const BOTH: i64 = 4294967295;

@@ -7,9 +7,9 @@ use form::Field;
 use lines::Line;
 ghost use mathlib.Core.Path.{_≡_};
 ghost use Rattle.lines.specs.Held.{held};
-ghost use Rattle.entry.specs.Says.{number, size, letter, mark, at, buildingOf, windOf, internalOf, faceOf};
+ghost use Rattle.entry.specs.Says.{number, size, letter, isDash, mark, at, buildingOf, windOf, internalOf, faceOf};
 
-pub(crate) fn number_of(f: Field) -> i64
+pub fn number_of(f: Field) -> i64
     ensures { λ r. ⌜ r ≡ number f ⌝ }
 {
     match f {
@@ -21,6 +21,7 @@ pub(crate) fn number_of(f: Field) -> i64
     }
 }
 
+// A count, which has no sign.
 pub fn size_of(f: Field) -> u32
     ensures { λ r. ⌜ r ≡ size f ⌝ }
 {
@@ -33,7 +34,7 @@ pub fn size_of(f: Field) -> u32
     }
 }
 
-pub(crate) fn letter_of(f: Field) -> u8
+pub fn letter_of(f: Field) -> u8
     ensures { λ r. ⌜ r ≡ letter f ⌝ }
 {
     match f {
@@ -45,16 +46,25 @@ pub(crate) fn letter_of(f: Field) -> u8
     }
 }
 
-pub(crate) fn mark_of(f: Field) -> u32
-    ensures { λ r. ⌜ r ≡ mark f ⌝ }
+pub fn is_dash(f: Field) -> bool
+    ensures { λ r. ⌜ r ≡ isDash f ⌝ }
 {
     match f {
-        Field::Dash => BOTH,
-        Field::Plus(m) => m,
-        Field::Minus(m) => m,
-        Field::Letter(_) => 0,
-        Field::Bad => 0,
+        Field::Dash => true,
+        Field::Plus(_) => false,
+        Field::Minus(_) => false,
+        Field::Letter(_) => false,
+        Field::Bad => false,
     }
+}
+
+pub(crate) fn mark_of(f: Field) -> i64
+    ensures { λ r. ⌜ r ≡ mark f ⌝ }
+{
+    if is_dash(f) {
+        return BOTH;
+    }
+    number_of(f)
 }
 
 // ---- a line
@@ -65,19 +75,13 @@ fn number_at(x: Line, i: usize) -> i64
     number_of(lines::field_at(x, i))
 }
 
-fn size_at(x: Line, i: usize) -> u32
-    ensures { λ r. ⌜ r ≡ size (at (held x) i) ⌝ }
-{
-    size_of(lines::field_at(x, i))
-}
-
 fn letter_at(x: Line, i: usize) -> u8
     ensures { λ r. ⌜ r ≡ letter (at (held x) i) ⌝ }
 {
     letter_of(lines::field_at(x, i))
 }
 
-fn mark_at(x: Line, i: usize) -> u32
+fn mark_at(x: Line, i: usize) -> i64
     ensures { λ r. ⌜ r ≡ mark (at (held x) i) ⌝ }
 {
     mark_of(lines::field_at(x, i))
@@ -100,8 +104,8 @@ pub fn wind_of(x: Line) -> Wind
     ensures { λ r. ⌜ r ≡ windOf (held x) ⌝ }
 {
     Wind {
-        direction: size_at(x, 0),
-        speed: size_at(x, 1),
+        direction: number_at(x, 0),
+        speed: number_at(x, 1),
     }
 }
 

@@ -8,7 +8,7 @@ use lines::Line;
 use lines::Slot;
 ghost use mathlib.Core.Path.{_≡_};
 ghost use Rattle.lines.specs.Held.{slot, lineOf};
-ghost use Rattle.fields.specs.Fields.{naturalField, numberField, markField, buildingFields, windFields, internalFields, faceFields};
+ghost use Rattle.fields.specs.Fields.{numberField, markField, buildingFields, windFields, internalFields, faceFields};
 
 fn slot(f: Field) -> Slot
     ensures { λ r. ⌜ r ≡ slot f ⌝ }
@@ -16,35 +16,26 @@ fn slot(f: Field) -> Slot
     Slot { field: f }
 }
 
-fn natural_slot(n: u32) -> Slot
-    ensures { λ r. ⌜ r ≡ slot (naturalField n) ⌝ }
-{
-    if n <= 9999999 {
-        return slot(Field::Plus(n));
-    }
-    slot(Field::Bad)
-}
-
 fn number_slot(z: i64) -> Slot
     ensures { λ r. ⌜ r ≡ slot (numberField z) ⌝ }
 {
-    let m = whole::magnitude(z);
-    if 9999999 < m {
+    if building::limits::too_long(z) {
         return slot(Field::Bad);
     }
+    let m = whole::magnitude(z);
     if z < 0 {
         return slot(Field::Minus(m as u32));
     }
     slot(Field::Plus(m as u32))
 }
 
-fn mark_slot(m: u32) -> Slot
-    ensures { λ r. ⌜ r ≡ slot (markField m) ⌝ }
+fn mark_slot(z: i64) -> Slot
+    ensures { λ r. ⌜ r ≡ slot (markField z) ⌝ }
 {
-    if m == BOTH {
+    if z == BOTH {
         return slot(Field::Dash);
     }
-    natural_slot(m)
+    number_slot(z)
 }
 
 pub fn building_line(g: Building) -> Line
@@ -70,8 +61,8 @@ pub fn wind_line(w: Wind) -> Line
 {
     let no = slot(Field::Bad);
     let fields = [
-        natural_slot(w.direction),
-        natural_slot(w.speed),
+        number_slot(w.direction),
+        number_slot(w.speed),
         no,
         no,
         no,

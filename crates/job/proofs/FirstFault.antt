@@ -23,7 +23,7 @@ none-left c (suc i) m f = f
 -- a line in order, and the rest
 module _ (k : Kind) (ks : List Kind) (c : Carried) (line : ℕ) (x : List Field) (xs : List (List Field)) (z : lineFault k (c .building) x ≡ 0) where
   none-here : (m : ℕ) → 0 < m → HasFault m (c .building) x k → ⊥
-  none-here m h f = omega (arith, fault-lowest m k (c .building) x h f .0)
+  none-here m h f = omega (arith, fault-lowest k (c .building) x f .0)
 
   later : (r : Reading) → Answers (calls k x ++ ks) (learn k x c) xs (line + 1) r → Answers (k ∷ ks) c (x ∷ xs) line r
   later r (in-order d none) = in-order d go
@@ -58,7 +58,7 @@ walk-answers (k ∷ ks) c line (x ∷ xs) =
     (λ e.
     let p : 0 < n = omega (arith, eqb-false n 0 e) in
     rw e (at-once (k ∷ ks) c line (x ∷ xs) n p (fault-has k (c .building) x p)
-    (λ m y h f. omega (arith, fault-lowest m k (c .building) x y f .1))))
+    (λ m y h f. omega (arith, fault-lowest k (c .building) x f .1))))
 
 -- the answer to lines is their first fault
 pub lines-answer : (xs : List (List Field)) → Answers sheet nothing xs 1 (readLines xs)

@@ -1,77 +1,83 @@
 -- Lines that are accepted hold at least one field each, and every field is in form: `lines` gives them back from their text, and their text from them.
-use Prim.Native.Nat.{ℕ, _+_, _<_, _^_}
-use mathlib.Core.Path.{_≡_}
-use mathlib.Core.Logic.{inl, inr}
+use Prim.Native.Nat.{ℕ, zero, suc, _+_, _≤_, _<_, _^_}
+use mathlib.Core.Path.{_≡_, subst, sym}
+use mathlib.Core.Bool.{false, not}
 use mathlib.Core.List.{List, [], _∷_, _++_}
-use mathlib.Core.Bool.{Bool, true}
 use native.Mathlib.Omega.{arith}
 use lib.ListN.{length}
-use lib.Dec.{T, leb, leb→le}
+use borrow.Author.Tests.{not-false}
 use Rattle.whole.specs.Lists.{Every}
 use Rattle.whole.proofs.Lists.{every-by}
-use Rattle.whole.proofs.Table.{both, both-left, both-right, all}
 use Rattle.form.specs.declared.Field.{Field}
 use Rattle.form.specs.declared.Field.the-variants.{Bad, Plus, Minus, Letter, Dash}
 use Rattle.lines.specs.Lines.{NotBad, InForm, LinesInForm}
-use Rattle.rules.specs.declared.Rule.{Rule}
-use Rattle.rules.specs.declared.Rule.the-variants.{LetterFrom, NumberFrom, SizeTo, Direction, Mark}
+use Rattle.building.specs.declared.Building.{Building}
+use Rattle.building.specs.Places.{A, H}
+use Rattle.building.specs.Test.{among}
+use Rattle.building.proofs.Places.{among-yes}
+use Rattle.rules.specs.declared.FieldForm.the-variants.{Number, Mark}
+use Rattle.rules.specs.declared.Section.{Section}
 use Rattle.rules.specs.declared.Section.the-variants.{B, W, I, F}
 use Rattle.rules.specs.declared.Kind.{Kind}
 use Rattle.rules.specs.declared.Kind.the-variants.{Count, Entry}
 use Rattle.job.specs.Carried.{Carried, nothing}
-use Rattle.rules.specs.Sections.{rules}
+use Rattle.entry.specs.Says as say
+use Rattle.entry.specs.Says.{at}
+use Rattle.rules.specs.Form.{numbers}
+use Rattle.rules.specs.Sections.{about, forms, lineFault}
 use Rattle.job.specs.Walk.{calls, learn, Accepted, walk, sheet, readLines}
-use Rattle.rules.proofs.Rules as rule
-use Rattle.rules.proofs.Rules.{Says, AllSay, none, more, Angle}
-use Rattle.job.proofs.Walk.{accepted-line, accepted-next, accepted-no-more, line-says}
+use Rattle.rules.proofs.Form.{Formed, letter, plus, minus, dash, mark, AllFormed, none, more}
+use Rattle.rules.proofs.Line.{in-order}
+use Rattle.job.proofs.Walk.{accepted-line, accepted-next, accepted-no-more}
+use Rattle.job.proofs.Sections.{countLine, count-says}
+use Rattle.job.proofs.Alone.{most-24}
 
--- a rule that lets only capital letters and numbers of at most 7 digits pass
-abbrev keeps : Rule → Bool
-keeps (LetterFrom lo hi) = both (leb 65 lo) (leb hi 90)
-keeps (NumberFrom n lo hi) = leb hi 9999999
-keeps (SizeTo n most) = leb most 9999999
-keeps Direction = true
-keeps Mark = true
+-- a line of at least one field, each in form
+abbrev LineInForm : List Field → Type 0
+LineInForm x = (0 < length x) × Every InForm x
 
-rules-keep : (k : Kind) → T (all keeps (rules k)) × (0 < length (rules k))
-rules-keep (Count B) = (tt, omega arith)
-rules-keep (Count W) = (tt, omega arith)
-rules-keep (Count I) = (tt, omega arith)
-rules-keep (Count F) = (tt, omega arith)
-rules-keep (Entry B) = (tt, omega arith)
-rules-keep (Entry W) = (tt, omega arith)
-rules-keep (Entry I) = (tt, omega arith)
-rules-keep (Entry F) = (tt, omega arith)
+number-form : {f : Field} → Formed Number f → InForm f
+number-form (plus h) = omega arith
+number-form (minus p h) = (p, omega arith)
 
-angle-form : (m : ℕ) → Angle m → m < 10 ^ 7
-angle-form m (inl e) = omega arith
-angle-form m (inr e) = omega arith
+numbers-form : (n : ℕ) {fs : List Field} → AllFormed (numbers n) fs → Every InForm fs
+numbers-form zero none = tt
+numbers-form (suc n) (more h a) = (number-form h, numbers-form n a)
 
-field-form : {r : Rule} {f : Field} → T (keeps r) → Says r f → InForm f
-field-form t (rule.letter {lo = lo} {hi = hi} h k) =
-    (omega (arith, leb→le 65 lo (both-left (leb 65 lo) (leb hi 90) t)), omega (arith, leb→le hi 90 (both-right (leb 65 lo) (leb hi 90) t)))
-field-form t (rule.number {hi = hi} h k) = omega (arith, leb→le hi 9999999 t)
-field-form t (rule.plus {most = most} h) = omega (arith, leb→le most 9999999 t)
-field-form t (rule.minus {most = most} p h) = (p, omega (arith, leb→le most 9999999 t))
-field-form t (rule.direction {m = m} a) = angle-form m a
-field-form t (rule.mark {m = m} a) = angle-form m a
-field-form t rule.dash = tt
+mark-form : {f : Field} → Formed Mark f → InForm f
+mark-form dash = tt
+mark-form (mark h) = number-form h
 
-fields-form : {rs : List Rule} {fs : List Field} → T (all keeps rs) → AllSay rs fs → Every InForm fs
-fields-form t none = tt
-fields-form t (more {r = r} {rs = rs} s a) = (field-form (both-left (keeps r) (all keeps rs) t) s, fields-form (both-right (keeps r) (all keeps rs) t) a)
+face-form : {x : List Field} → AllFormed (forms (Entry F)) x → not (among A H (say.letter (at x 0))) ≡ false → LineInForm x
+face-form (more (letter {b = b}) (more m a)) e =
+    let t = among-yes A H b (not-false _ e) in
+    (omega arith, ((t .0, omega (arith, t .1)), (mark-form m, numbers-form 3 a)))
 
-fields-some : {rs : List Rule} {fs : List Field} → 0 < length rs → AllSay rs fs → 0 < length fs
-fields-some h none = h
-fields-some h (more s a) = omega arith
+some-number : (n : ℕ) {fs : List Field} → AllFormed (numbers (suc n)) fs → LineInForm fs
+some-number n (more h a) = (omega arith, numbers-form (suc n) (more h a))
+
+letter-form : (s : Section) → InForm (Letter (about s .letter))
+letter-form B = (omega arith, omega arith)
+letter-form W = (omega arith, omega arith)
+letter-form I = (omega arith, omega arith)
+letter-form F = (omega arith, omega arith)
+
+line-form : (k : Kind) (g : Building) (x : List Field) → lineFault k g x ≡ 0 → LineInForm x
+line-form (Count s) g x z =
+    let t = count-says s g x z in
+    subst LineInForm (sym (t .is)) (omega arith, (letter-form s, (omega (arith, t .counted .high, most-24 s), tt)))
+line-form (Entry B) g x z = some-number 5 (in-order (Entry B) g x z .formed)
+line-form (Entry W) g x z = some-number 1 (in-order (Entry W) g x z .formed)
+line-form (Entry I) g x z = some-number 0 (in-order (Entry I) g x z .formed)
+line-form (Entry F) g x z = let o = in-order (Entry F) g x z in face-form (o .formed) (o .none .0)
 
 walk-form : (ks : List Kind) (c e : Carried) (line : ℕ) (xs : List (List Field)) → walk ks c line xs ≡ Accepted e → LinesInForm xs
 walk-form ks c e line [] a = tt
 walk-form [] c e line (x ∷ xs) a = absurd (accepted-no-more c e line x xs a)
-walk-form (k ∷ ks) c e line (x ∷ xs) a =
-    let s = line-says k (c .building) x (accepted-line k ks c line x xs a) in
-    let t = rules-keep k in
-    ((fields-some (t .1) s, fields-form (t .0) s), walk-form (calls k x ++ ks) (learn k x c) e (line + 1) xs (accepted-next k ks c line x xs a))
+walk-form (k ∷ ks) c e line (x ∷ xs) a = (
+  line-form k (c .building) x (accepted-line k ks c line x xs a),
+  walk-form (calls k x ++ ks) (learn k x c) e (line + 1) xs (accepted-next k ks c line x xs a),
+)
 
 pub accepted-in-form : (xs : List (List Field)) (c : Carried) → readLines xs ≡ Accepted c → LinesInForm xs
 unfolding readLines

@@ -1,59 +1,94 @@
 -- Lines are accepted exactly if what they carry is in order.
-use Prim.Native.Nat.{ℕ, suc, _≤_}
+use Prim.Native.Nat.{ℕ, _≤_}
 use mathlib.Core.Path.{_≡_, refl, ap, _∙_, sym, subst}
-use mathlib.Core.Logic.{_⊎_, inl, inr}
+use mathlib.Core.Logic.{_⊎_, ⊎-elim, inl, inr}
 use mathlib.Core.List.{List, [], map}
-use mathlib.Core.Bool.{true}
+use mathlib.Core.Bool.{true, false, not, _||_}
 use native.Mathlib.Omega.{arith}
 use lib.ListN.{length, length-map}
-use lib.IntN.{ℤ, pos, negsuc, natAbs}
+use lib.IntN.{ℤ, pos, natAbs}
+use borrow.Author.Tests.{le-leb, not-false}
 use Rattle.whole.specs.Lists.{Every}
 use Rattle.whole.proofs.Lists.{every-by, map-every, every-at}
-use Rattle.whole.proofs.Size.{natAbs-neg}
+use Rattle.whole.proofs.Tests.{by-test, or-true}
 use Rattle.form.specs.declared.Field.{Field}
 use Rattle.building.specs.declared.Building.{Building}
-use Rattle.building.specs.Places.{zoneOn}
-use Rattle.rules.specs.declared.Rule.the-variants.{NumberFrom, SizeTo, Direction, Mark}
+use Rattle.building.specs.Test.{is, tooLong}
+use Rattle.building.specs.Fault.{Fault}
+use Rattle.building.specs.Building.{faults, buildingFault}
+use Rattle.building.specs.Places.{A, H, knows}
+use Rattle.building.proofs.Accepted.{within, given-none}
+use Rattle.building.proofs.Machine.{is-same}
+use Rattle.building.proofs.Places.{among-yes, known-within}
+use Rattle.building.proofs.Ranges.{not-beyond, is-within, not-larger, is-small}
 use Rattle.rules.specs.declared.Section.{Section}
 use Rattle.rules.specs.declared.Section.the-variants.{B, W, I, F}
 use Rattle.rules.specs.declared.Kind.the-variants.{Entry}
 use Rattle.entry.specs.declared.Wind.{Wind}
 use Rattle.entry.specs.declared.Face.{Face}
 use Rattle.job.specs.Carried.{Carried}
-use Rattle.entry.specs.Says.{number, mark, both, at, letter, buildingOf, windOf, internalOf, faceOf}
-use Rattle.rules.specs.Sections.{about, rules, lineFault}
-use Rattle.fields.specs.Fields.{naturalField, numberField, markField, buildingFields, windFields, internalFields, faceFields}
+use Rattle.entry.specs.Says.{both, buildingOf, windOf, internalOf, faceOf}
+use Rattle.rules.specs.Faults.{windFaults, faceFaults}
+use Rattle.rules.specs.Sections.{about, lineFault}
+use Rattle.rules.proofs.Rising.{found-none}
+use Rattle.rules.proofs.Line.{in-order}
+use Rattle.fields.specs.Fields.{buildingFields, windFields, internalFields, faceFields}
 use Rattle.job.specs.Lines.{entriesOf, linesOf}
 use Rattle.job.specs.Walk.{Accepted, readLines}
 use Rattle.job.specs.InOrder.{Within, WindInOrder, InternalInOrder, FaceInOrder, InOrder}
-use Rattle.rules.proofs.Rules as rule
-use Rattle.rules.proofs.Rules.{Says, AllSay, none, more, Angle, unless-none}
-use Rattle.job.proofs.Walk.{line-in-order, line-says, line-own, EntriesInOrder}
+use Rattle.job.proofs.Walk.{EntriesInOrder}
 use Rattle.job.proofs.Sheet.{saidBy, SheetInOrder, sheet-accepted, accepted-sheet}
-use Rattle.job.proofs.Lines.{natural-small, plus-small, minus-small, angle-small, building-back}
+use Rattle.job.proofs.Lines.{small-short, building-back}
 use Rattle.job.proofs.RoundTrip.{said-back}
-use Rattle.job.proofs.Written.{building-given}
+use Rattle.job.proofs.Written.{markTooLong, building-given, wind-given, internal-given, face-given}
 
--- ---- what an entry in order says is in order
+-- ---- an entry is in order exactly if none of its faults is found
 
-wind-said : {x : List Field} → AllSay (rules (Entry W)) x → WindInOrder (windOf x)
-wind-said (more (rule.direction a) (more (rule.number lo hi) none)) = record { direction = a; speed = record { low = lo; high = hi } }
+abbrev NoneFound : List Fault → Type 0
+NoneFound fs = Every (λ (f : Fault). f .found ≡ false) fs
 
-size-said : {n most : ℕ} {f : Field} → Says (SizeTo n most) f → natAbs (number f) ≤ most
-size-said (rule.plus h) = h
-size-said (rule.minus {m = m} p h) = omega (arith, natAbs-neg (pos m))
+module _ (g : Building) where
+  wind-sound : (w : Wind) → NoneFound (windFaults g w) → WindInOrder g w
+  wind-sound w n =
+      let t = not-beyond (pos 1) (pos 1000) (w .speed) (n .1 .0) in
+      record { direction = not-false _ (n .0); least-speed = t .0; greatest-speed = t .1 }
 
-internal-said : {x : List Field} → AllSay (rules (Entry I)) x → InternalInOrder (internalOf x)
-internal-said (more s none) = size-said s
+  pub wind-line : (x : List Field) → lineFault (Entry W) g x ≡ 0 → WindInOrder g (windOf x)
+  wind-line x z = wind-sound (windOf x) (in-order (Entry W) g x z .none)
 
-mark-said : {f : Field} → Says Mark f → (mark f ≡ 0) ⊎ ((mark f ≡ 90) ⊎ (mark f ≡ both))
-mark-said (rule.mark (inl e)) = inl e
-mark-said (rule.mark (inr e)) = inr (inl e)
-mark-said rule.dash = inr (inr refl)
+  pub internal-line : (x : List Field) → lineFault (Entry I) g x ≡ 0 → InternalInOrder (internalOf x)
+  internal-line x z = not-larger 100 (internalOf x) (in-order (Entry I) g x z .none .0)
 
-face-said : (g : Building) {x : List Field} → zoneOn (g .kind) (letter (at x 0)) ≡ true → AllSay (rules (Entry F)) x → FaceInOrder g (faceOf x)
-face-said g on (more (rule.letter lo hi) (more m (more a (more b (more d none))))) =
-    record { zone = record { low = lo; high = hi }; on = on; mark = mark-said m; x = size-said a; y = size-said b; z = size-said d }
+  wind-none : (w : Wind) → WindInOrder g w → NoneFound (windFaults g w)
+  wind-none w o = (ap not (o .direction), (is-within (pos 1) (pos 1000) (w .speed) (o .least-speed) (o .greatest-speed), tt))
+
+  face-sound : (f : Face) → NoneFound (faceFaults g f) → FaceInOrder g f
+  face-sound f n =
+      let t = among-yes A H (f .zone) (not-false _ (n .0)) in
+      record {
+        zone = record { low = t .0; high = t .1 };
+        on = not-false _ (n .1 .1 .1 .1 .1 .0);
+        mark = ⊎-elim (λ e. inl (is-same both (f .mark) e)) (λ e. inr e) (or-true (is both (f .mark)) _ (not-false _ (n .1 .0)));
+        x = not-larger 100000 (f .x) (n .1 .1 .0);
+        y = not-larger 100000 (f .y) (n .1 .1 .1 .0);
+        z = not-larger 100000 (f .z) (n .1 .1 .1 .1 .0);
+      }
+
+  pub face-line : (x : List Field) → lineFault (Entry F) g x ≡ 0 → FaceInOrder g (faceOf x)
+  face-line x z = face-sound (faceOf x) (in-order (Entry F) g x z .none)
+
+  marked : (z : ℤ) → (z ≡ both) ⊎ (knows (g .kind) z ≡ true) → not (is both z || knows (g .kind) z) ≡ false
+  marked z (inl e) = rw e
+  marked z (inr e) = by-test (is both z) (λ q. rw q) (λ q. rw (q, e))
+
+  face-none : (f : Face) → FaceInOrder g f → NoneFound (faceFaults g f)
+  face-none f o = (
+    rw (le-leb A (f .zone) (o .zone .low), le-leb (f .zone) H (o .zone .high)),
+    (
+      marked (f .mark) (o .mark),
+      (is-small 100000 (f .x) (o .x), (is-small 100000 (f .y) (o .y), (is-small 100000 (f .z) (o .z), (ap not (o .on), tt)))),
+    ),
+  )
 
 -- ---- accepted, so in order
 
@@ -67,19 +102,16 @@ module _ (es : Section → List (List Field)) (o : SheetInOrder es) where
   all-said : {A : Type 0} (P : A → Type 0) (s : Section) (of : List Field → A) → ((x : List Field) → lineFault (Entry s) g x ≡ 0 → P (of x)) → Every P (map of (es s))
   all-said P s of said = map-every P of (es s) (every-by said (es s) (o .entries s))
 
-  -- a zone that is not on the building would be 6
-  on-building : (x : List Field) → lineFault (Entry F) g x ≡ 0 → zoneOn (g .kind) (letter (at x 0)) ≡ true
-  on-building x z = unless-none 6 (zoneOn (g .kind) (letter (at x 0))) (omega arith) (line-own (Entry F) g x z)
-
   said-in-order : InOrder (saidBy es)
+  unfolding buildingFault
   said-in-order = record {
-    building = line-own (Entry B) g _ (every-at _ (es B) [] 0 (omega (arith, o .counted B .low)) (o .entries B));
+    building = found-none (faults g) (in-order (Entry B) g _ (every-at _ (es B) [] 0 (omega (arith, o .counted B .low)) (o .entries B)) .none);
     winds-counted = counted-map windOf (es W) (o .counted W);
-    winds = all-said WindInOrder W windOf (λ x z. wind-said (line-says (Entry W) g x z));
+    winds = all-said (WindInOrder g) W windOf (wind-line g);
     internals-counted = counted-map internalOf (es I) (o .counted I);
-    internals = all-said InternalInOrder I internalOf (λ x z. internal-said (line-says (Entry I) g x z));
+    internals = all-said InternalInOrder I internalOf (internal-line g);
     faces-counted = counted-map faceOf (es F) (o .counted F);
-    faces = all-said (FaceInOrder g) F faceOf (λ x z. face-said g (on-building x z) (line-says (Entry F) g x z));
+    faces = all-said (FaceInOrder g) F faceOf (face-line g);
   }
 
 pub accepted-in-order : (xs : List (List Field)) (c : Carried) → readLines xs ≡ Accepted c → InOrder c
@@ -89,45 +121,41 @@ accepted-in-order xs c a =
 
 -- ---- in order, so accepted
 
--- the fields of values in order
-number-says : {n : ℕ} (most : ℕ) (z : ℤ) → most ≤ 9999999 → natAbs z ≤ most → Says (SizeTo n most) (numberField z)
-number-says most (pos m) h k = rw (plus-small m (omega arith)) (rule.plus k)
-number-says most (negsuc m) h k = rw (minus-small (suc m) (omega arith) (omega arith)) (rule.minus {m = suc m} (omega arith) k)
+-- an entry in order has no number that is too long
+known-short : (kind z : ℤ) → knows kind z ≡ true → tooLong z ≡ false
+known-short kind z e = small-short z (omega (arith, known-within kind z e .to))
 
-direction-says : (m : ℕ) → Angle m → Says Direction (naturalField m)
-direction-says m a = rw (natural-small m (omega (arith, angle-small m a))) (rule.direction a)
+module _ (g : Building) where
+  wind-entry : (w : Wind) → WindInOrder g w → lineFault (Entry W) g (windFields w) ≡ 0
+  wind-entry w o =
+      let v = within 1 1000 (w .speed) (is-within (pos 1) (pos 1000) (w .speed) (o .least-speed) (o .greatest-speed)) in
+      wind-given g w
+      ∙ rw (known-short (g .kind) (w .direction) (o .direction), small-short (w .speed) (omega (arith, v .to)))
+      (found-none (windFaults g w) (wind-none g w o))
 
-natural-says : {n lo hi : ℕ} (m : ℕ) → hi ≤ 9999999 → Within lo hi m → Says (NumberFrom n lo hi) (naturalField m)
-natural-says m h w = rw (natural-small m (omega (arith, w .high))) (rule.number (w .low) (w .high))
+  internal-entry : (z : ℤ) → InternalInOrder z → lineFault (Entry I) g (internalFields z) ≡ 0
+  internal-entry z h = internal-given g z ∙ rw (small-short z (omega arith), is-small 100 z h)
 
-wind-says : (w : Wind) → WindInOrder w → AllSay (rules (Entry W)) (windFields w)
-wind-says w o = more (direction-says (w .direction) (o .direction)) (more (natural-says (w .speed) (omega arith) (o .speed)) none)
+  mark-short : (z : ℤ) → (z ≡ both) ⊎ (knows (g .kind) z ≡ true) → markTooLong z ≡ false
+  mark-short z (inl e) = rw e
+  mark-short z (inr e) = by-test (is both z) (λ q. rw q) (λ q. rw (q, known-short (g .kind) z e))
 
-mark-says : (m : ℕ) → (m ≡ 0) ⊎ ((m ≡ 90) ⊎ (m ≡ both)) → Says Mark (markField m)
-unfolding markField naturalField
-mark-says m (inl e) = rw e (rule.mark (inl refl))
-mark-says m (inr (inl e)) = rw e (rule.mark (inr refl))
-mark-says m (inr (inr e)) = rw e rule.dash
-
-face-says : (g : Building) (f : Face) → FaceInOrder g f → AllSay (rules (Entry F)) (faceFields f)
-face-says g f o =
-    more (rule.letter (o .zone .low) (o .zone .high))
-    (more (mark-says (f .mark) (o .mark))
-    (more (number-says 100000 (f .x) (omega arith) (o .x))
-    (more (number-says 100000 (f .y) (omega arith) (o .y)) (more (number-says 100000 (f .z) (omega arith) (o .z)) none))))
-
--- the entries of what is in order
-face-entry : (g : Building) (f : Face) → FaceInOrder g f → lineFault (Entry F) g (faceFields f) ≡ 0
-face-entry g f o = line-in-order (Entry F) g (faceFields f) (face-says g f o) (rw (o .on))
+  face-entry : (f : Face) → FaceInOrder g f → lineFault (Entry F) g (faceFields f) ≡ 0
+  face-entry f o =
+      face-given g f
+      ∙ rw (
+        mark-short (f .mark) (o .mark),
+        small-short (f .x) (omega (arith, o .x)),
+        small-short (f .y) (omega (arith, o .y)),
+        small-short (f .z) (omega (arith, o .z)),
+      )
+      (found-none (faceFaults g f) (face-none g f o))
 
 module _ (c : Carried) (o : InOrder c) where
   entries-in-order : (e : Building) → e ≡ c .building → (s : Section) → EntriesInOrder s e (entriesOf c s)
-  entries-in-order e q B = (sym (building-given (c .building) e) ∙ o .building, tt)
-  entries-in-order e q W =
-      map-every _ windFields (c .winds) (every-by (λ w h. line-in-order (Entry W) e (windFields w) (wind-says w h) refl) (c .winds) (o .winds))
-  entries-in-order e q I =
-      map-every _ internalFields (c .internals)
-      (every-by (λ z h. line-in-order (Entry I) e (internalFields z) (more (number-says 100 z (omega arith) h) none) refl) (c .internals) (o .internals))
+  entries-in-order e q B = (sym (building-given (c .building) e) ∙ given-none (c .building) (o .building), tt)
+  entries-in-order e q W = rw q (map-every _ windFields (c .winds) (every-by (wind-entry (c .building)) (c .winds) (o .winds)))
+  entries-in-order e q I = map-every _ internalFields (c .internals) (every-by (internal-entry e) (c .internals) (o .internals))
   entries-in-order e q F = rw q (map-every _ faceFields (c .faces) (every-by (face-entry (c .building)) (c .faces) (o .faces)))
 
   counted : (s : Section) → Within (about s .least) (about s .most) (length (entriesOf c s))
@@ -139,7 +167,7 @@ module _ (c : Carried) (o : InOrder c) where
   sheet-sound : SheetInOrder (entriesOf c)
   sheet-sound =
       let g = c .building in
-      let q = building-back g (line-says (Entry B) g (buildingFields g) (sym (building-given g g) ∙ o .building)) in
+      let q = building-back g (in-order (Entry B) g (buildingFields g) (sym (building-given g g) ∙ given-none g (o .building)) .formed) in
       record { counted = counted; entries = entries-in-order (buildingOf (buildingFields g)) q }
 
 pub in-order-accepted : (c : Carried) → InOrder c → readLines (linesOf c) ≡ Accepted c

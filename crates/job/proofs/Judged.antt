@@ -18,8 +18,9 @@ use Rattle.job.specs.Carried.{Carried, carried}
 use Rattle.rules.specs.Sections.{lineFault}
 use Rattle.job.specs.Lines.{entriesOf, sectionOf, linesOf}
 use Rattle.job.specs.Walk.{entries, calls, learn, Reading, Accepted, Refused, verdict, walk, judged}
+use Rattle.rules.proofs.Line.{in-order}
 use Rattle.job.proofs.FirstFault.{walk-answers}
-use Rattle.job.proofs.Walk.{walk-on, walk-refused, line-says, EntriesInOrder, JudgesAs, entry-judges}
+use Rattle.job.proofs.Walk.{walk-on, walk-refused, EntriesInOrder, JudgesAs, entry-judges}
 use Rattle.job.proofs.Sections.{Counted, countLine, section-in-order}
 use Rattle.job.proofs.Sheet.{saidBy, before, later, behind, lineOf, Reached, Passed, reached-first, section-judged, passed, passed-last}
 use Rattle.job.proofs.Lines.{building-back}
@@ -99,7 +100,7 @@ module _ (j : Job) where
   module _ (b : by-itself B .number ≡ 0) where
     known : saidBy es .building ≡ j .building
     unfolding carried
-    known = building-back (j .building) (line-says (Entry B) _ _ (alone-in-order B (carried j) 1 (es B) b .1 .0))
+    known = building-back (j .building) (in-order (Entry B) _ _ (alone-in-order B (carried j) 1 (es B) b .1 .0) .formed)
 
     pub stops-at : (s : Section) → Reached es s → Faulty (by-itself s) → by-itself s ≡ verdict (judged j)
     stops-at s r = stops s r (λ x. section-judged es s x ∙ ap (λ (g : Building). lineFault (Entry s) g x) known)

@@ -1,5 +1,4 @@
 -- The laws: of the walk; that the answer is the first fault; what is accepted, written and read again; and of records.
-pub mod Building
 pub mod Lowest
 pub mod FirstFault
 pub mod Walk

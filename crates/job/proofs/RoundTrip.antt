@@ -12,30 +12,30 @@ use Rattle.rules.specs.declared.Kind.the-variants.{Entry}
 use Rattle.job.specs.declared.Job.{Job}
 use Rattle.job.specs.Carried.{Carried, carried}
 use Rattle.entry.specs.Says.{windOf, internalOf, faceOf}
-use Rattle.rules.specs.Sections.{rules}
+use Rattle.rules.specs.Sections.{forms}
 use Rattle.fields.specs.Fields.{windFields, internalFields, faceFields}
 use Rattle.job.specs.Lines.{entriesOf, sheetOf, linesOf}
 use Rattle.job.specs.Walk.{Accepted, readLines, judged}
-use Rattle.rules.proofs.Rules.{AllSay}
-use Rattle.job.proofs.Walk.{line-says}
+use Rattle.rules.proofs.Form.{AllFormed}
+use Rattle.rules.proofs.Line.{in-order}
 use Rattle.job.proofs.Sheet.{saidBy, SheetInOrder, sheet-in-order, sheet-said, accepted-sheet}
 use Rattle.job.proofs.Lines.{building-again, wind-again, internal-again, face-again, building-back, wind-back, internal-back, face-back}
 
 module _ (es : Section → List (List Field)) (o : SheetInOrder es) where
-  -- the fields of the entries are in order
-  says : (s : Section) → Every (AllSay (rules (Entry s))) (es s)
-  says s = every-by (line-says (Entry s) (saidBy es .building)) (es s) (o .entries s)
+  -- the entries are in form
+  says : (s : Section) → Every (AllFormed (forms (Entry s))) (es s)
+  says s = every-by (λ x z. in-order (Entry s) (saidBy es .building) x z .formed) (es s) (o .entries s)
 
   -- ---- entries, read, and written again
 
-  all-again : {A : Type 0} (s : Section) (fields : A → List Field) (of : List Field → A) → ((x : List Field) → AllSay (rules (Entry s)) x → fields (of x) ≡ x)
+  all-again : {A : Type 0} (s : Section) (fields : A → List Field) (of : List Field → A) → ((x : List Field) → AllFormed (forms (Entry s)) x → fields (of x) ≡ x)
       → map fields (map of (es s)) ≡ es s
   all-again s fields of again = map-back of fields (es s) (every-by again (es s) (says s))
 
   entries-again : (s : Section) → entriesOf (saidBy es) s ≡ es s
   entries-again B =
       let one : length (es B) ≡ 1 = omega (arith, o .counted B .low, o .counted B .high) in
-      let a = every-at (AllSay (rules (Entry B))) (es B) [] 0 (omega arith) (says B) in
+      let a = every-at (AllFormed (forms (Entry B))) (es B) [] 0 (omega arith) (says B) in
       ap (λ (x : List Field). x ∷ []) (building-again a) ∙ sym (only-one (es B) [] one)
   entries-again W = all-again W windFields windOf (λ x a. wind-again a)
   entries-again I = all-again I internalFields internalOf (λ x a. internal-again a)
@@ -53,9 +53,9 @@ accepted-lines xs c a =
 -- ---- values, written, and read again
 
 module _ (d : Carried) (o : SheetInOrder (entriesOf d)) where
-  all-back : {A : Type 0} (s : Section) (fields : A → List Field) (of : List Field → A) → ((v : A) → AllSay (rules (Entry s)) (fields v) → of (fields v) ≡ v)
-      → (l : List A) → Every (AllSay (rules (Entry s))) (map fields l) → map of (map fields l) ≡ l
-  all-back s fields of back l a = map-back fields of l (every-by back l (every-map (AllSay (rules (Entry s))) fields l a))
+  all-back : {A : Type 0} (s : Section) (fields : A → List Field) (of : List Field → A) → ((v : A) → AllFormed (forms (Entry s)) (fields v) → of (fields v) ≡ v)
+      → (l : List A) → Every (AllFormed (forms (Entry s))) (map fields l) → map of (map fields l) ≡ l
+  all-back s fields of back l a = map-back fields of l (every-by back l (every-map (AllFormed (forms (Entry s))) fields l a))
 
   pub said-back : saidBy (entriesOf d) ≡ d
   said-back =

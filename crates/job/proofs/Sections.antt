@@ -1,22 +1,34 @@
 -- A section is accepted exactly if its count is within the limits and its entries are in order.
-use Prim.Native.Nat.{ℕ, _+_, _<_}
+use Prim.Native.Nat.{ℕ, zero, suc, _+_, _<_}
 use mathlib.Core.Path.{_≡_, refl, ap, _∙_, sym, subst}
 use mathlib.Core.List.{List, [], _∷_, _++_}
+use mathlib.Core.Bool.{false, not}
 use native.Mathlib.Omega.{arith}
+use lib.Dec.{eqb}
+use lib.IntN.{pos, negsuc}
+use lib.Signed.{_≤ℤ_}
 use lib.ListN.{length, getD, take}
+use borrow.Author.Tests.{eq-eqb, eqb-true, not-false}
+use Rattle.whole.proofs.Parts.{le-by}
 use Rattle.form.specs.declared.Field.{Field}
 use Rattle.form.specs.declared.Field.the-variants.{Plus, Letter}
 use Rattle.building.specs.declared.Building.{Building}
+use Rattle.building.specs.Test.{beyond}
+use Rattle.building.proofs.Accepted.{within}
+use Rattle.building.proofs.Ranges.{is-within}
 use Rattle.rules.specs.declared.Section.{Section}
 use Rattle.rules.specs.declared.Kind.{Kind}
 use Rattle.rules.specs.declared.Kind.the-variants.{Count, Entry}
 use Rattle.job.specs.Carried.{Carried}
-use Rattle.rules.specs.Sections.{about, rules, lineFault}
+use Rattle.entry.specs.Says as say
+use Rattle.entry.specs.Says.{number, at}
+use Rattle.rules.specs.Sections.{about, forms, lineFault}
 use Rattle.job.specs.Lines.{sectionOf}
 use Rattle.job.specs.Walk.{entries, Accepted, Refused, walk}
 use Rattle.job.specs.InOrder.{Within}
-use Rattle.rules.proofs.Rules.{AllSay, none, more, number, letter}
-use Rattle.job.proofs.Walk.{walk-on, walk-refused, entries-refused, accepted-line, accepted-next, accepted-some, line-in-order, line-says, learnAll, EntriesInOrder, entries-walk, entries-in-order, entries-there}
+use Rattle.rules.proofs.Form.{AllFormed, none, more, letter, count, count-below}
+use Rattle.rules.proofs.Line.{in-order, order-in}
+use Rattle.job.proofs.Walk.{walk-on, walk-refused, entries-refused, accepted-line, accepted-next, accepted-some, learnAll, EntriesInOrder, entries-walk, entries-in-order, entries-there}
 
 -- ---- the count of a section
 
@@ -29,22 +41,39 @@ countLine s n = Letter (about s .letter) ∷ Plus n ∷ []
 count-in-order : (s : Section) (g : Building) (n : ℕ) → Counted s n → lineFault (Count s) g (countLine s n) ≡ 0
 count-in-order s g n w =
     let l = about s .letter in
-    line-in-order (Count s) g (countLine s n) (more (letter {lo = l} {hi = l} {b = l} (omega arith) (omega arith)) (more (number (w .low) (w .high)) none)) refl
+    let low : pos (about s .least) ≤ℤ pos n = le-by _ _ (omega (arith, w .low)) in
+    let high : pos n ≤ℤ pos (about s .most) = le-by _ _ (omega (arith, w .high)) in
+    order-in (Count s) g (countLine s n)
+    (record {
+      formed = more letter (more count none);
+      none = (ap not (eq-eqb l l refl), (is-within (pos (about s .least)) (pos (about s .most)) (pos n) low high, tt));
+    })
 
 -- a count line in order is the letter and the count
-record CountLine (s : Section) (x : List Field) : Type 0 where
-  count : ℕ
-  is : x ≡ countLine s count
-  counted : Counted s count
+pub record CountLine (s : Section) (x : List Field) : Type 0 where
+  pub count : ℕ
+  pub is : x ≡ countLine s count
+  pub counted : Counted s count
 
-count-says : (s : Section) (x : List Field) → AllSay (rules (Count s)) x → CountLine s x
-count-says s x (more (letter {b = b} h k) (more (number {m = n} lo hi) none)) =
-    let q : b ≡ about s .letter = omega arith in
-    record { count = n; is = ap (λ (y : ℕ). Letter y ∷ Plus n ∷ []) q; counted = record { low = lo; high = hi } }
+count-of : (s : Section) {x : List Field} → AllFormed (forms (Count s)) x → not (eqb (say.letter (at x 0)) (about s .letter)) ≡ false
+    → beyond (pos (about s .least)) (pos (about s .most)) (number (at x 1)) ≡ false → CountLine s x
+count-of s (more (letter {b = b}) (more (count {m = n}) none)) e h =
+    let t = within (about s .least) (about s .most) (pos n) h in
+    record {
+      count = n;
+      is = ap (λ (y : ℕ). Letter y ∷ Plus n ∷ []) (eqb-true b (about s .letter) (not-false _ e));
+      counted = record { low = t .from; high = t .to };
+    }
+count-of s (more (letter {b = b}) (more (count-below {m = zero} p) none)) e h = absurd (omega arith)
+count-of s (more (letter {b = b}) (more (count-below {m = suc n} p) none)) e h =
+    absurd (let q : _≡_ {A = ℕ} 0 1 = cc (within (about s .least) (about s .most) (negsuc n) h .plain) in omega arith)
+
+pub count-says : (s : Section) (g : Building) (x : List Field) → lineFault (Count s) g x ≡ 0 → CountLine s x
+count-says s g x z = let o = in-order (Count s) g x z in count-of s (o .formed) (o .none .0) (o .none .1 .0)
 
 pub count-counted : (s : Section) (g : Building) (n : ℕ) → lineFault (Count s) g (countLine s n) ≡ 0 → Counted s n
 count-counted s g n z =
-    let t = count-says s (countLine s n) (line-says (Count s) g (countLine s n) z) in
+    let t = count-says s g (countLine s n) z in
     let e : n ≡ t .count = cc (t .is) in
     subst (Counted s) (sym e) (t .counted)
 
@@ -87,7 +116,7 @@ module _ (s : Section) (ks : List Kind) (c : Carried) (line : ℕ) where
     section-there : (xs : List (List Field)) → walk (Count s ∷ ks) c line xs ≡ Accepted e → Begun xs
     section-there [] a = absurd (accepted-some (Count s) ks c e line a)
     section-there (x ∷ xs) a =
-        let t = count-says s x (line-says (Count s) (c .building) x (accepted-line (Count s) ks c line x xs a)) in
+        let t = count-says s (c .building) x (accepted-line (Count s) ks c line x xs a) in
         let b : walk (entries s (t .count) ++ ks) c (line + 1) xs ≡ Accepted e = rw (t .is) at (accepted-next (Count s) ks c line x xs a) in
         let u = entries-there s ks (t .count) c e (line + 1) xs b in
         record { front = u .front; rest = u .rest; is = cc (t .is, u .is, u .many) }

@@ -16,10 +16,8 @@ use Rattle.rules.specs.declared.Section.the-variants.{B, W, I, F}
 use Rattle.rules.specs.declared.Kind.{Kind}
 use Rattle.rules.specs.declared.Kind.the-variants.{Entry}
 use Rattle.job.specs.Carried.{Carried}
-use Rattle.rules.specs.Rules.{fieldsFault}
-use Rattle.rules.specs.Sections.{rules, ownFault, lineFault}
+use Rattle.rules.specs.Sections.{lineFault}
 use Rattle.job.specs.Walk.{entries, calls, learn, Accepted, Refused, walk}
-use Rattle.rules.proofs.Rules.{AllSay, rules-name, fields-say, say-fields}
 
 -- ---- one line
 
@@ -51,24 +49,6 @@ accepted-no-more c e line x xs a = let z : _≡_ {A = ℕ} 0 1 = cc in omega ari
 pub accepted-end : (c e : Carried) (line : ℕ) (xs : List (List Field)) → walk [] c line xs ≡ Accepted e → xs ≡ []
 accepted-end c e line [] a = refl
 accepted-end c e line (x ∷ xs) a = absurd (accepted-no-more c e line x xs a)
-
--- a line in order: its fields are, and it has no fault of its own
-module _ (k : Kind) (g : Building) (x : List Field) where
-  pub line-in-order : AllSay (rules k) x → ownFault k g x ≡ 0 → lineFault k g x ≡ 0
-  unfolding lineFault
-  line-in-order a o = rw (eq-eqb _ _ (say-fields a)) o
-
-  line-parts : lineFault k g x ≡ 0 → (fieldsFault (rules k) x ≡ 0) × (ownFault k g x ≡ 0)
-  unfolding lineFault
-  line-parts z =
-      by-test (eqb (fieldsFault (rules k) x) 0) (λ e. (eqb-true _ _ e, rw e at z))
-      (λ e. absurd (eqb-false _ _ e (rw e at z)))
-
-  pub line-says : lineFault k g x ≡ 0 → AllSay (rules k) x
-  line-says z = fields-say (rules k) x (rules-name k) (line-parts z .0)
-
-  pub line-own : lineFault k g x ≡ 0 → ownFault k g x ≡ 0
-  line-own z = line-parts z .1
 
 -- ---- the entries of a section
 

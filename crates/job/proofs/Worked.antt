@@ -5,11 +5,11 @@ use mathlib.Core.List.{List, [], _∷_, _++_, map}
 use lib.ListN.{set, take}
 use Rattle.form.specs.declared.Field.{Field}
 use Rattle.form.specs.declared.Field.the-variants.{Bad, Plus, Minus, Letter, Dash}
-use Rattle.building.specs.Building.{buildingFault, outOfForm, outOfRange, outOfWalls, outOfRoof, tooLong}
+use Rattle.building.specs.Building.{outOfRange, outOfWalls, outOfRoof}
 use Rattle.building.specs.Roof.{roofOf}
 use Rattle.building.specs.Places.{zoneOn}
-use Rattle.building.specs.Test.{beyond}
-use Rattle.rules.specs.Rules.{fieldFault, lower, lowest, fieldsFault}
+use Rattle.building.specs.Test.{beyond, tooLong}
+use Rattle.rules.specs.Form.{hasForm, inForm}
 use Rattle.rules.specs.Sections.{lineFault}
 use Rattle.job.specs.Walk.{walk, verdict, readLines}
 
@@ -72,5 +72,5 @@ cases =
     ∷ []
 
 cases-right : map (λ c. verdict (readLines (c .lines))) cases ≡ map (λ c. record { number = c .number; line = c .line }) cases
-unfolding readLines walk lineFault fieldsFault lowest lower fieldFault buildingFault outOfForm outOfRange outOfWalls outOfRoof roofOf tooLong beyond zoneOn
+unfolding readLines walk lineFault inForm hasForm outOfRange outOfWalls outOfRoof roofOf tooLong beyond zoneOn
 cases-right = refl

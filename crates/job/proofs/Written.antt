@@ -1,133 +1,119 @@
--- The fault of a value or an entry of a record, as it would be written.
-use Prim.Native.Nat.{ℕ, suc, _≤_, _<_}
+-- The fault of an entry of a record, as it would be written: 1 where one of its numbers is too long, and else that of the entry itself.
+use Prim.Native.Nat.{ℕ, suc}
 use mathlib.Core.Path.{_≡_, refl, sym, ap, _∙_}
-use mathlib.Core.Bool.{Bool, true, false, cond, _&&_, _||_}
+use mathlib.Core.Bool.{Bool, true, false, cond, not, _&&_, _||_}
+use mathlib.Core.List.{List, [], _∷_}
+use lib.IntN.{ℤ, pos, negsuc}
 use native.Mathlib.Omega.{arith}
-use lib.IntN.{ℤ, pos, negsuc, natAbs}
-use lib.Dec.{leb, ltb, eqb}
-use borrow.Author.Tests.{le-leb, lt-leb, ne-eqb, ltb-true, ltb-false}
+use borrow.Author.Tests.{ne-eqb}
 use Rattle.whole.proofs.Tests.{by-test}
-use Rattle.form.specs.declared.Field.the-variants.{Bad, Plus, Letter}
+use Rattle.form.specs.declared.Field.{Field}
+use Rattle.form.specs.declared.Field.the-variants.{Letter}
 use Rattle.building.specs.declared.Building.{Building}
-use Rattle.building.specs.Building.{tooLong, outOfForm, buildingFault}
-use Rattle.rules.specs.declared.Rule.{Rule}
-use Rattle.rules.specs.declared.Rule.the-variants.{LetterFrom, NumberFrom, SizeTo, Direction, Mark}
-use Rattle.rules.specs.declared.Section.{Section}
-use Rattle.rules.specs.declared.Section.the-variants.{B}
-use Rattle.rules.specs.declared.Kind.the-variants.{Count, Entry}
-use Rattle.building.specs.Test.{unless}
-use Rattle.rules.specs.Rules.{fieldFault, lower, lowest, fieldsFault}
+use Rattle.building.specs.Test.{is, tooLong}
+use Rattle.building.specs.Fault.{first}
+use Rattle.building.specs.Building.{faults, outOfForm, buildingFault, givenFault}
+use Rattle.rules.specs.declared.FieldForm.the-variants.{Capital, Number, Mark}
+use Rattle.rules.specs.declared.Section.the-variants.{B, W, I, F}
+use Rattle.rules.specs.declared.Kind.{Kind}
+use Rattle.rules.specs.declared.Kind.the-variants.{Entry}
+use Rattle.entry.specs.declared.Wind.{Wind}
+use Rattle.entry.specs.declared.Face.{Face}
 use Rattle.entry.specs.Says.{both}
-use Rattle.rules.specs.Sections.{about, anyNumber, rules, lineFault}
-use Rattle.fields.specs.Fields.{naturalField, numberField, markField, buildingFields}
-use Rattle.rules.proofs.Rules.{rules-name, fields-say}
-use Rattle.rules.proofs.Parts.{fields-even, fault-fields, fault-own}
-use Rattle.rules.proofs.Lower.{fields-placed}
-use Rattle.job.proofs.Lines.{building-back}
-use Rattle.job.proofs.Sections.{countLine}
-use Rattle.fields.proofs.Slots.{natural-short, natural-long, mark-both, mark-one, number-long}
+use Rattle.rules.specs.Form.{isNumber, hasForm, inForm}
+use Rattle.rules.specs.Faults.{windFaults, internalFaults, faceFaults}
+use Rattle.rules.specs.Sections.{forms, faultsOf, lineFault}
+use Rattle.fields.specs.Fields.{signed, numberField, markField, buildingFields, windFields, internalFields, faceFields}
+use Rattle.rules.proofs.Form.{in-formed}
+use Rattle.rules.proofs.Line.{fault-out, fault-in}
+use Rattle.job.proofs.Lines.{signed-back, building-back, wind-back, internal-back, face-back}
 
--- ---- a value
+-- ---- the form of a value's field
 
--- no rule lets a field be out of form
-bad-fault : (r : Rule) → 1 ≡ fieldFault r Bad
-unfolding fieldFault
-bad-fault (LetterFrom lo hi) = refl
-bad-fault (NumberFrom n lo hi) = refl
-bad-fault (SizeTo n most) = refl
-bad-fault Direction = refl
-bad-fault Mark = refl
+signed-number : (z : ℤ) → isNumber (signed z) ≡ true
+signed-number (pos n) = refl
+signed-number (negsuc n) = ap not (ne-eqb (suc n) 0 (λ e. omega arith))
 
-module _ (n : ℕ) where
-  pub natural-too-long : (r : Rule) → 9999999 < n → 1 ≡ fieldFault r (naturalField n)
-  natural-too-long r h = bad-fault r ∙ ap (fieldFault r) (natural-long n h)
+number-form : (z : ℤ) → hasForm Number (numberField z) ≡ not (tooLong z)
+unfolding hasForm numberField
+number-form z = by-test (tooLong z) (λ e. rw e) (λ e. rw (e, signed-number z, signed-back z, e))
 
-  natural-in-form : (r : Rule) {v : ℕ} → n ≤ 9999999 → v ≡ fieldFault r (Plus n) → v ≡ fieldFault r (naturalField n)
-  natural-in-form r h e = e ∙ ap (fieldFault r) (natural-short n h)
+abbrev pub markTooLong : ℤ → Bool
+markTooLong z = not (is both z) && tooLong z
 
-  pub mark-both-fault : n ≡ both → 0 ≡ fieldFault Mark (markField n)
-  unfolding fieldFault
-  mark-both-fault h = ap (fieldFault Mark) (mark-both n h)
+undashed : (z : ℤ) → hasForm Mark (signed z) ≡ hasForm Number (signed z)
+unfolding hasForm
+undashed (pos n) = refl
+undashed (negsuc n) = refl
 
-  -- a number is judged the same as a direction and as a mark
-  direction-mark : fieldFault Direction (naturalField n) ≡ fieldFault Mark (naturalField n)
-  unfolding fieldFault naturalField
-  direction-mark = by-test (leb n 9999999) (λ e. rw e) (λ e. rw e)
+mark-form : (z : ℤ) → hasForm Mark (markField z) ≡ not (markTooLong z)
+unfolding hasForm markField numberField
+mark-form z =
+    by-test (is both z) (λ e. rw e)
+    (λ e. rw e (by-test (tooLong z) (λ k. rw k) (λ k. rw k (undashed z ∙ rw (signed-number z, signed-back z, k)))))
 
-  pub mark-one-fault : {v : ℕ} → (n ≡ both → ⊥) → v ≡ fieldFault Direction (naturalField n) → v ≡ fieldFault Mark (markField n)
-  mark-one-fault h e = e ∙ direction-mark ∙ ap (fieldFault Mark) (mark-one n h)
+letter-form : (b : ℕ) → hasForm Capital (Letter b) ≡ true
+unfolding hasForm
+letter-form b = refl
 
--- fault f unless n is from lo to hi, by the tests that the code makes
-module _ (f lo hi n : ℕ) where
-  pub range-below : n < lo → f ≡ unless f (leb lo n && leb n hi)
-  range-below h = rw (lt-leb lo n h)
+-- ---- the fault of a value's line
 
-  pub range-above : lo ≤ n → hi < n → f ≡ unless f (leb lo n && leb n hi)
-  range-above h k = rw (le-leb lo n h, lt-leb n hi k)
+abbrev any : List Bool → Bool
+any [] = false
+any (t ∷ ts) = t || any ts
 
-  pub range-within : lo ≤ n → n ≤ hi → 0 ≡ unless f (leb lo n && leb n hi)
-  range-within h k = rw (le-leb lo n h, le-leb n hi k)
+abbrev none : List Bool → Bool
+none [] = true
+none (t ∷ ts) = not t && none ts
 
-pub letter-in-range : (lo hi b : ℕ) {v : ℕ} → v ≡ unless 1 (leb lo b && leb b hi) → v ≡ fieldFault (LetterFrom lo hi) (Letter b)
-unfolding fieldFault
-letter-in-range lo hi b e = e
+none-any : (ts : List Bool) → none ts ≡ not (any ts)
+none-any [] = refl
+none-any (true ∷ ts) = refl
+none-any (false ∷ ts) = none-any ts
 
-pub natural-in-range : (lo hi n : ℕ) {v : ℕ} → n ≤ 9999999 → v ≡ unless 3 (leb lo n && leb n hi) → v ≡ fieldFault (NumberFrom 3 lo hi) (naturalField n)
-unfolding fieldFault
-natural-in-range lo hi n h e = natural-in-form n (NumberFrom 3 lo hi) h e
+-- it is in form where none of its numbers is too long, and its entry then has number n
+given-by : (k : Kind) (g : Building) (fs : List Field) (ts : List Bool) (n : ℕ) → inForm (forms k) fs ≡ none ts
+    → (inForm (forms k) fs ≡ true → first (faultsOf k g fs) ≡ n) → lineFault k g fs ≡ cond (any ts) 1 n
+given-by k g fs ts n e h =
+    by-test (any ts) (λ q. fault-out k g fs (e ∙ none-any ts ∙ ap not q) ∙ rw q)
+    (λ q. let y = e ∙ none-any ts ∙ ap not q in fault-in k g fs y ∙ h y ∙ rw q)
 
-pub natural-direction : (n : ℕ) {v : ℕ} → n ≤ 9999999 → v ≡ unless 3 (eqb n 0 || eqb n 90) → v ≡ fieldFault Direction (naturalField n)
-unfolding fieldFault
-natural-direction n h e = natural-in-form n Direction h e
-
--- z is of the size m
-pub number-too-long : (z : ℤ) (m : ℕ) → m ≡ natAbs z → (r : Rule) → 9999999 < m → 1 ≡ fieldFault r (numberField z)
-number-too-long z m e r h = bad-fault r ∙ ap (fieldFault r) (number-long z m e h)
-
-size-in-form : (n most : ℕ) (z : ℤ) (m : ℕ) → m ≡ natAbs z → m ≤ 9999999 → fieldFault (SizeTo n most) (Plus m) ≡ fieldFault (SizeTo n most) (numberField z)
-unfolding fieldFault numberField
-size-in-form n most (pos k) m e h = rw (e, le-leb k 9999999 (omega arith))
-size-in-form n most (negsuc k) m e h = rw (e, le-leb (suc k) 9999999 (omega arith)) (rw (ne-eqb (suc k) 0 (λ q. omega arith)))
-
-pub number-size : (most : ℕ) (z : ℤ) (m : ℕ) {v : ℕ} → m ≡ natAbs z → m ≤ 9999999 → v ≡ unless 3 (leb m most) → v ≡ fieldFault (SizeTo 3 most) (numberField z)
-unfolding fieldFault
-number-size most z m e h k = k ∙ size-in-form 3 most z m e h
-
--- ---- a count
-
-pub count-placed : (s : Section) (n : ℕ) → fieldsFault (rules (Count s)) (countLine s n) ≡ unless 2 (leb (about s .least) n && leb n (about s .most))
-unfolding fieldFault lower
-count-placed s n =
-    let l = about s .letter in
-    fields-placed (rules (Count s)) (countLine s n) 2 refl refl ∙ rw (le-leb l l (omega arith))
-
--- ---- the building
-
--- the numbers of its line are out of form if the first is, or one of the rest
-form-on : (z : ℤ) (t : Bool) {n : ℕ} → n ≡ cond t 1 0 → lower (fieldFault anyNumber (numberField z)) n ≡ cond (tooLong z || t) 1 0
-unfolding tooLong lower fieldFault
-form-on z t e =
-    by-test (ltb 9999999 (natAbs z))
-    (λ q. rw (q, ← number-too-long z (natAbs z) refl anyNumber (ltb-true _ _ q), e) (one t))
-    (λ q. rw (q, ← size-in-form 1 9999999 z (natAbs z) refl (ltb-false _ _ q), le-leb (natAbs z) 9999999 (ltb-false _ _ q)) e)
-  where
-    one : (u : Bool) → lower 1 (cond u 1 0) ≡ 1
-    one true = refl
-    one false = refl
-
-building-form : (g : Building) → fieldsFault (rules (Entry B)) (buildingFields g) ≡ cond (outOfForm g) 1 0
-unfolding lowest outOfForm
-building-form g =
-    fields-even (rules (Entry B)) (buildingFields g) refl
-    ∙ form-on (g .h) _ (form-on (g .a) _ (form-on (g .b) _ (form-on (g .density) _ (form-on (g .kind) _ (form-on (g .x) false refl)))))
-
--- the book's fault of a building is that of its line
-pub building-given : (g k : Building) → buildingFault g ≡ lineFault (Entry B) k (buildingFields g)
-unfolding buildingFault
+-- the building of a record has the fault of its line
+pub building-given : (g k : Building) → givenFault g ≡ lineFault (Entry B) k (buildingFields g)
+unfolding givenFault outOfForm buildingFault inForm
 building-given g k =
-    by-test (outOfForm g)
-    (λ e. let f : fieldsFault (rules (Entry B)) (buildingFields g) ≡ 1 = building-form g ∙ rw e in
-    rw e (sym (fault-fields (Entry B) k (buildingFields g) (λ z. omega arith) ∙ f)))
-    (λ e. let f : fieldsFault (rules (Entry B)) (buildingFields g) ≡ 0 = building-form g ∙ rw e in
-    sym (fault-own (Entry B) k (buildingFields g) f
-    ∙ ap buildingFault (building-back g (fields-say (rules (Entry B)) (buildingFields g) (rules-name (Entry B)) f))))
+    sym (given-by (Entry B) k (buildingFields g) long (first (faults g))
+    (rw (number-form (g .h), number-form (g .a), number-form (g .b), number-form (g .density), number-form (g .kind), number-form (g .x)))
+    (λ e. ap (λ (b : Building). first (faults b)) (building-back g (in-formed (forms (Entry B)) (buildingFields g) e))))
+  where
+    long : List Bool
+    long = tooLong (g .h) ∷ tooLong (g .a) ∷ tooLong (g .b) ∷ tooLong (g .density) ∷ tooLong (g .kind) ∷ tooLong (g .x) ∷ []
+
+-- so has each entry
+module _ (g : Building) where
+  pub wind-given : (w : Wind)
+      → lineFault (Entry W) g (windFields w) ≡ cond (tooLong (w .direction) || (tooLong (w .speed) || false)) 1 (first (windFaults g w))
+  unfolding inForm
+  wind-given w =
+      given-by (Entry W) g (windFields w) (tooLong (w .direction) ∷ tooLong (w .speed) ∷ []) (first (windFaults g w))
+      (rw (number-form (w .direction), number-form (w .speed)))
+      (λ e. ap (λ (v : Wind). first (windFaults g v)) (wind-back w (in-formed (forms (Entry W)) (windFields w) e)))
+
+  pub internal-given : (i : ℤ) → lineFault (Entry I) g (internalFields i) ≡ cond (tooLong i || false) 1 (first (internalFaults i))
+  unfolding inForm
+  internal-given i =
+      given-by (Entry I) g (internalFields i) (tooLong i ∷ []) (first (internalFaults i)) (rw (number-form i))
+      (λ e. ap (λ (z : ℤ). first (internalFaults z)) (internal-back i (in-formed (forms (Entry I)) (internalFields i) e)))
+
+  pub face-given : (f : Face) → lineFault (Entry F) g (faceFields f)
+      ≡ cond (markTooLong (f .mark) || (tooLong (f .x) || (tooLong (f .y) || (tooLong (f .z) || false)))) 1 (first (faceFaults g f))
+  unfolding inForm
+  face-given f =
+      given-by (Entry F) g (faceFields f) (markTooLong (f .mark) ∷ tooLong (f .x) ∷ tooLong (f .y) ∷ tooLong (f .z) ∷ []) (first (faceFaults g f))
+      (rw (letter-form (f .zone), mark-form (f .mark), number-form (f .x), number-form (f .y), number-form (f .z)))
+      (λ e. ap (λ (h : Face). first (faceFaults g h)) (face-back f (in-formed (forms (Entry F)) (faceFields f) e)))
+
+-- what the code finds, by what it goes by
+pub long-by : {t₁ t₂ t₃ t₄ u₁ u₂ u₃ u₄ : Bool} {n m r : ℕ} → t₁ ≡ u₁ → t₂ ≡ u₂ → t₃ ≡ u₃ → t₄ ≡ u₄ → n ≡ m
+    → r ≡ cond (t₁ || (t₂ || (t₃ || (t₄ || false)))) 1 n → r ≡ cond (u₁ || (u₂ || (u₃ || (u₄ || false)))) 1 m
+long-by p q s t k e = e ∙ (λ i. cond (p i || (q i || (s i || (t i || false)))) 1 (k i))

@@ -19,10 +19,10 @@ abbrev pub noBuilding : Building
 noBuilding = record { h = pos 0; a = pos 0; b = pos 0; density = pos 0; kind = pos 0; x = pos 0 }
 
 abbrev pub noWind : Wind
-noWind = record { direction = 0; speed = 0 }
+noWind = record { direction = pos 0; speed = pos 0 }
 
 abbrev pub noFace : Face
-noFace = record { zone = 0; mark = 0; x = pos 0; y = pos 0; z = pos 0 }
+noFace = record { zone = 0; mark = pos 0; x = pos 0; y = pos 0; z = pos 0 }
 
 -- nothing read yet
 abbrev pub nothing : Carried

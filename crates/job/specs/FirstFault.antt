@@ -3,27 +3,20 @@ use Prim.Native.Nat.{ℕ, zero, suc, _+_, _<_}
 use mathlib.Core.Path.{_≡_}
 use mathlib.Core.List.{List, [], _∷_, _++_, List·Memᴰ}
 use mathlib.Core.Bool.{true, false}
-use lib.ListN.{length, getD}
 use Rattle.form.specs.declared.Field.{Field}
 use Rattle.building.specs.declared.Building.{Building}
-use Rattle.building.specs.Building.{Fault, faults}
-use Rattle.building.specs.Places.{zoneOn}
-use Rattle.rules.specs.declared.Rule.the-variants.{Mark}
-use Rattle.rules.specs.declared.Section.the-variants.{B, F}
+use Rattle.building.specs.Fault.{Fault}
 use Rattle.rules.specs.declared.Kind.{Kind}
-use Rattle.rules.specs.declared.Kind.the-variants.{Entry}
+use Rattle.rules.specs.Form.{inForm}
+use Rattle.rules.specs.Sections.{forms, faultsOf}
 use Rattle.job.specs.Carried.{Carried}
-use Rattle.rules.specs.Rules.{fieldFault}
-use Rattle.entry.specs.Says.{buildingOf, letter, at}
-use Rattle.rules.specs.Sections.{rules}
 use Rattle.job.specs.Walk.{calls, learn, Reading, Accepted, Refused}
 
--- a line has fault n: it has too few or too many fields, or one of its fields has it, or a test of the building it describes finds it, or its zone is not on the building
-pub data HasFault (n : ℕ) (g : Building) (fs : List Field) : Kind → Type 0 where
-  few-or-many : {k : Kind} → n ≡ 1 → (length fs ≡ length (rules k) → ⊥) → HasFault n g fs k
-  of-field : {k : Kind} (i : ℕ) → i < length (rules k) → fieldFault (getD (rules k) i Mark) (at fs i) ≡ n → HasFault n g fs k
-  of-building : (f : Fault) → List·Memᴰ f (faults (buildingOf fs)) → f .found ≡ true → f .number ≡ n → HasFault n g fs (Entry B)
-  of-zone : n ≡ 6 → zoneOn (g .kind) (letter (at fs 0)) ≡ false → HasFault n g fs (Entry F)
+-- a line has fault n: it is out of form and n is 1, or it is in form and one of its faults of that number is found
+pub data HasFault (n : ℕ) (g : Building) (fs : List Field) (k : Kind) : Type 0 where
+  out-of-form : n ≡ 1 → inForm (forms k) fs ≡ false → HasFault n g fs k
+  found : inForm (forms k) fs ≡ true → (f : Fault) → List·Memᴰ f (faultsOf k g fs) → f .found ≡ true → f .number ≡ n
+      → HasFault n g fs k
 
 -- line i, counted from 0, has fault n, where each line before it is taken for what was called for: a line missing or extra has fault 1
 abbrev pub FaultAt : ℕ → ℕ → List Kind → Carried → List (List Field) → Type 0

@@ -1,73 +1,84 @@
-// The fault of a count or an entry of a job given as a record: that of its line, without the line.
-use crate::values;
+// The fault of a count or an entry of a job given as a record, as its line would get it: a number too long is out of form.
 use building::Building;
+use building::limits::too_long;
+use entry::BOTH;
 use entry::Face;
 use entry::Wind;
 use form::Field;
 use rules::Kind;
 use rules::Section;
-use rules::faults::lower_of;
+use rules::entries;
 use rules::shape;
 ghost use mathlib.Core.Path.{_≡_};
+ghost use mathlib.Core.Bool.{false, cond, not, _&&_, _||_};
 ghost use mathlib.Core.List.{[], _∷_};
-ghost use Rattle.rules.specs.Rules.{fieldsFault};
-ghost use Rattle.rules.specs.Sections.{about, rules, lineFault};
+ghost use Rattle.building.specs.Test.{is, tooLong};
+ghost use Rattle.entry.specs.Says.{both};
+ghost use Rattle.rules.specs.Sections.{about, lineFault};
 ghost use Rattle.fields.specs.Fields.{windFields, internalFields, faceFields};
 
 pub(crate) fn count_fault(s: Section, n: u32) -> u32
-    ensures { λ r. ⌜ r ≡ fieldsFault (rules (Kind.Count s)) (Field.Letter (about s .letter) ∷ Field.Plus n ∷ []) ⌝ }
+    ensures { λ r. ⌜ ((g : Building) → r ≡ lineFault (Kind.Count s) g (Field.Letter (about s .letter) ∷ Field.Plus n ∷ [])) ⌝ }
 {
     let l = shape::limits_of(s);
-    if n < l.least {
-        return 2;
-    }
-    if l.most < n {
-        return 2;
-    }
-    0
+    entries::count_fault(s, l.letter, n as i64)
 }
 
-pub(crate) fn wind_fault(w: Wind) -> u32
-    ensures { λ r. ⌜ r ≡ fieldsFault (rules (Kind.Entry Section.W)) (windFields w) ⌝ }
+// 1 where one of these tests finds a number that is too long, and else n.
+fn in_form(a: bool, b: bool, c: bool, d: bool, n: u32) -> u32
+    ensures { λ r. ⌜ r ≡ cond (a || (b || (c || (d || false)))) 1 n ⌝ }
 {
-    lower_of(
-        values::direction_fault(w.direction),
-        values::natural_fault(1, 1000, w.speed),
+    if a {
+        return 1;
+    }
+    if b {
+        return 1;
+    }
+    if c {
+        return 1;
+    }
+    if d {
+        return 1;
+    }
+    n
+}
+
+pub(crate) fn wind_fault(g: Building, w: Wind) -> u32
+    ensures { λ r. ⌜ r ≡ lineFault (Kind.Entry Section.W) g (windFields w) ⌝ }
+{
+    in_form(
+        too_long(w.direction),
+        too_long(w.speed),
+        false,
+        false,
+        entries::wind_fault(g, w),
     )
 }
 
 pub(crate) fn internal_fault(i: i64) -> u32
-    ensures { λ r. ⌜ r ≡ fieldsFault (rules (Kind.Entry Section.I)) (internalFields i) ⌝ }
+    ensures { λ r. ⌜ ((g : Building) → r ≡ lineFault (Kind.Entry Section.I) g (internalFields i)) ⌝ }
 {
-    values::size_fault(100, i)
+    in_form(too_long(i), false, false, false, entries::internal_fault(i))
 }
 
-// The fields of a face.
-fn face_fields(f: Face) -> u32
-    ensures { λ r. ⌜ r ≡ fieldsFault (rules (Kind.Entry Section.F)) (faceFields f) ⌝ }
+// The mark for both directions is written as a dash.
+fn mark_too_long(m: i64) -> bool
+    ensures { λ r. ⌜ r ≡ (not (is both m) && tooLong m) ⌝ }
 {
-    let areas = lower_of(
-        values::size_fault(100000, f.x),
-        lower_of(
-            values::size_fault(100000, f.y),
-            values::size_fault(100000, f.z),
-        ),
-    );
-    lower_of(
-        values::zone_fault(f.zone),
-        lower_of(values::mark_fault(f.mark), areas),
-    )
+    if m == BOTH {
+        return false;
+    }
+    too_long(m)
 }
 
 pub(crate) fn face_fault(g: Building, f: Face) -> u32
     ensures { λ r. ⌜ r ≡ lineFault (Kind.Entry Section.F) g (faceFields f) ⌝ }
 {
-    let n = face_fields(f);
-    if n != 0 {
-        return n;
-    }
-    if building::zone_on(g.kind, f.zone) {
-        return 0;
-    }
-    6
+    in_form(
+        mark_too_long(f.mark),
+        too_long(f.x),
+        too_long(f.y),
+        too_long(f.z),
+        entries::face_fault(g, f),
+    )
 }

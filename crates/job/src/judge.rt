@@ -42,10 +42,10 @@ fn judge_section(j: Job, s: Section, line: u32) -> Verdict
     while i < n {
         let k = i as usize;
         let number = match s {
-            Section::B => building::building_fault(g),
+            Section::B => building::given_fault(g),
             Section::W => {
                 let w = winds.entry[k];
-                given::wind_fault(w)
+                given::wind_fault(g, w)
             }
             Section::I => {
                 let c = internals.entry[k];

@@ -5,7 +5,6 @@ use entry::Wind;
 
 mod given;
 pub mod judge;
-mod values;
 
 // The first entries count, as many as the count says.
 pub struct Winds {

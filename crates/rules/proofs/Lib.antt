@@ -1,5 +1,4 @@
--- Laws of the rules of fields and of the fault of a line.
-pub mod Rules
-pub mod Parts
-pub mod Lower
-pub mod Tested
+-- Laws of the form of a line, of faults by rising number, and of the fault of a line.
+pub mod Form
+pub mod Rising
+pub mod Line

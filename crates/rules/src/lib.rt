@@ -1,6 +1,7 @@
-// What the fields of a line may say, and the lowest fault of a line.
+// The form of a line, the faults of an entry, and the lowest fault of a line.
+pub mod entries;
 pub mod faults;
-mod field;
+mod form_of;
 pub mod shape;
 
 // A section of the sheet, by its letter.
@@ -17,16 +18,14 @@ pub enum Kind {
     Entry(Section),
 }
 
-// What one field of a line may say.
-pub enum Rule {
-    // a letter from the first to the second
-    LetterFrom(u8, u8),
-    // a number from the second to the third; another number has the fault that the first names
-    NumberFrom(u32, u32, u32),
-    // a number of at most this size, the second, on either side of zero; another number has the fault that the first names
-    SizeTo(u32, u32),
-    // 0 or 90
-    Direction,
-    // 0, 90, or a dash for both
+// What one field of a line must be.
+pub enum FieldForm {
+    // a letter
+    Capital,
+    // a number
+    Count,
+    // a number of at most 7 digits
+    Number,
+    // such a number, or a dash for both directions
     Mark,
 }

@@ -8,6 +8,7 @@ use native.Mathlib.Omega.{arith}
 use lib.IntN.{pos, natAbs}
 use lib.Dec.{leb, leb→le}
 use lib.ListN.{length}
+use Rattle.whole.proofs.Size.{natAbs-neg}
 use Rattle.whole.proofs.Tests.{by-test}
 use Rattle.whole.proofs.Table.{all-at}
 use Rattle.form.specs.declared.Field.{Field}
@@ -21,20 +22,26 @@ use Rattle.building.proofs.Accepted.{good-fields, in-order}
 use Rattle.rules.specs.declared.Section.the-variants.{B}
 use Rattle.rules.specs.declared.Kind.the-variants.{Entry}
 use Rattle.entry.specs.Says.{number, buildingOf}
-use Rattle.rules.specs.Sections.{anyNumber, rules}
-use Rattle.rules.proofs.Rules.{Says, plus, minus, AllSay, none, more}
+use Rattle.rules.specs.declared.FieldForm.the-variants.{Number}
+use Rattle.rules.specs.Sections.{forms}
+use Rattle.rules.proofs.Form.{Formed, plus, minus, AllFormed, none, more}
 use Rattle.sheet.proofs.Bytes.{bytes}
 
 -- ---- each number by itself
 
 -- a field that is 0 or more has no sign
-plain : {f : Field} (m : ℕ) → Says anyNumber f → pos m ≡ number f → f ≡ Plus m
+plain : {f : Field} (m : ℕ) → Formed Number f → pos m ≡ number f → f ≡ Plus m
 plain m (plus h) e = cc
 plain m (minus {m = zero} p h) e = absurd (omega arith)
 plain m (minus {m = suc n} p h) e = absurd (let q : _≡_ {A = ℕ} 0 1 = cc in omega arith)
 
-short : {f : Field} (k : ℕ) → Says anyNumber f → pos (natAbs (number f)) ≡ number f → natAbs (number f) < 10 ^ suc k → length (fieldText f) ≤ suc k
+-- and so has as many bytes as digits; another has one more
+pub short : {f : Field} (k : ℕ) → Formed Number f → pos (natAbs (number f)) ≡ number f → natAbs (number f) < 10 ^ suc k → length (fieldText f) ≤ suc k
 short {f} k s e h = rw (plain (natAbs (number f)) s e) (digits-length k (natAbs (number f)) h)
+
+pub signed : {f : Field} (k : ℕ) → Formed Number f → natAbs (number f) < 10 ^ suc k → length (fieldText f) ≤ suc (suc k)
+signed k (plus {m = m} h) l = omega (arith, digits-length k m l)
+signed k (minus {m = m} p h) l = omega (arith, digits-length k m (omega (arith, natAbs-neg (pos m))))
 
 -- ---- x, which the roof limits further
 
@@ -61,7 +68,7 @@ x-most g z =
 
 -- ---- the line
 
-pub building-bytes : {fs : List Field} → AllSay (rules (Entry B)) fs → buildingFault (buildingOf fs) ≡ 0 → bytes fs ≤ 30
+pub building-bytes : {fs : List Field} → AllFormed (forms (Entry B)) fs → buildingFault (buildingOf fs) ≡ 0 → bytes fs ≤ 30
 building-bytes {fs} (more h (more a (more b (more density (more kind (more x none)))))) z =
     let n = good-fields (buildingOf fs) z in
     omega (

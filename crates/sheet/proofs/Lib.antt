@@ -5,6 +5,7 @@ pub mod Bytes
 pub mod OutOfForm
 pub mod Building
 pub mod Longest
+pub mod Length
 pub mod Part
 pub mod RoundTrip
 pub mod Steps

@@ -1,36 +1,46 @@
--- The longest line in order of each kind, as the rules of its fields have it, and the longest that still can come of the lines called for.
+-- The longest line in order of each kind, and the longest that still can come of the lines called for.
 use Prim.Native.Nat.{ℕ, zero, suc, _+_, _*_, _/_, _≤_}
 use mathlib.Core.Path.{_≡_, refl}
-use mathlib.Core.Logic.{inl, inr}
+use mathlib.Core.Logic.{_⊎_, inl, inr}
+use mathlib.Core.Bool.{true}
 use mathlib.Core.List.{List, [], _∷_, _++_}
 use native.Mathlib.Nat.{mul-le-mul-right, suc-mul}
 use native.Mathlib.Omega.{arith}
 use lib.Dec.{ltb}
+use lib.IntN.{ℤ, pos}
 use lib.ListN.{length}
 use borrow.Author.Tests.{ltb-true, ltb-false}
 use Rattle.whole.proofs.Tests.{by-test}
 use Rattle.form.specs.declared.Field.{Field}
 use Rattle.whole.specs.Digits.{digitsWithin, digits}
-use Rattle.whole.specs.Lists.{Every}
-use Rattle.lines.specs.Lines.{fieldsOf, fieldText, NotBad}
-use Rattle.whole.proofs.Digits.{by-tens, length-small, length-more, digits-length}
+use Rattle.lines.specs.Lines.{fieldsOf, fieldText}
+use Rattle.whole.proofs.Digits.{by-tens, length-small, length-more}
 use Rattle.building.specs.declared.Building.{Building}
-use Rattle.rules.specs.declared.Rule.{Rule}
-use Rattle.rules.specs.declared.Rule.the-variants.{LetterFrom, NumberFrom, SizeTo, Direction, Mark}
+use Rattle.building.specs.Building.{faults, buildingFault}
+use Rattle.building.specs.Places.{knows}
+use Rattle.building.proofs.Accepted.{within}
+use Rattle.building.proofs.Places.{known-within}
+use Rattle.building.proofs.Ranges.{is-within}
+use Rattle.rules.specs.declared.FieldForm.the-variants.{Number, Mark}
 use Rattle.rules.specs.declared.Section.{Section}
 use Rattle.rules.specs.declared.Section.the-variants.{B, W, I, F}
 use Rattle.rules.specs.declared.Kind.{Kind}
 use Rattle.rules.specs.declared.Kind.the-variants.{Count, Entry}
-use Rattle.entry.specs.Says.{size, at}
-use Rattle.rules.specs.Sections.{about, rules, lineFault}
+use Rattle.entry.specs.Says.{number, size, mark, both, at, buildingOf, windOf, internalOf, faceOf}
+use Rattle.rules.specs.Sections.{about, forms, lineFault}
 use Rattle.job.specs.Walk.{entries, calls, sheet}
-use Rattle.rules.proofs.Rules.{Angle, Says, letter, number, plus, minus, direction, mark, dash, AllSay, none, more}
-use Rattle.job.proofs.Walk.{line-says, line-own}
-use Rattle.job.proofs.Lines.{says-not-bad}
+use Rattle.job.specs.InOrder.{WindInOrder, InternalInOrder, FaceInOrder}
+use Rattle.rules.proofs.Form as form
+use Rattle.rules.proofs.Form.{Formed, letter, plus, minus, dash, AllFormed, none, more}
+use Rattle.rules.proofs.Rising.{found-none}
+use Rattle.rules.proofs.Line.{in-order}
+use Rattle.job.proofs.Lines.{all-not-bad}
+use Rattle.job.proofs.Sections.{CountLine, count-says}
+use Rattle.job.proofs.InOrder.{wind-line, internal-line, face-line}
 use Rattle.sheet.proofs.Bytes.{bytes, line-bytes}
-use Rattle.sheet.proofs.Building.{building-bytes}
+use Rattle.sheet.proofs.Building.{short, signed, building-bytes}
 
--- ---- one field
+-- ---- one line
 
 -- a larger number has no fewer digits
 digits-mono : (n m : ℕ) → m ≤ n → length (digits m) ≤ length (digits n)
@@ -40,60 +50,61 @@ digits-mono = by-tens (λ n. (m : ℕ) → m ≤ n → length (digits m) ≤ len
     (λ t. omega (arith, length-small m (ltb-true m 10 t), length-more n h))
     (λ t. omega (arith, length-more m (ltb-false m 10 t), length-more n h, ih (m / 10) (omega arith))))
 
--- the most bytes that a rule lets a field have
-abbrev width : Rule → ℕ
-width (LetterFrom lo hi) = 1
-width (NumberFrom n lo hi) = length (digits hi)
-width (SizeTo n most) = suc (length (digits most))
-width Direction = 2
-width Mark = 2
-
-angle-short : (m : ℕ) → Angle m → length (digits m) ≤ 2
-angle-short m (inl e) = digits-length 1 m (omega arith)
-angle-short m (inr e) = digits-length 1 m (omega arith)
-
-says-short : {r : Rule} {f : Field} → Says r f → length (fieldText f) ≤ width r
-says-short (letter h k) = omega arith
-says-short (number {hi = hi} {m = m} h k) = digits-mono hi m k
-says-short (plus {most = most} {m = m} h) = omega (arith, digits-mono most m h)
-says-short (minus {most = most} {m = m} p h) = omega (arith, digits-mono most m h)
-says-short (direction {m = m} a) = angle-short m a
-says-short (mark {m = m} a) = angle-short m a
-says-short dash = omega arith
-
--- ---- one line
-
--- the most bytes that the rules of a line let it have, with its spaces and its LF
-abbrev widths : List Rule → ℕ
-widths [] = 0
-widths (r ∷ rs) = width r + 1 + widths rs
-
-say-widths : {rs : List Rule} {fs : List Field} → AllSay rs fs → bytes fs ≤ widths rs
-say-widths none = omega arith
-say-widths (more s a) = omega (arith, says-short s, say-widths a)
-
-say-not-bad : {rs : List Rule} {fs : List Field} → AllSay rs fs → Every NotBad fs
-say-not-bad none = tt
-say-not-bad (more s a) = (says-not-bad s, say-not-bad a)
-
--- the longest line in order; of a building's the rules say little, and the book decides
+-- the longest line in order, with its spaces and its LF
 unfoldable pub longestLine : Kind → ℕ
-longestLine (Count s) = widths (rules (Count s))
+longestLine (Count s) = 3 + length (digits (about s .most))
 longestLine (Entry B) = 30
-longestLine (Entry W) = widths (rules (Entry W))
-longestLine (Entry I) = widths (rules (Entry I))
-longestLine (Entry F) = widths (rules (Entry F))
+longestLine (Entry W) = 8
+longestLine (Entry I) = 5
+longestLine (Entry F) = 29
+
+-- a direction has no sign and at most 2 digits
+known-short : {f : Field} (kind : ℤ) → Formed Number f → knows kind (number f) ≡ true → length (fieldText f) ≤ 2
+known-short kind h e = let w = known-within kind _ e in short 1 h (w .plain) (omega (arith, w .to))
+
+-- speed: 4 digits
+wind-bytes : (g : Building) {x : List Field} → AllFormed (forms (Entry W)) x → WindInOrder g (windOf x) → bytes x ≤ 8
+wind-bytes g {x} (more d (more v none)) o =
+    let w = within 1 1000 (windOf x .speed) (is-within (pos 1) (pos 1000) (windOf x .speed) (o .least-speed) (o .greatest-speed)) in
+    omega (arith, known-short (g .kind) d (o .direction), short 3 v (w .plain) (omega (arith, w .to)))
+
+-- a sign and 3 digits
+internal-bytes : {x : List Field} → AllFormed (forms (Entry I)) x → InternalInOrder (internalOf x) → bytes x ≤ 5
+internal-bytes (more i none) o = omega (arith, signed 2 i (omega arith))
+
+mark-short : {f : Field} (kind : ℤ) → Formed Mark f → (mark f ≡ both) ⊎ (knows kind (mark f) ≡ true) → length (fieldText f) ≤ 2
+mark-short kind dash e = omega arith
+mark-short kind (form.mark (plus {m = m} h)) (inl e) = absurd (let q : m ≡ 4294967295 = cc in omega arith)
+mark-short kind (form.mark (plus h)) (inr e) = known-short kind (plus h) e
+mark-short kind (form.mark (minus {m = zero} p h)) e = absurd (omega arith)
+mark-short kind (form.mark (minus {m = suc m} p h)) (inl e) = absurd (let q : _≡_ {A = ℕ} 0 1 = cc in omega arith)
+mark-short kind (form.mark (minus {m = suc m} p h)) (inr e) = known-short kind (minus {m = suc m} p h) e
+
+-- each area: a sign and 6 digits
+face-bytes : (g : Building) {x : List Field} → AllFormed (forms (Entry F)) x → FaceInOrder g (faceOf x) → bytes x ≤ 29
+face-bytes g (more letter (more m (more a (more b (more d none))))) o =
+    omega (
+      arith,
+      mark-short (g .kind) m (o .mark),
+      signed 5 a (omega (arith, o .x)),
+      signed 5 b (omega (arith, o .y)),
+      signed 5 d (omega (arith, o .z)),
+    )
+
+count-bytes : (s : Section) (x : List Field) → CountLine s x → bytes x ≤ 3 + length (digits (about s .most))
+count-bytes s x t = rw (t .is) (omega (arith, digits-mono (about s .most) (t .count) (t .counted .high)))
 
 in-order-bytes : (k : Kind) (g : Building) (x : List Field) → lineFault k g x ≡ 0 → bytes x ≤ longestLine k
-unfolding longestLine
-in-order-bytes (Count s) g x z = say-widths (line-says (Count s) g x z)
-in-order-bytes (Entry B) g x z = building-bytes (line-says (Entry B) g x z) (line-own (Entry B) g x z)
-in-order-bytes (Entry W) g x z = say-widths (line-says (Entry W) g x z)
-in-order-bytes (Entry I) g x z = say-widths (line-says (Entry I) g x z)
-in-order-bytes (Entry F) g x z = say-widths (line-says (Entry F) g x z)
+unfolding longestLine buildingFault
+in-order-bytes (Count s) g x z = count-bytes s x (count-says s g x z)
+in-order-bytes (Entry B) g x z = let o = in-order (Entry B) g x z in building-bytes (o .formed) (found-none (faults (buildingOf x)) (o .none))
+in-order-bytes (Entry W) g x z = wind-bytes g (in-order (Entry W) g x z .formed) (wind-line g x z)
+in-order-bytes (Entry I) g x z = internal-bytes (in-order (Entry I) g x z .formed) (internal-line g x z)
+in-order-bytes (Entry F) g x z = face-bytes g (in-order (Entry F) g x z .formed) (face-line g x z)
 
 pub in-order-short : (k : Kind) (g : Building) (l : List ℕ) → lineFault k g (fieldsOf l) ≡ 0 → length l + 1 ≤ longestLine k
-in-order-short k g l z = omega (arith, line-bytes l (say-not-bad (line-says k g (fieldsOf l) z)), in-order-bytes k g (fieldsOf l) z)
+in-order-short k g l z =
+    omega (arith, line-bytes l (all-not-bad (in-order k g (fieldsOf l) z .formed)), in-order-bytes k g (fieldsOf l) z)
 
 -- ---- the lines that are called for
 
@@ -113,11 +124,8 @@ unfolding longest
 longest-entries s zero ks = omega arith
 longest-entries s (suc n) ks = omega (arith, longest-entries s n ks, suc-mul n (longestLine (Entry s)))
 
-counted : (s : Section) (x : List Field) → AllSay (rules (Count s)) x → size (at x 1) ≤ about s .most
-counted s x (more l (more (number h k) none)) = k
-
 pub count-most : (s : Section) (g : Building) (x : List Field) → lineFault (Count s) g x ≡ 0 → size (at x 1) ≤ about s .most
-count-most s g x z = counted s x (line-says (Count s) g x z)
+count-most s g x z = let t = count-says s g x z in rw (t .is) (t .counted .high)
 
 -- a line in order leaves room for the lines that are then called for
 pub longest-on : (k : Kind) (ks : List Kind) (g : Building) (x : List Field) → lineFault k g x ≡ 0 → longestLine k + longest (calls k x ++ ks) ≤ longest (k ∷ ks)

@@ -8,11 +8,11 @@ use lib.ListN.{length}
 use Rattle.whole.specs.Digits.{allDigits, valueAfter, value}
 use Rattle.form.specs.Field.{digitsInForm, unsigned, negative, number, field}
 use Rattle.lines.specs.Lines.{split, fieldsOf, rowsOf, rows}
-use Rattle.building.specs.Building.{buildingFault, outOfForm, outOfRange, outOfWalls, outOfRoof, tooLong}
+use Rattle.building.specs.Building.{outOfRange, outOfWalls, outOfRoof}
 use Rattle.building.specs.Roof.{roofOf}
 use Rattle.building.specs.Places.{zoneOn}
-use Rattle.building.specs.Test.{beyond}
-use Rattle.rules.specs.Rules.{fieldFault, lower, lowest, fieldsFault}
+use Rattle.building.specs.Test.{beyond, tooLong}
+use Rattle.rules.specs.Form.{hasForm, inForm}
 use Rattle.rules.specs.Sections.{lineFault}
 use Rattle.job.specs.Walk.{walk, verdict, readLines}
 use Rattle.sheet.specs.Sheet.{reading}
@@ -125,5 +125,5 @@ cases =
     ∷ []
 
 cases-right : map (λ c. verdict (reading (bytes (c .text)))) cases ≡ map (λ c. record { number = c .number; line = c .line }) cases
-unfolding reading rows rowsOf split fieldsOf field number unsigned negative digitsInForm allDigits valueAfter value readLines walk lineFault fieldsFault lowest lower fieldFault buildingFault outOfForm outOfRange outOfWalls outOfRoof roofOf tooLong beyond zoneOn
+unfolding reading rows rowsOf split fieldsOf field number unsigned negative digitsInForm allDigits valueAfter value readLines walk lineFault inForm hasForm outOfRange outOfWalls outOfRoof roofOf tooLong beyond zoneOn
 cases-right = refl

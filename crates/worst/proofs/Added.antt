@@ -6,9 +6,10 @@ use Prim.Native.Nat.{ℕ, zero, suc, _+_, _*_, _≤_, _<_}
 use native.Mathlib.Numerals.{add-one}
 use native.Mathlib.Omega.{arith}
 use lib.Dec.{eqb}
-use lib.IntN.{ℤ, natAbs, _+ℤ_, +ℤ-assoc, +ℤ-idl, +ℤ-idr}
+use lib.IntN.{ℤ, pos, natAbs, _+ℤ_, +ℤ-assoc, +ℤ-idl, +ℤ-idr}
 use lib.ListN.{length, getD, take, set, length-map}
 use lib.Seq.{take-suc, length-take-le}
+use Rattle.building.specs.Test.{is}
 use Rattle.whole.proofs.Size.{natAbs-add, times-small}
 use Rattle.worst.specs.declared.Side.{Side}
 use Rattle.worst.specs.declared.Side.the-variants.{Greatest, Least}
@@ -96,8 +97,8 @@ module _ {A : Type 0} (f : A → Surface) (l : List A) (d : A) (n : ℕ) (h : (i
   axes-small m t = record { x = span-small m t X; y = span-small m t Y; z = span-small m t Z }
 
 -- what is small under both directions is small under any
-pub under-small : (n d : ℕ) (a b : Sums) → SumsSmall n a → SumsSmall n b → SumsSmall n (under d a b)
-under-small n d a b ha hb = go (eqb d 90)
+pub under-small : (n : ℕ) (d : ℤ) (a b : Sums) → SumsSmall n a → SumsSmall n b → SumsSmall n (under d a b)
+under-small n d a b ha hb = go (is (pos 90) d)
   where
     go : (t : Bool) → SumsSmall n (cond t b a)
     go true = hb

@@ -9,6 +9,7 @@ use lib.Dec.{eqb}
 use lib.IntN.{ℤ, pos, _-ℤ_, _*ℤ_}
 use lib.Signed.{_<ℤ_}
 use lib.ListN.{length, take}
+use Rattle.building.specs.Test.{is}
 use Rattle.whole.proofs.Lists.{firstOf-length, firstOf-take, firstOf-getD}
 use Rattle.job.specs.declared.Job.{Job}
 use Rattle.entry.specs.declared.Wind.{Wind}
@@ -34,7 +35,7 @@ use Rattle.worst.proofs.OneFace.{OneOrTwo, valueOf, face-best}
 
 -- every wind has direction 0 or 90 and a pressure number above 0, and every face one or two coefficients there
 pub record Sound (g : Given) : Type 0 where
-  pub direction : (w : Wind) → List·Memᴰ w (g .winds) → (w .direction ≡ 0) ⊎ (w .direction ≡ 90)
+  pub direction : (w : Wind) → List·Memᴰ w (g .winds) → (w .direction ≡ pos 0) ⊎ (w .direction ≡ pos 90)
   pub pressed : (w : Wind) → List·Memᴰ w (g .winds) → pos 0 <ℤ pressure (g .density) w
   pub outside : (w : Wind) (f : Face) → List·Memᴰ w (g .winds) → List·Memᴰ f (g .faces) → acts f (w .direction) ≡ true → OneOrTwo (outsides g w f)
 
@@ -48,25 +49,25 @@ picks-are : (s : Side) (axis : Axis) (fs : List Surface) → padded 24 (map (pic
 picks-are Greatest axis fs = refl
 picks-are Least axis fs = refl
 
-under-made : {A B : Type 0} (f : A → B) (d : ℕ) (x y : A) → f (under d x y) ≡ under d (f x) (f y)
-under-made {A} {B} f d x y = go (eqb d 90)
+under-made : {A B : Type 0} (f : A → B) (d : ℤ) (x y : A) → f (under d x y) ≡ under d (f x) (f y)
+under-made {A} {B} f d x y = go (is (pos 90) d)
   where
     go : (t : Bool) → f (cond t y x) ≡ cond t (f y) (f x)
     go true = refl
     go false = refl
 
 -- the first k faces of a job as a direction meets them
-abbrev pub surfaces : Job → ℕ → ℕ → List Surface
+abbrev pub surfaces : Job → ℤ → ℕ → List Surface
 surfaces j d k = map (surfaceOn (j .building) d) (take k (j .faces .entry))
 
 -- ---- the job, and how many of its faces were added up under each direction
 
-module _ (j : Job) (sound : Sound (given (carried j))) (room : j .faces .count ≤ length (j .faces .entry)) (m n : ℕ) (hm : Meets j 0 m) (hn : Meets j 90 n) where
+module _ (j : Job) (sound : Sound (given (carried j))) (room : j .faces .count ≤ length (j .faces .entry)) (m n : ℕ) (hm : Meets j (pos 0) m) (hn : Meets j (pos 90) n) where
   abbrev g : Given
   g = given (carried j)
 
-  abbrev met : ℕ → List Surface
-  met d = under d (surfaces j 0 m) (surfaces j 90 n)
+  abbrev met : ℤ → List Surface
+  met d = under d (surfaces j (pos 0) m) (surfaces j (pos 90) n)
 
   -- the wind and the internal coefficient of a number
   wind-in : (w : ℕ) → List·Memᴰ w (numbers (length (g .winds)) 1) → w - 1 < length (g .winds)
@@ -90,7 +91,7 @@ module _ (j : Job) (sound : Sound (given (carried j))) (room : j .faces .count �
       firstOf-getD (pos 0) (j .internals .count) (i - 1) (j .internals .entry) (omega (arith, b .low, b .high, firstOf-length (pos 0) (j .internals .count) (j .internals .entry)))
 
   -- a direction that a wind has meets all faces
-  met-by : (w d k : ℕ) → List·Memᴰ w (numbers (length (g .winds)) 1) → windAt g w .direction ≡ d → Meets j d k → surfaces j d k ≡ map (surfaceOn (j .building) d) (g .faces)
+  met-by : (w : ℕ) (d : ℤ) (k : ℕ) → List·Memᴰ w (numbers (length (g .winds)) 1) → windAt g w .direction ≡ d → Meets j d k → surfaces j d k ≡ map (surfaceOn (j .building) d) (g .faces)
   unfolding carried
   met-by w d k mw e h =
       ap (surfaces j d) (h .all (w - 1) (wind-counts w mw) (ap (λ u. u .direction) (sym (wind-is w mw)) ∙ e))
@@ -98,21 +99,21 @@ module _ (j : Job) (sound : Sound (given (carried j))) (room : j .faces .count �
 
   met-all : (w : ℕ) → List·Memᴰ w (numbers (length (g .winds)) 1) → met (windAt g w .direction) ≡ map (surfaceOn (j .building) (windAt g w .direction)) (g .faces)
   met-all w mw =
-      ⊎-elim (λ e. ap met e ∙ met-by w 0 m mw e hm ∙ back (sym e)) (λ e. ap met e ∙ met-by w 90 n mw e hn ∙ back (sym e))
+      ⊎-elim (λ e. ap met e ∙ met-by w (pos 0) m mw e hm ∙ back (sym e)) (λ e. ap met e ∙ met-by w (pos 90) n mw e hn ∙ back (sym e))
       (sound .direction (windAt g w) (wind-of w mw))
     where
-      back : {c d : ℕ} → c ≡ d → map (surfaceOn (j .building) c) (g .faces) ≡ map (surfaceOn (j .building) d) (g .faces)
+      back : {c d : ℤ} → c ≡ d → map (surfaceOn (j .building) c) (g .faces) ≡ map (surfaceOn (j .building) d) (g .faces)
       back e = ap (λ d. map (surfaceOn (j .building) d) (g .faces)) e
 
   module _ (axis : Axis) where
     abbrev pub zero : Sums
-    zero = sumsOf axis (surfaces j 0 m)
+    zero = sumsOf axis (surfaces j (pos 0) m)
 
     abbrev pub ninety : Sums
-    ninety = sumsOf axis (surfaces j 90 n)
+    ninety = sumsOf axis (surfaces j (pos 90) n)
 
-    met-sums : (d : ℕ) → sumsOf axis (met d) ≡ under d zero ninety
-    met-sums d = under-made (sumsOf axis) d (surfaces j 0 m) (surfaces j 90 n)
+    met-sums : (d : ℤ) → sumsOf axis (met d) ≡ under d zero ninety
+    met-sums d = under-made (sumsOf axis) d (surfaces j (pos 0) m) (surfaces j (pos 90) n)
 
     module _ (s : Side) where
       -- the best choice of a cell, as a case

@@ -1,11 +1,11 @@
 -- The third demand for what a job gives: more winds and internal coefficients show no less, and faster winds show no less on their side of zero.
-use mathlib.Core.Path.{_≡_, sym, ap, _∙_, subst}
+use mathlib.Core.Path.{_≡_, refl, sym, ap, _∙_, subst}
 use mathlib.Core.Bool.{Bool, true, false, cond}
 use mathlib.Core.List.{List, [], _∷_, List·Memᴰ}
 use Prim.Native.Nat.{ℕ, _+_, _-_, _*_, _≤_, _<_}
 use native.Mathlib.Nat.{mul-le-mul, mul-pos}
 use native.Mathlib.Omega.{arith}
-use lib.IntN.{ℤ, pos, _*ℤ_, *ℤ-comm, zero-*ℤ}
+use lib.IntN.{ℤ, pos, negsuc, natAbs, _*ℤ_, *ℤ-comm, zero-*ℤ}
 use lib.ListN.{length, getD}
 use Rattle.whole.proofs.Order.{*ℤ-assoc}
 use Rattle.worst.specs.declared.Side.{Side}
@@ -68,8 +68,12 @@ given-more s axis g g′ same hw hi v c v′ c′ e e′ =
 -- the same direction at a speed that is no lower
 pub record Faster (w w′ : Wind) : Type 0 where
   pub direction : w .direction ≡ w′ .direction
-  pub some : 0 < w .speed
-  pub risen : w .speed ≤ w′ .speed
+  pub some : 0 < natAbs (w .speed)
+  pub risen : natAbs (w .speed) ≤ natAbs (w′ .speed)
+
+squared : (z : ℤ) → z *ℤ z ≡ pos (natAbs z * natAbs z)
+squared (pos n) = refl
+squared (negsuc n) = refl
 
 -- the speed squared is a factor of the force
 force-squared : (n d a : ℤ) (q : ℕ) → n *ℤ (d *ℤ pos q) *ℤ a ≡ n *ℤ d *ℤ a *ℤ pos q
@@ -84,17 +88,19 @@ module _ (axis : Axis) (g g′ : Given) (same : SameSite g g′) where
   raised w w′ i h =
       record {
         unit = λ f k. cond (acts f (w .direction)) (net (getD (outsides g w f) (k - 1) (pos 0)) i *ℤ g .density *ℤ area axis f) (pos 0);
-        factor = w .speed * w .speed;
-        factor′ = w′ .speed * w′ .speed;
+        factor = natAbs (w .speed) * natAbs (w .speed);
+        factor′ = natAbs (w′ .speed) * natAbs (w′ .speed);
         some = mul-pos (h .some) (h .some);
         risen = mul-le-mul (h .risen) (h .risen);
         was = λ f k. factor w f (acts f (w .direction)) (net (getD (outsides g w f) (k - 1) (pos 0)) i);
         becomes = λ f k. (λ j. cond (acts f (sym (h .direction) j)) (net (getD (sym (same .outside) j (sym (h .direction) j) (f .zone)) (k - 1) (pos 0)) i *ℤ pressure (sym (same .density) j) w′ *ℤ area axis f) (pos 0)) ∙ factor w′ f (acts f (w .direction)) (net (getD (outsides g w f) (k - 1) (pos 0)) i);
       }
     where
-      factor : (u : Wind) (f : Face) (t : Bool) (n : ℤ) → cond t (n *ℤ pressure (g .density) u *ℤ area axis f) (pos 0) ≡ cond t (n *ℤ g .density *ℤ area axis f) (pos 0) *ℤ pos (u .speed * u .speed)
-      factor u f true n = force-squared n (g .density) (area axis f) (u .speed * u .speed)
-      factor u f false n = sym (zero-*ℤ (pos (u .speed * u .speed)))
+      factor : (u : Wind) (f : Face) (t : Bool) (n : ℤ) → cond t (n *ℤ pressure (g .density) u *ℤ area axis f) (pos 0) ≡ cond t (n *ℤ g .density *ℤ area axis f) (pos 0) *ℤ pos (natAbs (u .speed) * natAbs (u .speed))
+      factor u f true n =
+          ap (λ (q : ℤ). n *ℤ (g .density *ℤ q) *ℤ area axis f) (squared (u .speed))
+          ∙ force-squared n (g .density) (area axis f) (natAbs (u .speed) * natAbs (u .speed))
+      factor u f false n = sym (zero-*ℤ (pos (natAbs (u .speed) * natAbs (u .speed))))
 
   pub given-faster : (s : Side) → AllIn Faster (g .winds) (g′ .winds) → AllIn _≡_ (g .internals) (g′ .internals)
       → (v : ℤ) (c : Case ℕ ℕ ℕ) (v′ : ℤ) (c′ : Case ℕ ℕ ℕ) → worst s (loads axis g) ≡ at v c → worst s (loads axis g′) ≡ at v′ c′

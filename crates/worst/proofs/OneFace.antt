@@ -91,7 +91,7 @@ module _ (s : Side) (axis : Axis) (p i : ℤ) where
     unfolding best better
     aside outs = nothing-found
 
-    pub face-best : (d : ℕ) (outs : List ℤ) → (acts f d ≡ true → OneOrTwo outs) → bestOf (acts f d) outs ≡ foundOf (surfaceOf outs d f)
+    pub face-best : (d : ℤ) (outs : List ℤ) → (acts f d ≡ true → OneOrTwo outs) → bestOf (acts f d) outs ≡ foundOf (surfaceOf outs d f)
     face-best d outs h = go (acts f d) refl
       where
         go : (t : Bool) → acts f d ≡ t → bestOf t outs ≡ foundOf (cond t (surfaceWith (getD outs 0 (pos 0)) (getD outs (length outs - 1) (pos 0)) f) noSurface)

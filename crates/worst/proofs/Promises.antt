@@ -59,7 +59,7 @@ module _ (axis : Axis) (s : Side) (c : Carried) where
 module _ (c c′ : Carried) (building : c .building ≡ c′ .building) (faces : c .faces ≡ c′ .faces) (o : InOrder c) (o′ : InOrder c′) where
   same-site : SameSite (given c) (given c′)
   same-site =
-      record { density = ap (λ b. b .density) building; outside = ap (λ b. λ direction zone. valuesOf (outsideOf b (pos direction) zone)) building; faces = faces }
+      record { density = ap (λ b. b .density) building; outside = ap (λ b. λ direction zone. valuesOf (outsideOf b direction zone)) building; faces = faces }
 
   -- every wind and internal coefficient of c is one of c′
   pub extreme-more : AllIn _≡_ (c .winds) (c′ .winds) → AllIn _≡_ (c .internals) (c′ .internals)

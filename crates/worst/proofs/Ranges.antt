@@ -27,17 +27,17 @@ pub record FaceSmall (f : Face) : Type 0 where
 
 pub record InRange (g : Given) : Type 0 where
   pub density : natAbs (g .density) ≤ 1500
-  pub speed : (w : Wind) → List·Memᴰ w (g .winds) → w .speed ≤ 1000
+  pub speed : (w : Wind) → List·Memᴰ w (g .winds) → natAbs (w .speed) ≤ 1000
   pub internal : (i : ℤ) → List·Memᴰ i (g .internals) → natAbs i ≤ 100
   pub fewFaces : length (g .faces) ≤ 24
   pub face : (f : Face) → List·Memᴰ f (g .faces) → FaceSmall f
-  pub direction : (w : Wind) → List·Memᴰ w (g .winds) → (w .direction ≡ 0) ⊎ (w .direction ≡ 90)
-  pub outside : (d : ℕ) → (d ≡ 0) ⊎ (d ≡ 90) → (f : Face) → List·Memᴰ f (g .faces) → (k : ℕ) → natAbs (getD (g .outside d (f .zone)) k (pos 0)) ≤ 1200
+  pub direction : (w : Wind) → List·Memᴰ w (g .winds) → (w .direction ≡ pos 0) ⊎ (w .direction ≡ pos 90)
+  pub outside : (d : ℤ) → (d ≡ pos 0) ⊎ (d ≡ pos 90) → (f : Face) → List·Memᴰ f (g .faces) → (k : ℕ) → natAbs (getD (g .outside d (f .zone)) k (pos 0)) ≤ 1200
 
-pub pressure-small : (density : ℤ) (w : Wind) → natAbs density ≤ 1500 → w .speed ≤ 1000 → natAbs (pressure density w) ≤ 1500000000
-pressure-small density w h k = times-small density (pos (w .speed * w .speed)) h (mul-le-mul k k)
+pub pressure-small : (density : ℤ) (w : Wind) → natAbs density ≤ 1500 → natAbs (w .speed) ≤ 1000 → natAbs (pressure density w) ≤ 1500000000
+pressure-small density w h k = times-small density (w .speed *ℤ w .speed) h (times-small (w .speed) (w .speed) {k = 1000} {l = 1000} k k)
 
-pub surface-small : (outs : List ℤ) (d : ℕ) (f : Face) → ((k : ℕ) → natAbs (getD outs k (pos 0)) ≤ 1200) → FaceSmall f → Small (surfaceOf outs d f)
+pub surface-small : (outs : List ℤ) (d : ℤ) (f : Face) → ((k : ℕ) → natAbs (getD outs k (pos 0)) ≤ 1200) → FaceSmall f → Small (surfaceOf outs d f)
 surface-small outs d f ho h = go (acts f d)
   where
     go : (t : Bool) → Small (cond t (surfaceWith (getD outs 0 (pos 0)) (getD outs (length outs - 1) (pos 0)) f) noSurface)
@@ -61,7 +61,7 @@ area-small Y f h = h .y
 area-small Z f h = h .z
 
 module _ (g : Given) (r : InRange g) (axis : Axis) where
-  force-small : (w : Wind) (i : ℤ) → (w .direction ≡ 0) ⊎ (w .direction ≡ 90) → w .speed ≤ 1000 → natAbs i ≤ 100 → (f : Face) → List·Memᴰ f (g .faces) → (k : ℕ) → natAbs (force axis g w i f k) ≤ 330000000000000000
+  force-small : (w : Wind) (i : ℤ) → (w .direction ≡ pos 0) ⊎ (w .direction ≡ pos 90) → natAbs (w .speed) ≤ 1000 → natAbs i ≤ 100 → (f : Face) → List·Memᴰ f (g .faces) → (k : ℕ) → natAbs (force axis g w i f k) ≤ 330000000000000000
   force-small w i hd hw hi f mf k = go (acts f (w .direction))
     where
       go : (t : Bool) → natAbs (cond t (net (getD (outsides g w f) (k - 1) (pos 0)) i *ℤ pressure (g .density) w *ℤ area axis f) (pos 0)) ≤ 330000000000000000
@@ -73,8 +73,8 @@ module _ (g : Given) (r : InRange g) (axis : Axis) where
   pub caseTotal-small : (c : Case ℕ ℕ ℕ) → natAbs (caseTotal (loads axis g) c) ≤ 7920000000000000000
   unfolding caseTotal
   caseTotal-small c =
-      let slow = getD-all (λ (w : Wind). w .speed ≤ 1000) (g .winds) noWind (omega arith) (r .speed) (c .wind - 1) in
-      let way = getD-all (λ (w : Wind). (w .direction ≡ 0) ⊎ (w .direction ≡ 90)) (g .winds) noWind (inl refl) (r .direction) (c .wind - 1) in
+      let slow = getD-all (λ (w : Wind). natAbs (w .speed) ≤ 1000) (g .winds) noWind (omega arith) (r .speed) (c .wind - 1) in
+      let way = getD-all (λ (w : Wind). (w .direction ≡ pos 0) ⊎ (w .direction ≡ pos 90)) (g .winds) noWind (inl refl) (r .direction) (c .wind - 1) in
       let low = getD-all (λ (i : ℤ). natAbs i ≤ 100) (g .internals) (pos 0) (omega arith) (r .internal) (c .internal - 1) in
       omega (
         arith,

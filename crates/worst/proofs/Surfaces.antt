@@ -13,16 +13,16 @@ use Rattle.entry.specs.declared.Face.{Face}
 use Rattle.worst.specs.Forces.{acts}
 use Rattle.worst.specs.Engine.{noSurface, surfaceWith, surfaceOf, surfaceOn}
 
-module _ (b : Building) (d : ℕ) (f : Face) where
+module _ (b : Building) (d : ℤ) (f : Face) where
   pub surface-aside : acts f d ≡ false → noSurface ≡ surfaceOn b d f
   surface-aside e =
-      let outs = valuesOf (outsideOf b (pos d) (f .zone)) in
+      let outs = valuesOf (outsideOf b d (f .zone)) in
       ap (λ t. cond t (surfaceWith (getD outs 0 (pos 0)) (getD outs (length outs - 1) (pos 0)) f) noSurface) (sym e)
 
   -- by the answer to its question
   module _ (e : acts f d ≡ true) where
     abbrev answered : Answer → Type 0
-    answered a = outsideOf b (pos d) (f .zone) ≡ a
+    answered a = outsideOf b d (f .zone) ≡ a
 
     pub surface-one : (v : ℤ) → answered (One v) → surfaceWith v v f ≡ surfaceOn b d f
     surface-one v q = ap (λ t. cond t (surfaceWith v v f) noSurface) (sym e) ∙ ap (λ a. surfaceOf (valuesOf a) d f) (sym q)

@@ -1,13 +1,14 @@
 -- What the engine's own records say. Only contracts of private functions cite it.
 use mathlib.Core.Path.{_≡_}
-use mathlib.Core.Logic.{_⊎_}
-use mathlib.Core.Bool.{cond}
+use mathlib.Core.Bool.{true, cond}
 use mathlib.Core.List.{List, map}
 use Prim.Native.Nat.{ℕ, _-_, _*_, _≤_, _<_}
 use lib.IntN.{ℤ, pos, natAbs, _+ℤ_, _-ℤ_, _*ℤ_}
 use lib.ListN.{length, getD, set}
 use lib.Dec.{eqb}
 use Rattle.building.specs.declared.Building.{Building}
+use Rattle.building.specs.Places.{knows}
+use Rattle.building.specs.Test.{is}
 use Rattle.book.specs.Answer.{valuesOf}
 use Rattle.book.specs.Question.{outsideOf}
 use Rattle.job.specs.declared.Job.{Job}
@@ -44,12 +45,12 @@ abbrev pub noSurface : Surface
 noSurface = record { first = pos 0; second = pos 0; x = pos 0; y = pos 0; z = pos 0 }
 
 -- the first and the last of its outside coefficients, which are one where it has one
-abbrev pub surfaceOf : List ℤ → ℕ → Face → Surface
+abbrev pub surfaceOf : List ℤ → ℤ → Face → Surface
 surfaceOf outs direction f =
     cond (acts f direction) (surfaceWith (getD outs 0 (pos 0)) (getD outs (length outs - 1) (pos 0)) f) noSurface
 
-abbrev pub surfaceOn : Building → ℕ → Face → Surface
-surfaceOn b direction f = surfaceOf (valuesOf (outsideOf b (pos direction) (f .zone))) direction f
+abbrev pub surfaceOn : Building → ℤ → Face → Surface
+surfaceOn b direction f = surfaceOf (valuesOf (outsideOf b direction (f .zone))) direction f
 
 abbrev pub areaOf : Axis → Surface → ℤ
 areaOf X f = f .x
@@ -92,8 +93,8 @@ abbrev pub withSurface : ℕ → Surface → Axes → Axes
 withSurface i f p = record { x = withFace X i f (p .x); y = withFace Y i f (p .y); z = withFace Z i f (p .z) }
 
 -- which of two a direction has: the first for 0, the second for 90
-abbrev pub under : {A : Type 0} → ℕ → A → A → A
-under direction zero ninety = cond (eqb direction 90) ninety zero
+abbrev pub under : {A : Type 0} → ℤ → A → A → A
+under direction zero ninety = cond (is (pos 90) direction) ninety zero
 
 abbrev pub sumOf : Side → Span → ℤ
 sumOf Greatest p = p .greatest
@@ -179,14 +180,14 @@ pub record AxesSmall (n : ℕ) (p : Axes) : Type 0 where
   pub y : SumsSmall n (p .y)
   pub z : SumsSmall n (p .z)
 
-abbrev pub FacesSmall : Building → ℕ → ℕ → List Face → Type 0
+abbrev pub FacesSmall : Building → ℤ → ℕ → List Face → Type 0
 FacesSmall b direction n fs = (i : ℕ) → i < n → Small (surfaceOn b direction (getD fs i noFace))
 
 abbrev pub Dense : Building → Type 0
 Dense b = natAbs (b .density) ≤ 1500
 
 abbrev pub Slow : Wind → Type 0
-Slow w = w .speed ≤ 1000
+Slow w = natAbs (w .speed) ≤ 1000
 
 abbrev pub LowInternals : Internals → Type 0
 LowInternals is = (is .count ≤ 4) × ((k : ℕ) → k < is .count → natAbs (getD (is .entry) k (pos 0)) ≤ 100)
@@ -200,10 +201,10 @@ pub record Ready (j : Job) : Type 0 where
   pub someInternal : 0 < j .internals .count
   pub internals : LowInternals (j .internals)
   pub faces : j .faces .count ≤ 24
-  pub small : (d : ℕ) → (d ≡ 0) ⊎ (d ≡ 90) → FacesSmall (j .building) d (j .faces .count) (j .faces .entry)
+  pub small : (d : ℤ) → knows (j .building .kind) d ≡ true → FacesSmall (j .building) d (j .faces .count) (j .faces .entry)
 
 -- n faces, which are all of them where a wind has the direction
-pub record Meets (j : Job) (direction n : ℕ) : Type 0 where
+pub record Meets (j : Job) (direction : ℤ) (n : ℕ) : Type 0 where
   pub most : n ≤ j .faces .count
   pub all : (k : ℕ) → k < j .winds .count → getD (j .winds .entry) k noWind .direction ≡ direction → n ≡ j .faces .count
 

@@ -1,12 +1,12 @@
 -- The force of a face on an axis, formula [3.2.8]: net coefficient × pressure number × projected area. From it, the cases of a job with their totals.
 use mathlib.Core.Bool.{Bool, cond, _||_}
 use mathlib.Core.List.{List, [], _∷_}
-use Prim.Native.Nat.{ℕ, _-_, _*_}
-use lib.Dec.{eqb}
+use Prim.Native.Nat.{ℕ, _-_}
 use lib.IntN.{ℤ, pos, _*ℤ_}
 use lib.ListN.{length, getD}
 use Rattle.worst.specs.declared.Axis.{Axis}
 use Rattle.worst.specs.declared.Axis.the-variants.{X, Y, Z}
+use Rattle.building.specs.Test.{is}
 use Rattle.book.specs.Question.{net}
 use Rattle.entry.specs.declared.Wind.{Wind}
 use Rattle.entry.specs.declared.Face.{Face}
@@ -17,7 +17,7 @@ use Rattle.worst.specs.Cases.{Loads, numbers}
 -- what a job gives: of its building the air density, and the outside coefficients of a zone under a direction, in thousandths
 pub record Given : Type 0 where
   pub density : ℤ
-  pub outside : ℕ → ℕ → List ℤ
+  pub outside : ℤ → ℕ → List ℤ
   pub winds : List Wind
   pub internals : List ℤ
   pub faces : List Face
@@ -25,8 +25,8 @@ pub record Given : Type 0 where
 -- ---- one face
 
 -- a face marked for one direction adds nothing under the other
-abbrev pub acts : Face → ℕ → Bool
-acts f direction = eqb (f .mark) both || eqb (f .mark) direction
+abbrev pub acts : Face → ℤ → Bool
+acts f direction = is both (f .mark) || is direction (f .mark)
 
 abbrev pub outsides : Given → Wind → Face → List ℤ
 outsides g w f = g .outside (w .direction) (f .zone)
@@ -37,7 +37,7 @@ alternatives g w f = cond (acts f (w .direction)) (numbers (length (outsides g w
 
 -- P = density × V²
 abbrev pub pressure : ℤ → Wind → ℤ
-pressure density w = density *ℤ pos (w .speed * w .speed)
+pressure density w = density *ℤ (w .speed *ℤ w .speed)
 
 abbrev pub area : Axis → Face → ℤ
 area X f = f .x

@@ -22,12 +22,11 @@ fn pressure_of(b: Building, w: Wind) -> i64
     requires { ⌜ Dense b × Slow w ⌝ }
     ensures { λ r. ⌜ r ≡ pressure (b .density) w ⌝ }
 {
-    let squared = w.speed * w.speed;
-    b.density * (squared as i64)
+    b.density * (w.speed * w.speed)
 }
 
 // The sums that a direction has.
-pub(crate) fn sums_under(direction: u32, zero: Sums, ninety: Sums) -> Sums
+pub(crate) fn sums_under(direction: i64, zero: Sums, ninety: Sums) -> Sums
     ensures { λ r. ⌜ r ≡ under direction zero ninety ⌝ }
 {
     if direction == 90 {

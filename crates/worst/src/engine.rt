@@ -57,7 +57,7 @@ fn extremes(job: Job, zero: Sums, ninety: Sums) -> Extremes
 }
 
 // How many faces the winds of a direction meet: none, where no wind has it.
-fn faces_met(job: Job, direction: u32) -> usize
+fn faces_met(job: Job, direction: i64) -> usize
     requires { ⌜ Ready job ⌝ }
     ensures { λ r. ⌜ Meets job direction r ⌝ }
 {

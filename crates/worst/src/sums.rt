@@ -95,7 +95,7 @@ fn with_surface(sums: Axes, i: usize, f: Surface) -> Axes
 }
 
 // The first n faces under a direction.
-pub(crate) fn added(b: Building, faces: Faces, n: usize, direction: u32) -> Axes
+pub(crate) fn added(b: Building, faces: Faces, n: usize, direction: i64) -> Axes
     requires { ⌜ (n ≤ 24) × FacesSmall b direction n (faces .entry) ⌝ }
     ensures { λ r. ⌜ r ≡ axesOf (map (surfaceOn b direction) (take n (faces .entry))) ⌝ }
 {

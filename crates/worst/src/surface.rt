@@ -19,7 +19,7 @@ pub struct Surface {
 }
 
 // Whether a face takes part under a direction.
-fn takes_part(f: Face, direction: u32) -> bool
+fn takes_part(f: Face, direction: i64) -> bool
     ensures { λ r. ⌜ r ≡ acts f direction ⌝ }
 {
     if f.mark == BOTH {
@@ -42,11 +42,11 @@ fn with_outside(f: Face, first: i32, last: i32) -> Surface
 }
 
 // A face that takes part: its coefficients are looked up.
-fn looked_up(b: Building, direction: u32, f: Face) -> Surface
+fn looked_up(b: Building, direction: i64, f: Face) -> Surface
     requires { ⌜ acts f direction ≡ true ⌝ }
     ensures { λ r. ⌜ r ≡ surfaceOn b direction f ⌝ }
 {
-    let answer = book::outside(b, direction as i64, f.zone);
+    let answer = book::outside(b, direction, f.zone);
     match answer {
         Answer::One(v) => with_outside(f, v, v),
         Answer::Two(v, w) => with_outside(f, v, w),
@@ -55,7 +55,7 @@ fn looked_up(b: Building, direction: u32, f: Face) -> Surface
 }
 
 // Any face; nothing is looked up for one that does not take part.
-pub(crate) fn surface_on(b: Building, direction: u32, f: Face) -> Surface
+pub(crate) fn surface_on(b: Building, direction: i64, f: Face) -> Surface
     ensures { λ r. ⌜ r ≡ surfaceOn b direction f ⌝ }
 {
     if takes_part(f, direction) {

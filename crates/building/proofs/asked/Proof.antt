@@ -9,13 +9,13 @@ use Rattle.building.specs.declared.Question.the-variants.{Of, Refused}
 use Rattle.building.specs.Building.{buildingFault}
 use Rattle.building.specs.Places.{knows, zoneOn, localOn}
 use Rattle.whole.proofs.Size.{said}
-use Rattle.building.proofs.Accepted.{in-range}
+use Rattle.building.proofs.Accepted.{in-range, none-given}
 use Rattle.building.proofs.Judged.{bad-building, bad-direction, bad-place, in-question}
 use Rattle.building.proofs.asked.Statement.{statement}
 use Rattle.building.proofs.asked.Tie as tie
 
 good : (c : tie.Else1) → buildingFault (c .before .before .args .g) ≡ 0
-good c = sym (c .before .building-fault .ensures) ∙ c .if1 .left
+good c = none-given (c .before .before .args .g) (sym (c .before .given-fault .ensures) ∙ c .if1 .left)
 
 -- what the tests answered, said of the question
 direction : (c : tie.After-knows) → let a = c .before .before .before .before .args in c .knows .result ≡ knows (a .g .kind) (a .direction)
@@ -35,8 +35,8 @@ where-it-is c =
 returns : tie.Need-returns
 returns c =
     let a = c .before .before .args in
-    ap (λ (n : ℕ). Refused n 2) (c .before .building-fault .ensures)
-    ∙ sym (bad-building (a .g) (a .direction) (a .place) (λ e. c .if1 .taken (c .before .building-fault .ensures ∙ e)))
+    ap (λ (n : ℕ). Refused n 2) (c .before .given-fault .ensures)
+    ∙ sym (bad-building (a .g) (a .direction) (a .place) (λ e. c .if1 .taken (c .before .given-fault .ensures ∙ e)))
 
 returns-2 : tie.Need-returns-2
 returns-2 c =

@@ -4,66 +4,55 @@ use mathlib.Core.Bool.{false}
 use borrow.Author.Needs.{needs}
 use Rattle.building.specs.declared.Sizes.{Sizes}
 use Rattle.building.specs.Order.{Ranged}
-use Rattle.building.specs.Building.{outOfForm, outOfRange, outOfWalls, outOfRoof, sizes, buildingFault}
+use Rattle.building.specs.Building.{outOfRange, outOfWalls, outOfRoof, sizes, buildingFault}
 use Rattle.building.proofs.Accepted.{fields, ranged}
 use Rattle.building.proofs.building_fault.Statement.{statement}
 use Rattle.building.proofs.building_fault.Tie as tie
 
 -- what each test answered, said of the building
-in-form : (c : tie.Else1) → outOfForm (c .before .before .args .g) ≡ false
-in-form c = sym (c .before .out-of-form .ensures) ∙ c .if1 .left
-
-in-range : (c : tie.Else2) → outOfRange (c .before .before .before .before .args .g) ≡ false
-in-range c = sym (c .before .out-of-range .ensures) ∙ c .if2 .left
+in-range : (c : tie.Else1) → outOfRange (c .before .before .args .g) ≡ false
+in-range c = sym (c .before .out-of-range .ensures) ∙ c .if1 .left
 
 small : (c : tie.After-sizes-of) → Ranged (c .sizes-of .result)
 small c =
     let d = c .before in
-    subst (λ (s : Sizes). Ranged s) (sym (c .sizes-of .ensures)) (ranged (fields (d .before .before .before .before .args .g) (in-range d)))
+    subst (λ (s : Sizes). Ranged s) (sym (c .sizes-of .ensures)) (ranged (fields (d .before .before .args .g) (in-range d)))
 
 -- the sizes, and the two tests of them
-sized : (c : tie.After-sizes-of) → c .sizes-of .result ≡ sizes (c .before .before .before .before .before .args .g)
+sized : (c : tie.After-sizes-of) → c .sizes-of .result ≡ sizes (c .before .before .before .args .g)
 sized c = c .sizes-of .ensures
 
-walls : (c : tie.After-out-of-walls) → c .out-of-walls .result ≡ outOfWalls (sizes (c .before .before .before .before .before .before .args .g))
+walls : (c : tie.After-out-of-walls) → c .out-of-walls .result ≡ outOfWalls (sizes (c .before .before .before .before .args .g))
 walls c = c .out-of-walls .ensures ∙ ap outOfWalls (sized (c .before))
 
-roof : (c : tie.After-out-of-roof) → c .out-of-roof .result ≡ outOfRoof (sizes (c .before .before .before .before .before .before .before .before .args .g))
+roof : (c : tie.After-out-of-roof) → c .out-of-roof .result ≡ outOfRoof (sizes (c .before .before .before .before .before .before .args .g))
 roof c = c .out-of-roof .ensures ∙ ap outOfRoof (sized (c .before .before .before))
 
 returns : tie.Need-returns
 unfolding buildingFault
-returns c = rw (sym (c .before .out-of-form .ensures) ∙ c .if1 .taken)
-
-returns-2 : tie.Need-returns-2
-unfolding buildingFault
-returns-2 c = rw (in-form (c .before .before), sym (c .before .out-of-range .ensures) ∙ c .if2 .taken)
+returns c = rw (sym (c .before .out-of-range .ensures) ∙ c .if1 .taken)
 
 sizes-of-requires : tie.Need-sizes-of-requires
 sizes-of-requires c κs = in-range c
 
-returns-3 : tie.Need-returns-3
+returns-2 : tie.Need-returns-2
 unfolding buildingFault
-returns-3 c =
-    let d = c .before .before .before in
-    rw (in-form (d .before .before), in-range d, sym (walls (c .before)) ∙ c .if3 .taken)
+returns-2 c = rw (in-range (c .before .before .before), sym (walls (c .before)) ∙ c .if2 .taken)
 
 out-of-roof-requires : tie.Need-out-of-roof-requires
 out-of-roof-requires c κs = small (c .before .before)
+
+returns-3 : tie.Need-returns-3
+unfolding buildingFault
+returns-3 c =
+    let w = c .before .before in
+    rw (in-range (w .before .before .before), sym (walls (w .before)) ∙ w .if2 .left, sym (roof (c .before)) ∙ c .if3 .taken)
 
 returns-4 : tie.Need-returns-4
 unfolding buildingFault
 returns-4 c =
     let w = c .before .before in
-    let d = w .before .before .before in
-    rw (in-form (d .before .before), in-range d, sym (walls (w .before)) ∙ w .if3 .left, sym (roof (c .before)) ∙ c .if4 .taken)
-
-returns-5 : tie.Need-returns-5
-unfolding buildingFault
-returns-5 c =
-    let w = c .before .before in
-    let d = w .before .before .before in
-    rw (in-form (d .before .before), in-range d, sym (walls (w .before)) ∙ w .if3 .left, sym (roof (c .before)) ∙ c .if4 .left)
+    rw (in-range (w .before .before .before), sym (walls (w .before)) ∙ w .if2 .left, sym (roof (c .before)) ∙ c .if3 .left)
 
 pub building-fault-spec : {M : Type 1} → statement M
 building-fault-spec =
@@ -71,11 +60,9 @@ building-fault-spec =
     (tie.spec
     (λ c κs. search needs)
     returns
-    (λ c κs. search needs)
-    returns-2
     sizes-of-requires
     (λ c κs. search needs)
-    returns-3
+    returns-2
     out-of-roof-requires
-    returns-4
-    returns-5)
+    returns-3
+    returns-4)

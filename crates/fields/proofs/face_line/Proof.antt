@@ -1,6 +1,6 @@
 -- `face_line` meets its contract.
 use Rattle.lines.specs.Held.{lineOf}
-use Rattle.fields.proofs.Slots.{slot-is}
+use Rattle.fields.proofs.Slots.{slot-is, mark-is}
 use borrow.Author.Needs.{needs}
 use Rattle.fields.proofs.face_line.Statement.{statement}
 use Rattle.fields.proofs.face_line.Tie as tie
@@ -12,11 +12,11 @@ returns c =
     let y = z .before .before in
     let x = y .before .before in
     let m = x .before .before in
-    let f = m .before .before .args .f in
-    let q = x .before .struct-told .given in
+    let f = m .before .before .before .args .f in
+    let q = m .before .struct-told .given in
     rw (
-      m .before .slot .ensures,
-      m .mark-slot .ensures,
+      m .before .before .slot .ensures,
+      mark-is (f .mark) (q .1 .0 .1) (m .mark-slot .ensures),
       slot-is (f .x) (q .1 .1 .0 .1) (x .number-slot .ensures),
       slot-is (f .y) (q .1 .1 .1 .0 .1) (y .number-slot2 .ensures),
       slot-is (f .z) (q .1 .1 .1 .1 .0 .1) (z .number-slot3 .ensures),

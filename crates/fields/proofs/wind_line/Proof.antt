@@ -1,12 +1,21 @@
 -- `wind_line` meets its contract.
 use Rattle.lines.specs.Held.{lineOf}
+use Rattle.fields.proofs.Slots.{slot-is}
 use borrow.Author.Needs.{needs}
 use Rattle.fields.proofs.wind_line.Statement.{statement}
 use Rattle.fields.proofs.wind_line.Tie as tie
 
 returns : tie.Need-returns
 unfolding lineOf
-returns c = rw (c .before .before .slot .ensures, c .before .natural-slot .ensures, c .natural-slot2 .ensures)
+returns c =
+    let d = c .before .before in
+    let w = d .before .before .before .args .w in
+    let q = d .before .struct-told .given in
+    rw (
+      d .before .before .slot .ensures,
+      slot-is (w .direction) (q .0 .1) (d .number-slot .ensures),
+      slot-is (w .speed) (q .1 .0 .1) (c .number-slot2 .ensures),
+    )
 
 pub wind-line-spec : {M : Type 1} → statement M
 wind-line-spec =

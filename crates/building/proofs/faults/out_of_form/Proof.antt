@@ -1,6 +1,7 @@
 -- `faults::out_of_form`: each number is read back as it is, and asked in the line's order.
 use borrow.Author.Needs.{needs}
-use Rattle.building.specs.Building.{tooLong, outOfForm}
+use Rattle.building.specs.Test.{tooLong}
+use Rattle.building.specs.Building.{outOfForm}
 use Rattle.whole.proofs.Size.{said}
 use Rattle.building.proofs.Six.{any-same}
 use Rattle.building.proofs.faults.out_of_form.Statement.{statement}

@@ -1,4 +1,5 @@
 -- `kinds::gable`: the kind is read back as it is.
+use lib.IntN.{pos}
 use borrow.Author.Needs.{needs}
 use Rattle.building.specs.Test.{is}
 use Rattle.whole.proofs.Size.{said}
@@ -6,7 +7,7 @@ use Rattle.building.proofs.kinds.gable.Statement.{statement}
 use Rattle.building.proofs.kinds.gable.Tie as tie
 
 returns : tie.Need-returns
-returns c = said (is 1) (c .before .args .kind) (c .is .ensures) (c .before .fits .kind .sfits)
+returns c = said (is (pos 1)) (c .before .args .kind) (c .is .ensures) (c .before .fits .kind .sfits)
 
 pub gable-spec : {M : Type 1} → statement M
 gable-spec = tie.close (tie.spec (λ c κs. search needs) returns)

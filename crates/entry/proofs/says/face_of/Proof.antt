@@ -13,7 +13,7 @@ returns c =
     let m = x .before in
     rw (
       m .before .letter-at .ensures,
-      m .mark-at .ensures,
+      returned w64 _ (m .mark-at .ok) .same ∙ m .mark-at .ensures,
       returned w64 _ (x .number-at .ok) .same ∙ x .number-at .ensures,
       returned w64 _ (y .number-at2 .ok) .same ∙ y .number-at2 .ensures,
       returned w64 _ (c .number-at3 .ok) .same ∙ c .number-at3 .ensures,

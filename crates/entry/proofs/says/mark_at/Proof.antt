@@ -1,5 +1,7 @@
 -- `mark_at` meets its contract.
 use mathlib.Core.Path.{_∙_, ap}
+use mir.Syntax.{w64}
+use Rattle.whole.proofs.Size.{returned}
 use Rattle.entry.specs.Says.{mark}
 use borrow.Author.Needs.{needs}
 use Rattle.entry.proofs.says.mark_at.Statement.{statement}
@@ -11,4 +13,4 @@ mark-at-spec =
     (tie.spec
     (λ c κs. search needs)
     (λ c κs. search needs)
-    (λ c. c .mark-of .ensures ∙ ap mark (c .before .field-at .ensures)))
+    (λ c. returned w64 _ (c .mark-of .ok) .same ∙ c .mark-of .ensures ∙ ap mark (c .before .field-at .ensures)))

@@ -1,38 +1,33 @@
--- `count_fault` meets its contract.
+-- `given::count_fault` meets its contract.
+use mathlib.Core.Path.{_≡_, sym, ap₂, _∙_}
 use Prim.Native.Nat.{ℕ}
-use mathlib.Core.Path.{_≡_, _∙_, sym}
-use mathlib.Core.Bool.{_&&_}
-use lib.Dec.{leb}
+use native.Mathlib.Omega.{arith}
+use lib.IntN.{ℤ}
+use mir.Syntax.{w64}
+use Rattle.whole.proofs.Size.{nat}
+use Rattle.building.specs.Fault.{first}
 use Rattle.rules.specs.declared.Kind.the-variants.{Count}
-use Rattle.building.specs.Test.{unless}
-use Rattle.rules.specs.Rules.{fieldsFault}
-use Rattle.rules.specs.Sections.{rules}
+use Rattle.rules.specs.Sections.{countFaults}
+use Rattle.rules.proofs.Form.{formed-in, none, more, letter, count}
+use Rattle.rules.proofs.Line.{fault-in}
 use Rattle.job.proofs.Sections.{countLine}
-use Rattle.job.proofs.Written.{count-placed, range-below, range-above, range-within}
 use borrow.Author.Needs.{needs}
 use Rattle.job.proofs.given.count_fault.Statement.{statement}
 use Rattle.job.proofs.given.count_fault.Tie as tie
 
--- the limits are those of the section
-placed : (c : tie.After-limits-of) {v : ℕ} → v ≡ unless 2 (leb (c .limits-of .result .least) (c .before .args .n) && leb (c .before .args .n) (c .limits-of .result .most))
-    → v ≡ fieldsFault (rules (Count (c .before .args .s))) (countLine (c .before .args .s) (c .before .args .n))
-placed c e = e ∙ rw (c .limits-of .ensures .1, c .limits-of .ensures .2) (sym (count-placed (c .before .args .s) (c .before .args .n)))
-
-returns-2 : tie.Need-returns-2
-returns-2 c =
-    let e = c .before .before in
-    placed (e .before .before) (range-above 2 _ _ _ (e .if1 .left) (c .if2 .taken))
-
-returns-3 : tie.Need-returns-3
-returns-3 c =
-    let e = c .before .before in
-    placed (e .before .before) (range-within 2 _ _ _ (e .if1 .left) (c .if2 .left))
+returns : tie.Need-returns
+returns c g =
+    let l = c .before in
+    let a = l .before .args in
+    c .count-fault .ensures
+    ∙ ap₂ (λ (b : ℕ) (z : ℤ). first (countFaults (a .s) b z)) (l .limits-of .ensures .0) (nat w64 {n = a .n} 4294967295 (omega arith) tt .same)
+    ∙ sym (fault-in (Count (a .s)) g (countLine (a .s) (a .n)) (formed-in (more letter (more count none))))
 
 pub count-fault-spec : {M : Type 1} → statement M
 count-fault-spec =
     tie.close
     (tie.spec
     (λ c κs. search needs)
-    (λ c. placed (c .before .before) (range-below 2 _ _ _ (c .if1 .taken)))
-    returns-2
-    returns-3)
+    (λ c. search needs)
+    (λ c κs. search needs)
+    returns)

@@ -1,26 +1,32 @@
 -- `internal_fault` meets its contract.
+use mathlib.Core.Bool.{false}
 use mathlib.Core.Path.{refl, sym, _∙_}
-use Rattle.rules.specs.declared.Rule.the-variants.{SizeTo}
-use Rattle.rules.specs.declared.Section.the-variants.{I}
-use Rattle.rules.specs.declared.Kind.the-variants.{Entry}
-use Rattle.rules.specs.Rules.{fieldFault}
-use Rattle.rules.specs.Sections.{rules}
-use Rattle.fields.specs.Fields.{internalFields}
-use Rattle.rules.proofs.Lower.{fields-placed}
-use Rattle.fields.proofs.Slots.{as-written}
+use lib.IntN.{ℤ}
+use Rattle.whole.proofs.Size.{said}
+use Rattle.building.specs.Test.{tooLong}
+use Rattle.building.specs.Fault.{first}
+use Rattle.rules.specs.Faults.{internalFaults}
+use Rattle.job.proofs.Written.{internal-given, long-by}
 use borrow.Author.Needs.{needs}
 use Rattle.job.proofs.given.internal_fault.Statement.{statement}
 use Rattle.job.proofs.given.internal_fault.Tie as tie
 
 returns : tie.Need-returns
-returns c =
-    let s = c .before in
-    as-written (fieldFault (SizeTo 3 100)) (s .args .i) (s .fits .i .sfits) (c .size-fault .ensures)
-    ∙ sym (fields-placed (rules (Entry I)) (internalFields (s .args .i)) 1 refl refl)
+returns c g =
+    let n = c .before in
+    let s = n .before .before in
+    let i = s .args .i in
+    let q = s .fits .i .sfits in
+    let no = refl {a = false} in
+    long-by (said tooLong i (n .before .too-long .ensures) q) no no no
+    (said (λ (z : ℤ). first (internalFaults z)) i (n .internal-fault .ensures) q) (c .in-form .ensures)
+    ∙ sym (internal-given g i)
 
 pub internal-fault-spec : {M : Type 1} → statement M
 internal-fault-spec =
     tie.close
     (tie.spec
+    (λ c κs. search needs)
+    (λ c κs. search needs)
     (λ c κs. search needs)
     returns)

@@ -20,7 +20,6 @@ use Rattle.job.specs.Lines.{entriesOf}
 use Rattle.job.proofs.Walk.{EntriesInOrder}
 use Rattle.job.proofs.Sections.{Counted, countLine}
 use Rattle.job.proofs.Alone.{entryOf, entry-is, most-24, alone-count, alone-counted, alone-entry, alone-next, alone-passed}
-use Rattle.rules.proofs.Parts.{fault-plain}
 use Rattle.job.proofs.Written.{building-given}
 use borrow.Author.Needs.{needs, sfits-of}
 use Rattle.job.proofs.judge.judge_section.Statement.{statement}
@@ -48,7 +47,7 @@ module _ (c : tie.After-count-fault Inv-loop μ-loop) where
 
   count-judged : c .count-fault .result ≡ lineFault (Count section) (job .building) (countLine section (length lines))
   count-judged =
-      c .count-fault .ensures ∙ sym (fault-plain (Count section) (job .building) _ refl)
+      c .count-fault .ensures (job .building)
       ∙ ap (λ (n : ℕ). lineFault (Count section) (job .building) (countLine section n)) many
 
 returns : tie.Need-returns Inv-loop μ-loop
@@ -100,8 +99,8 @@ module _ (c : tie.At-match-came Inv-loop μ-loop) where
   fault : c .match .number ≡ lineFault (Entry (section start)) g (getD (lines start) i [])
   fault =
       ⊎-elim (λ w. w .3 ∙ w .2 .ensures ∙ building-given _ g ∙ judged-as B (w .1 .given .1))
-      (⊎-elim (λ w. w .4 ∙ w .3 .ensures ∙ sym (fault-plain (Entry W) g _ refl) ∙ judged-as W (w .1 .given .1))
-      (⊎-elim (λ w. w .4 ∙ w .3 .ensures ∙ sym (fault-plain (Entry I) g _ refl) ∙ ap (λ (z : ℤ). lineFault (Entry I) g (internalFields z)) (toZ-ofZ (sfits-of (w .2 .given))) ∙ judged-as I (w .1 .given .1))
+      (⊎-elim (λ w. w .4 ∙ w .3 .ensures ∙ judged-as W (w .1 .given .1))
+      (⊎-elim (λ w. w .4 ∙ w .3 .ensures g ∙ ap (λ (z : ℤ). lineFault (Entry I) g (internalFields z)) (toZ-ofZ (sfits-of (w .2 .given))) ∙ judged-as I (w .1 .given .1))
       (λ w. w .4 ∙ w .3 .ensures ∙ judged-as F (w .1 .given .1))))
       (c .match .came)
 

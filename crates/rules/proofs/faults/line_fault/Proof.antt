@@ -1,29 +1,110 @@
--- `line_fault` meets its contract: a count, a wind and an internal coefficient have no fault but that of their fields.
-use mathlib.Core.Path.{refl, _∙_, sym}
-use Rattle.rules.specs.declared.Section.the-variants.{W, I}
+-- `line_fault` meets its contract: out of form it is 1, and in form the fault of its entry.
+use mathlib.Core.Path.{_≡_, sym, ap, _∙_}
+use mathlib.Core.Bool.{true}
+use lib.IntN.{ℤ}
+use mir.Syntax.{w64}
+use borrow.Author.Tests.{not-true, not-false}
+use Rattle.whole.proofs.Size.{returned}
+use Rattle.lines.specs.Held.{held}
+use Rattle.building.specs.declared.Building.{Building}
+use Rattle.building.specs.Fault.{first}
+use Rattle.building.specs.Building.{buildingFault}
+use Rattle.entry.specs.declared.Wind.{Wind}
+use Rattle.entry.specs.declared.Face.{Face}
+use Rattle.rules.specs.declared.Section.{Section}
+use Rattle.rules.specs.declared.Section.the-variants.{B, W, I, F}
+use Rattle.rules.specs.declared.Kind.{Kind}
 use Rattle.rules.specs.declared.Kind.the-variants.{Count, Entry}
-use Rattle.rules.proofs.Parts.{fault-plain}
+use Rattle.rules.specs.Form.{inForm}
+use Rattle.rules.specs.Faults.{windFaults, internalFaults, faceFaults}
+use Rattle.rules.specs.Sections.{forms, faultsOf, lineFault}
+use Rattle.rules.proofs.Line.{fault-out, fault-in}
 use borrow.Author.Needs.{needs}
 use Rattle.rules.proofs.faults.line_fault.Statement.{statement}
 use Rattle.rules.proofs.faults.line_fault.Tie as tie
+
+returns : tie.Need-returns
+returns c =
+    let f = c .before in
+    sym (fault-out _ _ _ (sym (f .in-form .ensures) ∙ not-true _ (c .if1 .taken)))
+
+-- in form: it has the faults of a line of its kind
+as-kind : (c : tie.Else1) (k : Kind) → c .before .before .args .k ≡ k → let a = c .before .before .args in
+    first (faultsOf k (a .g) (held (a .x))) ≡ lineFault (a .k) (a .g) (held (a .x))
+as-kind c k e =
+    let a = c .before .before .args in
+    ap (λ (q : Kind). first (faultsOf q (a .g) (held (a .x)))) (sym e)
+    ∙ sym (fault-in (a .k) (a .g) (held (a .x)) (sym (c .before .in-form .ensures) ∙ not-false _ (c .if1 .left)))
+
+-- an entry
+module _ (c : tie.After-known-told2) where
+  abbrev begun : tie.Else1
+  begun = c .before .before .before
+
+  abbrev args : tie.Start
+  args = begun .before .before
+
+  as-entry : (s : Section) → c .before .k2 .given .0 .0 ≡ s
+      → first (faultsOf (Entry s) (args .args .g) (held (args .args .x))) ≡ lineFault (args .args .k) (args .args .g) (held (args .args .x))
+  as-entry s e = as-kind begun (Entry s) (c .before .k2 .given .1 ∙ ap Entry e)
+
+returns-2 : tie.Need-returns-2
+returns-2 c =
+    let k = c .before .before in
+    let e = k .before .before in
+    c .count-fault .ensures (e .before .before .args .g) ∙ as-kind e (Count (k .k .given .0 .0)) (k .k .given .1)
+
+returns-3 : tie.Need-returns-3
+unfolding buildingFault
+returns-3 c =
+    let t = c .before .before in
+    c .building-fault .ensures ∙ ap buildingFault (c .before .building-of .ensures)
+    ∙ as-entry (t .before .before) B (t .enum-told .given .1)
+
+returns-4 : tie.Need-returns-4
+returns-4 c =
+    let t = c .before .before in
+    let g = args (t .before .before) .args .g in
+    c .wind-fault .ensures ∙ ap (λ (w : Wind). first (windFaults g w)) (c .before .wind-of .ensures)
+    ∙ as-entry (t .before .before) W (t .enum-told2 .given .1)
+
+returns-5 : tie.Need-returns-5
+returns-5 c =
+    let t = c .before .before in
+    let i = c .before .internal-of in
+    c .internal-fault .ensures ∙ ap (λ (z : ℤ). first (internalFaults z)) (returned w64 _ (i .ok) .same ∙ i .ensures)
+    ∙ as-entry (t .before .before) I (t .enum-told3 .given .1)
+
+returns-6 : tie.Need-returns-6
+returns-6 c =
+    let t = c .before .before in
+    let g = args (t .before .before) .args .g in
+    c .face-fault .ensures ∙ ap (λ (f : Face). first (faceFaults g f)) (c .before .face-of .ensures)
+    ∙ as-entry (t .before .before) F (t .enum-told4 .given .1)
 
 pub line-fault-spec : {M : Type 1} → statement M
 line-fault-spec =
     tie.close
     (tie.spec
+    (λ c κs. search needs)
+    returns
     (λ c. search needs)
     (λ c κs. search needs)
     (λ c. search needs)
     (λ c. search needs)
     (λ c κs. search needs)
-    (λ c. search needs)
     (λ c κs. search needs)
     (λ c. search needs)
     (λ c κs. search needs)
+    (λ c κs. search needs)
     (λ c. search needs)
     (λ c κs. search needs)
-    (λ c. rw (c .before .before .k .given .1) (c .count-fields .ensures ∙ sym (fault-plain (Count _) _ _ refl)))
-    (λ c. let t = c .before in rw (t .before .before .before .k2 .given .1, t .enum-told .given .1) (c .building-line-fault .ensures _))
-    (λ c. let t = c .before in rw (t .before .before .before .k2 .given .1, t .enum-told2 .given .1) (c .wind-fields .ensures ∙ sym (fault-plain (Entry W) _ _ refl)))
-    (λ c. let t = c .before in rw (t .before .before .before .k2 .given .1, t .enum-told3 .given .1) (c .internal-fields .ensures ∙ sym (fault-plain (Entry I) _ _ refl)))
-    (λ c. let t = c .before in rw (t .before .before .before .k2 .given .1, t .enum-told4 .given .1) (c .face-line-fault .ensures)))
+    (λ c κs. search needs)
+    (λ c. search needs)
+    (λ c κs. search needs)
+    (λ c κs. search needs)
+    returns-2
+    returns-3
+    returns-4
+    returns-5
+    returns-6)

@@ -1,10 +1,11 @@
 -- `cells::over_winds` meets its contract: the loop's state is `Run` over the winds, and it begins with nothing.
-use mathlib.Core.Path.{sym, ap, _∙_, subst}
+use mathlib.Core.Path.{_≡_, sym, ap, _∙_, subst}
 use Prim.Native.Nat.{_+_, _≤_, _-_}
 use native.Mathlib.Omega.{arith}
 use borrow.Author.Needs.{needs}
+use lib.IntN.{ℤ}
 use lib.ListN.{getD}
-use Rattle.whole.proofs.Size.{Num, bound}
+use Rattle.whole.proofs.Size.{Num, bound, said}
 use Rattle.entry.specs.declared.Wind.{Wind}
 use Rattle.job.specs.Carried.{noWind}
 use Rattle.worst.specs.Best.{better}
@@ -49,11 +50,20 @@ force c =
     told (c .pressure-of .result) (pressure (a .args .job .building .density) (blowing (c .before))) (c .pressure-of .ensures)
     (pressure-small (a .args .job .building .density) (blowing (c .before)) (a .pre .0 .density) (slow (c .before))) tt
 
+-- the sums under its direction
+summed : (c : tie.After-sums-under Inv-loop μ-loop) → let w = c .before .before .before in
+    c .sums-under .result ≡ under (blowing w .direction) (start w .args .zero) (start w .args .ninety)
+summed c =
+    let w = c .before .before .before in
+    said (λ (d : ℤ). under d (start w .args .zero) (start w .args .ninety)) (blowing w .direction) (c .sums-under .ensures)
+    (c .before .struct-told .given .0 .1)
+
 over-internals-requires : tie.Need-over-internals-requires Inv-loop μ-loop
 over-internals-requires c κs =
-    let a = start (c .before .before) in (
-      subst (SumsSmall 24) (sym (c .sums-under .ensures)) (under-small 24 (blowing (c .before .before) .direction) (a .args .zero) (a .args .ninety) (a .pre .1) (a .pre .2)),
-      bound (force (c .before)),
+    let a = start (c .before .before .before) in (
+      subst (SumsSmall 24) (sym (summed c))
+          (under-small 24 (blowing (c .before .before .before) .direction) (a .args .zero) (a .args .ninety) (a .pre .1) (a .pre .2)),
+      bound (force (c .before .before)),
       a .pre .0 .internals,
       omega arith,
     )
@@ -61,14 +71,14 @@ over-internals-requires c κs =
 loop-again : tie.Need-loop-again Inv-loop μ-loop
 loop-again c =
     let u = c .before in
-    let l = u .before .before .before .before .loop in
-    let t = u .before .before .before .loop-test .taken in
-    let a = start (u .before .before) in
+    let l = u .before .before .before .before .before .loop in
+    let t = u .before .before .before .before .loop-test .taken in
+    let a = start (u .before .before .before) in
     let j = a .args .job in (
       omega (arith, a .pre .0 .someWind),
       run-step _ _ _ (l .best) (c .over-internals .result) (l .w) (omega (arith, a .pre .0 .someWind)) (l .inv .1)
           (λ s. c .over-internals .ensures s
-          ∙ (λ k. better s (topOf (endOf s (l .best))) (cellsBest s (u .sums-under .ensures k .span) (force (u .before) .same k) (j .internals) (l .w + 1)))
+          ∙ (λ k. better s (topOf (endOf s (l .best))) (cellsBest s (summed u k .span) (force (u .before .before) .same k) (j .internals) (l .w + 1)))
           ∙ ap (λ (w : Wind). better s (topOf (endOf s (l .best))) (cellsBest s (under (w .direction) (a .args .zero) (a .args .ninety) .span) (pressure (j .building .density) w) (j .internals) (l .w + 1))) (at-next (λ k. getD (j .winds .entry) k noWind) (l .w))),
     )
 

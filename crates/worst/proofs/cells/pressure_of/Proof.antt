@@ -1,30 +1,24 @@
 -- `cells::pressure_of` meets its contract: a speed squared is at most a million.
-use Prim.Native.Nat.{_*_, _≤_}
-use native.Mathlib.Nat.{mul-le-mul}
-use native.Mathlib.Omega.{arith}
 use mir.Syntax.{w64}
-use Rattle.whole.proofs.Size.{Num, num≤, nat, back, fit, _⊗_}
+use Rattle.whole.proofs.Size.{Num, num≤, back, fit, _⊗_}
 use Rattle.worst.proofs.cells.pressure_of.Statement.{statement}
 use Rattle.worst.proofs.cells.pressure_of.Tie as tie
 
 module _ (a : tie.Start) where
-  squared-small : a .args .w .speed * a .args .w .speed ≤ 1000000
-  squared-small = mul-le-mul (a .pre .1) (a .pre .1)
+  abbrev speed : Num
+  speed = back w64 (num≤ (a .args .w .speed) (a .pre .1)) tt
 
   abbrev pressure : Num
-  pressure = back w64 (num≤ (a .args .b .density) (a .pre .0)) tt ⊗ nat w64 1000000 squared-small tt
-
-mul-squared : tie.Need-mul-squared
-mul-squared c = record { fits = omega (arith, squared-small (c .before)) }
-
-cast-result : tie.Need-cast-result
-cast-result c = record { sfits = omega (arith, squared-small (c .before)) }
+  pressure = back w64 (num≤ (a .args .b .density) (a .pre .0)) tt ⊗ back w64 (speed ⊗ speed) tt
 
 mul-result : tie.Need-mul-result
-mul-result c = fit {w = w64} (pressure (c .before .before .before)) tt
+mul-result c = let a = c .before .before in fit {w = w64} (speed a ⊗ speed a) tt
+
+mul-result-2 : tie.Need-mul-result-2
+mul-result-2 c = fit {w = w64} (pressure (c .before .before .before .before)) tt
 
 returns : tie.Need-returns
-returns c = back w64 (pressure (c .before .before .before)) tt .same
+returns c = back w64 (pressure (c .before .before .before .before)) tt .same
 
 pub pressure-of-spec : {M : Type 1} → statement M
-pressure-of-spec = tie.close (tie.spec mul-squared cast-result mul-result returns)
+pressure-of-spec = tie.close (tie.spec mul-result mul-result-2 returns)

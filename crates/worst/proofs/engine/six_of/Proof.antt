@@ -1,9 +1,9 @@
 -- `engine::six_of` meets its contract: the best cells from the sums under either direction are the worst of all cases.
 use mathlib.Core.Path.{_≡_, refl, _∙_}
-use mathlib.Core.Logic.{inl, inr}
 use Prim.Native.Nat.{_≤_}
 use native.Mathlib.Omega.{arith}
 use borrow.Author.Needs.{needs}
+use lib.IntN.{pos}
 use lib.ListN.{length}
 use Rattle.worst.specs.Engine.{AxesSmall, Ready}
 use Rattle.worst.proofs.Lists.{mapped-length}
@@ -26,13 +26,13 @@ added-requires : tie.Need-added-requires
 added-requires c κs =
     let m = c .before in
     let a = m .before .before .before in
-    met-few (a .args .job) (a .pre) 0 (m .faces-met .result) (inl refl) (m .faces-met .ensures)
+    met-few (a .args .job) (a .pre) (pos 0) (m .faces-met .result) refl (m .faces-met .ensures)
 
 added-requires-2 : tie.Need-added-requires-2
 added-requires-2 c κs =
     let m = c .before in
     let a = m .before .before .before .before in
-    met-few (a .args .job) (a .pre) 90 (m .faces-met2 .result) (inr refl) (m .faces-met2 .ensures)
+    met-few (a .args .job) (a .pre) (pos 90) (m .faces-met2 .result) refl (m .faces-met2 .ensures)
 
 -- both sums are small
 module _ (c : tie.After-added2) where
@@ -47,11 +47,11 @@ module _ (c : tie.After-added2) where
 
   zero-small : AxesSmall 24 (c .before .added .result)
   zero-small =
-      met-small (a .args .job) (a .pre) 0 (m .faces-met .result) (inl refl) (m .faces-met .ensures) (c .before .added .result) (c .before .added .ensures)
+      met-small (a .args .job) (a .pre) (pos 0) (m .faces-met .result) refl (m .faces-met .ensures) (c .before .added .result) (c .before .added .ensures)
 
   ninety-small : AxesSmall 24 (c .added2 .result)
   ninety-small =
-      met-small (a .args .job) (a .pre) 90 (n .faces-met2 .result) (inr refl) (n .faces-met2 .ensures) (c .added2 .result) (c .added2 .ensures)
+      met-small (a .args .job) (a .pre) (pos 90) (n .faces-met2 .result) refl (n .faces-met2 .ensures) (c .added2 .result) (c .added2 .ensures)
 
   -- so those of any axis are
   ready : Ready (a .args .job) × AxesSmall 24 (c .before .added .result) × AxesSmall 24 (c .added2 .result)

@@ -1,10 +1,10 @@
 -- `surface::looked_up` meets its contract: an arm for each answer.
-use mathlib.Core.Path.{_≡_, sym, ap, _∙_}
-use native.Mathlib.Omega.{arith}
-use lib.IntN.{ℤ, pos}
-use mir.Syntax.{w32, w64}
+use mathlib.Core.Path.{_≡_, sym, _∙_}
+use lib.IntN.{ℤ}
+use mir.Syntax.{w32}
 use mir.Val.{SFits}
-use mir.ValLaws.{toZ-ofZ, toZ-pos}
+use mir.ValLaws.{toZ-ofZ}
+use Rattle.whole.proofs.Size.{said}
 use Rattle.book.specs.Question.{outsideOf}
 use Rattle.worst.specs.Engine.{surfaceWith}
 use Rattle.worst.proofs.Surfaces.{surface-one, surface-two, surface-none}
@@ -13,10 +13,10 @@ use Rattle.worst.proofs.surface.looked_up.Statement.{statement}
 use Rattle.worst.proofs.surface.looked_up.Tie as tie
 
 -- the question that was asked
-asked : (c : tie.After-outside) → outsideOf (c .before .args .b) (pos (c .before .args .direction)) (c .before .args .f .zone) ≡ c .outside .result
+asked : (c : tie.After-outside) → outsideOf (c .before .args .b) (c .before .args .direction) (c .before .args .f .zone) ≡ c .outside .result
 asked c =
     let a = c .before in
-    sym (c .outside .ensures ∙ ap (λ (z : ℤ). outsideOf (a .args .b) z (a .args .f .zone)) (toZ-pos w64 (a .args .direction) (omega (arith, a .fits .direction))))
+    sym (said (λ (z : ℤ). outsideOf (a .args .b) z (a .args .f .zone)) (a .args .direction) (c .outside .ensures) (a .fits .direction .sfits))
 
 returns : tie.Need-returns
 returns c =
@@ -51,7 +51,6 @@ pub looked-up-spec : {M : Type 1} → statement M
 looked-up-spec =
     tie.close
     (tie.spec
-    (λ c. search needs)
     (λ c κs. search needs)
     (λ c. search needs)
     (λ c κs. search needs)
