@@ -6,10 +6,12 @@ use native.Mathlib.Numerals.{add-one}
 use native.Mathlib.Omega.{arith}
 use lib.Dec.{T, ltb}
 use lib.IntN.{ℤ, pos, natAbs}
+use lib.Signed.{_≤ℤ_}
 use lib.ListN.{getD, take, drop, List·getD-map}
 use lib.Seq.{getD-take, getD-drop}
 use mir.Syntax.{w16}
 use mir.Val.{hbits}
+use Rattle.whole.proofs.Parts.{order}
 use Rattle.whole.proofs.Size.{Num, back}
 use Rattle.whole.proofs.Table.{each-at}
 use Rattle.building.specs.Ratio.{Limit, _÷_}
@@ -18,8 +20,9 @@ use Rattle.book.specs.declared.walls.Wall as coded
 use Rattle.book.specs.Line.{Row, cellIn}
 use Rattle.book.specs.Gable.{heights}
 use Rattle.book.specs.Walls.{Wall, wall, walls, wallCells}
-use Rattle.book.specs.Roofs.{parts, joined, roofAts, roofCells, firstRow}
+use Rattle.book.specs.Roofs.{parts, joined, roofCells, firstRow}
 use Rattle.book.proofs.Walked.{printed}
+use Rattle.book.proofs.Tables.{roofAts}
 
 -- a number of a table as the machine has it, z, is the printed one, v
 abbrev pub entry : {z v : ℤ} {k : ℕ} → z ≡ v → natAbs v ≤ k → T (ltb k (2 ^ hbits w16)) → Num
@@ -98,6 +101,9 @@ codedRows = numbered (joined parts)
 pub row-at : (i : ℕ) → getD (getD codedRows i []) 0 (pos 0) ≡ pos (getD roofAts i 0)
 unfolding roofAts
 row-at = numbered-at (joined parts)
+
+pub row-natural : (i : ℕ) → pos 0 ≤ℤ getD (getD codedRows i []) 0 (pos 0)
+row-natural i = rw row-at (omega (arith, order))
 
 pub row-cell : (i col : ℕ) → getD (getD codedRows i []) (col + 1) (pos 0) ≡ cellIn roofCells i col
 unfolding roofCells

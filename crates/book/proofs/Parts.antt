@@ -9,9 +9,10 @@ use lib.Seq.{getD-take}
 use Rattle.whole.proofs.Table.{each-at}
 use Rattle.book.specs.declared.line.Spot.{Spot}
 use Rattle.book.specs.Line.{on, way, spotFrom}
-use Rattle.book.specs.Roofs.{parts, joined, roofAts, roofCells, partRows, partAts, firstRow}
+use Rattle.book.specs.Roofs.{parts, joined, roofCells, partRows, partAts, firstRow}
 use Rattle.book.proofs.Spot.{rising, spot-stops, spot-passes, spot-ends}
 use Rattle.book.proofs.Walked.{printed}
+use Rattle.book.proofs.Tables.{roofAts}
 
 -- their rows are printed one after the other
 abbrev PrintedFrom : ℕ → Type 0

@@ -1,16 +1,16 @@
 -- How large the numbers of the printed tables are, each by one test over the whole of them.
 use mathlib.Core.Path.{subst}
 use mathlib.Core.Bool.{Bool}
-use mathlib.Core.List.{List, []}
+use mathlib.Core.List.{List, [], map}
 use Prim.Native.Nat.{ℕ, zero-le, _≤_, _<_}
 use lib.Dec.{T, leb, leb→le, le→leb}
 use lib.IntN.{ℤ, pos, natAbs}
 use lib.ListN.{getD, take}
 use lib.Seq.{getD-take}
 use Rattle.whole.proofs.Table.{all, all-at}
-use Rattle.book.specs.Line.{cellIn}
+use Rattle.book.specs.Line.{Row, cellIn}
 use Rattle.book.specs.Walls.{wallCells}
-use Rattle.book.specs.Roofs.{roofAts, roofCells}
+use Rattle.book.specs.Roofs.{parts, joined, roofCells}
 
 abbrev small : ℕ → ℤ → Bool
 small k z = leb (natAbs z) k
@@ -44,7 +44,10 @@ flat-small i col h =
     (all-at (small 120) (take 2 (getD roofCells i [])) (pos 0) tt
     (all-at (λ (l : List ℤ). all (small 120) (take 2 l)) roofCells [] tt tt i) col))
 
--- the numbers at which rows stand
+-- the numbers at which all rows stand
+unfoldable pub roofAts : List ℕ
+roofAts = map (λ (r : Row). r .at) (joined parts)
+
 pub at-small : (i : ℕ) → getD roofAts i 0 ≤ 900
 unfolding roofAts
 at-small i = leb→le _ 900 (all-at (λ (n : ℕ). leb n 900) roofAts 0 tt tt i)

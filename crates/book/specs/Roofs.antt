@@ -19,10 +19,6 @@ abbrev pub joined : List (List Row) → List Row
 joined [] = []
 joined (l ∷ ls) = l ++ joined ls
 
--- the numbers at which the rows stand, and their hundredths
-unfoldable pub roofAts : List ℕ
-roofAts = map (λ (r : Row). r .at) (joined parts)
-
 unfoldable pub roofCells : List (List ℤ)
 roofCells = map (λ (r : Row). r .cells) (joined parts)
 

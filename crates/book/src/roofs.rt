@@ -1,10 +1,13 @@
 // Roofs, tables 3.2.2.2.2 and 3.2.2.2.4: their parts one after the other, as the book has them.
 ghost use mathlib.Core.Path.{_≡_};
+ghost use mathlib.Core.List.{[]};
 ghost use Prim.Native.Nat.{_<_, _≤_, _*_};
+ghost use lib.IntN.{pos, natAbs};
+ghost use lib.Signed.{_≤ℤ_};
 ghost use lib.ListN.{getD};
 ghost use Rattle.book.specs.Line.{cellIn};
 ghost use Rattle.book.specs.Gable.{heights, blockOf};
-ghost use Rattle.book.specs.Roofs.{roofCells, roofAts, firstRow, partAts, partOf, spotIn, roofValue};
+ghost use Rattle.book.specs.Roofs.{roofCells, firstRow, partAts, partOf, spotIn, roofValue};
 ghost use Rattle.building.specs.Order.{InOrder};
 ghost use Rattle.building.specs.Ratio.{_÷_, upTo};
 use super::line::Spot;
@@ -21,8 +24,7 @@ const HEIGHTS: [Limit; 3] = [Limit(1, 2), Limit(3, 2), Limit(6, 1)];
 // The row with which each part begins: gable by h/b; straight eaves, parapet, curved eaves, mansard.
 const FIRST: [usize; 8] = [0, 7, 14, 22, 23, 26, 29, 33];
 
-// The number at which a row stands, in tenths of a degree or, for parapet and curved eaves, in thousandths of h; and
-// its
+// The number at which a row stands, tenths of a degree or, for parapet and curved eaves, thousandths of h; and its
 // hundredths. Gable: wind 0 E,F; wind 0 G,H; wind 90 E,G; wind 90 F,H. Flat: E; F, with both signs; L1; L2.
 const ROWS: [[i16; 5]; 33] = [
     // Gable, h/b to 1/2.
@@ -98,12 +100,13 @@ fn first_row(k: usize) -> usize
     FIRST[k]
 }
 
-// The number at which a row stands.
-fn stands(row: usize) -> u64
+// The number at which a row stands. The table is lent, so that a walk over it is over one copy.
+fn stands(rows: &[[i16; 5]; 33], row: usize) -> u64
     requires { ⌜ row < 33 ⌝ }
-    ensures { λ r. ⌜ r ≡ getD roofAts row 0 ⌝ }
+    requires { ⌜ pos 0 ≤ℤ getD (getD (now rows) row []) 0 (pos 0) ⌝ }
+    ensures { λ r. ⌜ r ≡ natAbs (getD (getD (now (rows .entry)) row []) 0 (pos 0)) ⌝ }
 {
-    ROWS[row][0] as u64
+    rows[row][0] as u64
 }
 
 fn cell(row: usize, col: usize) -> i16
@@ -129,11 +132,12 @@ fn spot_in(k: usize, x: u64, d: u64) -> Spot
     requires { ⌜ (k < 7) × (0 < d) × (d ≤ 30000) × (getD (partAts k) 0 0 * d ≤ x) ⌝ }
     ensures { λ r. ⌜ r ≡ spotIn k x d ⌝ }
 {
+    let rows = ROWS;
     let end = first_row(k + 1);
     let mut i = first_row(k);
     while i + 1 < end {
-        let s = stands(i) * d;
-        let t = stands(i + 1) * d;
+        let s = stands(&rows, i) * d;
+        let t = stands(&rows, i + 1) * d;
         if x <= t {
             return Spot {
                 lower: i,

@@ -1,23 +1,26 @@
 -- `roofs::spot_in`: the loop takes the walk over the rows of the part that are left.
 use mathlib.Core.Path.{_≡_, sym, ap, _∙_}
+use mathlib.Core.List.{[]}
 use Prim.Native.Nat.{ℕ, _+_, _-_, _*_, _≤_}
 use native.Mathlib.Nat.{mul-le-mul}
 use native.Mathlib.Omega.{arith}
 use borrow.Author.Needs.{needs}
+use lib.IntN.{pos, natAbs}
 use lib.ListN.{getD, drop}
 use Rattle.book.specs.Line.{spotFrom}
-use Rattle.book.specs.Roofs.{roofAts, firstRow, spotIn}
+use Rattle.book.specs.Roofs.{firstRow, spotIn}
 use Rattle.book.proofs.Parts.{rowsTo, part, walk-stops, walk-passes, walk-ends}
-use Rattle.book.proofs.Tables.{at-small}
+use Rattle.book.proofs.Tables.{roofAts, at-small}
+use Rattle.book.proofs.Coded.{codedRows, row-at, row-natural}
 use Rattle.book.proofs.roofs.spot_in.Statement.{statement}
 use Rattle.book.proofs.roofs.spot_in.Tie as tie
 
 abbrev Inv-loop : tie.InvT-loop
-Inv-loop k x d end i₀ i =
+Inv-loop k x d rows end i₀ i =
     (i ≤ end) × (getD roofAts i 0 * d ≤ x) × (spotIn k x d ≡ spotFrom i (drop i (rowsTo k)) x d)
 
 abbrev μ-loop : tie.MeasureT-loop
-μ-loop k x d end i₀ i = end - i
+μ-loop k x d rows end i₀ i = end - i
 
 abbrev start : tie.At-loop Inv-loop μ-loop → tie.Start Inv-loop μ-loop
 start c = c .before .before .before
@@ -28,6 +31,10 @@ last c = c .before .before .first-row .ensures
 
 few : (c : tie.At-loop Inv-loop μ-loop) → c .before .before .first-row .result ≤ 33
 few c = omega (arith, last c, part (start c .args .k) (start c .pre .0) .end)
+
+-- the number that was read is the printed one
+printed : {n : ℕ} (i : ℕ) → n ≡ natAbs (getD (getD codedRows i []) 0 (pos 0)) → n ≡ getD roofAts i 0
+printed i e = e ∙ ap natAbs (row-at i)
 
 -- a row's number, times d
 scaled : {n m : ℕ} (d : ℕ) → n ≡ m → n * d ≡ m * d
@@ -48,58 +55,66 @@ add-loop : tie.Need-add-loop Inv-loop μ-loop
 add-loop c = omega (arith, few c)
 
 stands-requires : tie.Need-stands-requires Inv-loop μ-loop
-stands-requires c κs = omega (arith, few (c .before))
+stands-requires c κs = let l = c .before .before in (omega (arith, few l), row-natural (l .loop .i))
 
 mul-s : tie.Need-mul-s Inv-loop μ-loop
 mul-s c =
-    let l = c .before .before in
+    let l = c .before .before .before in
     let s = start l in
-    omega (arith, small (l .loop .i) (s .args .d) (s .pre .2) (c .stands .ensures))
+    omega (arith, small (l .loop .i) (s .args .d) (s .pre .2) (printed (l .loop .i) (c .stands .ensures)))
 
 stands-requires-2 : tie.Need-stands-requires-2 Inv-loop μ-loop
-stands-requires-2 c κs = omega (arith, few (c .before .before))
+stands-requires-2 c κs =
+    let l = c .before .before .before .before in
+    (omega (arith, few l), row-natural (l .loop .i + 1))
 
 mul-t : tie.Need-mul-t Inv-loop μ-loop
 mul-t c =
-    let l = c .before .before .before in
+    let l = c .before .before .before .before .before in
     let s = start l in
-    omega (arith, small (l .loop .i + 1) (s .args .d) (s .pre .2) (c .stands2 .ensures))
+    omega (arith, small (l .loop .i + 1) (s .args .d) (s .pre .2) (printed (l .loop .i + 1) (c .stands2 .ensures)))
 
--- where the walk stops, x/d is not before row i, and not past row i + 1
-from : (c : tie.Then1 Inv-loop μ-loop)
-    → let s = start (c .before .before .before .before) in c .before .before .stands .result * s .args .d ≤ s .args .x
+-- where the walk stops, x/d is not before row i
+from : (c : tie.Then1 Inv-loop μ-loop) →
+    let r = c .before .before .before in
+    let s = start (r .before .before .before) in
+    r .stands .result * s .args .d ≤ s .args .x
 from c =
-    let l = c .before .before .before .before in
-    omega (arith, scaled (start l .args .d) (c .before .before .stands .ensures), l .loop .inv .1)
+    let r = c .before .before .before in
+    let l = r .before .before .before in
+    omega (arith, scaled (start l .args .d) (printed (l .loop .i) (r .stands .ensures)), l .loop .inv .1)
 
-sub-t13 : tie.Need-sub-t13 Inv-loop μ-loop
-sub-t13 c = from c
+sub-t50 : tie.Need-sub-t50 Inv-loop μ-loop
+sub-t50 c = from c
 
-sub-t14 : tie.Need-sub-t14 Inv-loop μ-loop
-sub-t14 c = omega (arith, from c)
+sub-t51 : tie.Need-sub-t51 Inv-loop μ-loop
+sub-t51 c = omega (arith, from c)
 
 returns : tie.Need-returns Inv-loop μ-loop
 returns c =
     let t = c .before in
-    let l = t .before .before .before in
+    let r = t .before .before in
+    let l = r .before .before .before in
     let s = start l in
     let a = s .args in
     let e = last l in
-    let to = scaled (a .d) (t .stands2 .ensures) in
-    rw (t .before .stands .ensures, t .stands2 .ensures)
+    let upper = printed (l .loop .i + 1) (t .stands2 .ensures) in
+    let to = scaled (a .d) upper in
+    rw (printed (l .loop .i) (r .stands .ensures), upper)
     (sym (l .loop .inv .2 ∙ walk-stops (a .k) (s .pre .0) (a .x) (a .d) (l .loop .i) (omega arith) (omega arith)))
 
 loop-again : tie.Need-loop-again Inv-loop μ-loop
 loop-again c =
     let t = c .before in
-    let l = t .before .before .before in
+    let l = t .before .before .before .before .before in
     let s = start l in
     let a = s .args in
     let e = last l in
-    let past = scaled (a .d) (t .stands2 .ensures) in (
+    let past = scaled (a .d) (printed (l .loop .i + 1) (t .stands2 .ensures)) in (
       omega arith,
       omega arith,
-      l .loop .inv .2 ∙ walk-passes (a .k) (s .pre .0) (a .x) (a .d) (l .loop .i) (omega arith) (omega arith),
+      l .loop .inv .2
+          ∙ walk-passes (a .k) (s .pre .0) (a .x) (a .d) (l .loop .i) (omega arith) (omega arith),
     )
 
 returns-2 : tie.Need-returns-2 Inv-loop μ-loop
@@ -114,5 +129,5 @@ pub spot-in-spec : {M : Type 1} → statement M
 spot-in-spec =
     tie.close
     (tie.spec Inv-loop μ-loop (λ c. search needs) (λ c κs. search needs) (λ c κs. search needs) loop-holds add-loop
-    stands-requires mul-s (λ c. search needs) stands-requires-2 mul-t (λ c. search needs) sub-t13 sub-t14 returns
+    stands-requires mul-s (λ c. search needs) stands-requires-2 mul-t (λ c. search needs) sub-t50 sub-t51 returns
     (λ c. search needs) (λ c. search needs) loop-again returns-2)

@@ -1,22 +1,19 @@
--- `roofs::stands`: the code's rows stand where the printed ones do.
-use Prim.Native.Nat.{ℕ}
-use native.Mathlib.Omega.{arith}
+-- `roofs::stands`: a number that is not negative is cast as it is.
+use mathlib.Core.List.{[]}
 use borrow.Author.Needs.{needs}
-use Rattle.whole.proofs.Parts.{order}
-use Rattle.whole.proofs.Size.{Num, size, unsigned}
-use Rattle.book.proofs.Tables.{at-small}
-use Rattle.book.proofs.Coded.{entry, row-at}
+use lib.IntN.{pos}
+use lib.ListN.{getD}
+use mir.Syntax.{w16}
+use Rattle.whole.proofs.Size.{returned, unsigned}
 use Rattle.book.proofs.roofs.stands.Statement.{statement}
 use Rattle.book.proofs.roofs.stands.Tie as tie
 
-abbrev number : ℕ → Num
-number i = entry (row-at i) (at-small i) tt
-
 cast-result : tie.Need-cast-result
-cast-result c = unsigned (number (c .before .args .row)) (omega (arith, order)) tt
-
-returns : tie.Need-returns
-returns c = size (number (c .before .args .row))
+cast-result c =
+    let a = c .before .args in
+    unsigned (returned w16 (getD (getD (a .rows .now) (a .row) []) 0 (pos 0)) (c .result .given))
+    (c .before .pre .1) tt
 
 pub stands-spec : {M : Type 1} → statement M
-stands-spec = tie.close (tie.spec (λ c. search needs) (λ c. search needs) (λ c. search needs) cast-result returns)
+stands-spec =
+    tie.close (tie.spec (λ c. search needs) (λ c. search needs) (λ c. search needs) cast-result (λ c. search needs))
