@@ -14,7 +14,7 @@ use Rattle.book.specs.declared.Answer.the-variants.{One, Two, Refused}
 use Rattle.book.specs.Line.{cellIn}
 use Rattle.book.specs.Roofs.{roofValue}
 use Rattle.book.specs.Walls.{wallRow, wallCells, wallValue}
-use Rattle.building.specs.Order.{InOrder}
+use Rattle.building.specs.Order.{SizesInOrder}
 use Rattle.building.specs.Building.{buildingFault, sizes}
 use Rattle.book.specs.Answer.{numberOf, lineOf, valuesOf, Alternatives, one, two}
 use Rattle.building.specs.declared.Question.{Question}
@@ -23,7 +23,7 @@ use Rattle.building.specs.Places.{E, F, wallPlace, zoneOn, localOn, knows}
 use Rattle.building.specs.Question.{askedOf}
 use Rattle.building.proofs.Places.{needs-roof, must-be-E}
 use Rattle.building.proofs.Judged.{Told, told, in-question}
-use Rattle.book.specs.Question.{wallColumn, gableColumn, flatColumn, bothSigns, coefficientOf, answer}
+use Rattle.book.specs.Question.{wallColumn, gableColumn, flatColumn, bothSigns, coefficientOf, answerTo}
 use Rattle.book.specs.Question.{outsideOf}
 use Rattle.book.proofs.Between.{value-on, line-small}
 use Rattle.book.proofs.Tables.{wall-small}
@@ -64,7 +64,7 @@ wallValue-small h a b col =
     let c = cellIn wallCells (wallRow h a b) col in
     line-small c c 0 1 (lit≤ tt) (lit< tt) 120 (wall-small (wallRow h a b) col) (wall-small (wallRow h a b) col)
 
-module _ (s : Sizes) (o : InOrder s) (wind place k : ℕ) (enough : 1200 ≤ k)
+module _ (s : Sizes) (o : SizesInOrder s) (wind place k : ℕ) (enough : 1200 ≤ k)
     (roofed : wallPlace place ≡ false → 0 < s .kind)
     (flat : wallPlace place ≡ false → (s .kind ≡ 1 → ⊥) → (place ≡ F → ⊥) → natAbs (roofValue s (flatColumn place)) ≤ k) where
   off-wall : wallPlace place ≡ false → Alternatives k (s .kind) place (coefficientOf s wind place)
@@ -135,8 +135,8 @@ module _ (g : Building) (direction : ℤ) (place : ℕ) where
       subst (λ (n : ℕ). natAbs (roofValue (sizes g) n) ≤ 1200) (sym (column-E (must-be-E (g .kind) place z w i h)))
       (flatValue-small (sizes g) o (needs-roof (g .kind) place w on) 0 (lit< tt))))
 
-  -- any answer: no alternative is above 2.500
-  small-answer : (q : Question) → Told g direction place q → Small (answer q (natAbs direction) place)
+  -- any answerTo: no alternative is above 2.500
+  small-answer : (q : Question) → Told g direction place q → Small (answerTo q (natAbs direction) place)
   small-answer (asked.Of s) f =
       small-of
       (alternatives s (f .order) (natAbs direction) place 2500 (lit≤ tt) (f .roofed) (λ w i h. roofValue-small s (f .order) (f .roofed w) (flatColumn place)))
@@ -146,7 +146,7 @@ module _ (g : Building) (direction : ℤ) (place : ℕ) where
   unfolding outsideOf
   answer-small = small-answer (askedOf g direction place) (told g direction place)
 
--- ---- an answer is no more than its number, its line and its alternatives: what the paper says of it leaves no
+-- ---- an answerTo is no more than its number, its line and its alternatives: what the paper says of it leaves no
 -- choice
 
 pub same-answer : (r s : Answer) → numberOf r ≡ numberOf s → lineOf r ≡ lineOf s → valuesOf r ≡ valuesOf s → r ≡ s

@@ -11,7 +11,7 @@ use Rattle.whole.proofs.Parts.{add-law, up-neg, down-neg, up-scale, down-scale,
 use Rattle.whole.proofs.Order.{≤ℤ-antisym}
 use Rattle.whole.proofs.Size.{size-low, size-high, size-between}
 use Rattle.whole.proofs.Rounding.{roundAway-mono, roundAway-exact}
-use Rattle.book.specs.Line.{on, lineAt, cellIn, valueAt, Between}
+use Rattle.book.specs.Line.{on, onStraight, cellIn, valueAt, Between}
 
 -- a mean of two numbers with weights p and q lies above what is below both, and below what is above both
 module _ (p q : ℕ) (v w m : ℤ) where
@@ -39,22 +39,22 @@ module _ (v w : ℤ) (part whole : ℕ) (within : part ≤ whole) (some : 0 < wh
   both : (whole - part) + part ≡ whole
   both = omega arith
 
-  line-above : (m : ℤ) → m ≤ℤ v → m ≤ℤ w → (m *ℤ pos 10) ≤ℤ lineAt v w part whole
-  unfolding lineAt
+  line-above : (m : ℤ) → m ≤ℤ v → m ≤ℤ w → (m *ℤ pos 10) ≤ℤ onStraight v w part whole
+  unfolding onStraight
   line-above m h k =
-      subst (λ (z : ℤ). z ≤ℤ lineAt v w part whole) (roundAway-exact (m *ℤ pos 10) whole some)
+      subst (λ (z : ℤ). z ≤ℤ onStraight v w part whole) (roundAway-exact (m *ℤ pos 10) whole some)
       (roundAway-mono whole _ _
       (subst (λ (d : ℕ). ((m *ℤ pos 10) *ℤ pos d) ≤ℤ ((v *ℤ pos (whole - part) +ℤ w *ℤ pos part) *ℤ pos 10)) both (mean-above (whole - part) part v w m h k)))
 
-  line-below : (m : ℤ) → v ≤ℤ m → w ≤ℤ m → lineAt v w part whole ≤ℤ (m *ℤ pos 10)
-  unfolding lineAt
+  line-below : (m : ℤ) → v ≤ℤ m → w ≤ℤ m → onStraight v w part whole ≤ℤ (m *ℤ pos 10)
+  unfolding onStraight
   line-below m h k =
-      subst (λ (z : ℤ). lineAt v w part whole ≤ℤ z) (roundAway-exact (m *ℤ pos 10) whole some)
+      subst (λ (z : ℤ). onStraight v w part whole ≤ℤ z) (roundAway-exact (m *ℤ pos 10) whole some)
       (roundAway-mono whole _ _
       (subst (λ (d : ℕ). ((v *ℤ pos (whole - part) +ℤ w *ℤ pos part) *ℤ pos 10) ≤ℤ ((m *ℤ pos 10) *ℤ pos d)) both (mean-below (whole - part) part v w m h k)))
 
   -- the one fact over all tables: the value lies between its rows' hundredths, as thousandths
-  pub line-between : Between (v *ℤ pos 10) (w *ℤ pos 10) (lineAt v w part whole)
+  pub line-between : Between (v *ℤ pos 10) (w *ℤ pos 10) (onStraight v w part whole)
   line-between =
       record {
         rising = λ h. (line-above v (≤ℤ-refl v) (order-down v w h), line-below w (order-down v w h) (≤ℤ-refl w));
@@ -65,16 +65,16 @@ module _ (v w : ℤ) (part whole : ℕ) (within : part ≤ whole) (some : 0 < wh
       order-down x y h = le-by x y (omega (arith, simp (up-scale, down-scale) at (le-at _ _ h)))
 
   -- on a row itself it is the row's
-  pub line-on : v ≡ w → lineAt v w part whole ≡ v *ℤ pos 10
+  pub line-on : v ≡ w → onStraight v w part whole ≡ v *ℤ pos 10
   line-on e =
       ≤ℤ-antisym (line-below v (≤ℤ-refl v) (subst (λ (z : ℤ). z ≤ℤ v) e (≤ℤ-refl v)))
       (line-above v (≤ℤ-refl v) (subst (λ (z : ℤ). v ≤ℤ z) e (≤ℤ-refl v)))
 
   -- so it is ten times as large as they are, at most
-  pub line-small : (k : ℕ) → natAbs v ≤ k → natAbs w ≤ k → natAbs (lineAt v w part whole) ≤ k * 10
+  pub line-small : (k : ℕ) → natAbs v ≤ k → natAbs w ≤ k → natAbs (onStraight v w part whole) ≤ k * 10
   line-small k h g =
-      size-between (lineAt v w part whole) (k * 10)
-      (subst (λ (z : ℤ). z ≤ℤ lineAt v w part whole) (tenfold k)
+      size-between (onStraight v w part whole) (k * 10)
+      (subst (λ (z : ℤ). z ≤ℤ onStraight v w part whole) (tenfold k)
       (line-above (negℤ (pos k)) (size-low v k h) (size-low w k g)))
       (line-below (pos k) (size-high v k h) (size-high w k g))
 
@@ -84,17 +84,17 @@ value-on cells i col = let c = cellIn cells i col in line-on c c 0 1 (lit≤ tt)
 -- at either end of the way it is that end's
 module _ (v w : ℤ) (n : ℕ) (some : 0 < n) where
   weighed : (p q : ℕ) (z : ℤ) → n - q ≡ p → (v *ℤ pos p +ℤ w *ℤ pos q) *ℤ pos 10 ≡ (z *ℤ pos 10) *ℤ pos n
-      → lineAt v w q n ≡ z *ℤ pos 10
-  unfolding lineAt
+      → onStraight v w q n ≡ z *ℤ pos 10
+  unfolding onStraight
   weighed p q z e f = rw (e, f) (roundAway-exact (z *ℤ pos 10) n some)
 
-  pub line-first : lineAt v w 0 n ≡ v *ℤ pos 10
+  pub line-first : onStraight v w 0 n ≡ v *ℤ pos 10
   line-first =
       weighed n 0 v (omega arith)
       (eq-by _ _
       (simp (up-scale, down-scale) (omega (arith, simp (up-scale, down-scale) at (add-law (v *ℤ pos n) (w *ℤ pos 0))))))
 
-  pub line-last : lineAt v w n n ≡ w *ℤ pos 10
+  pub line-last : onStraight v w n n ≡ w *ℤ pos 10
   line-last =
       weighed 0 n w (omega arith)
       (eq-by _ _

@@ -10,7 +10,7 @@ use borrow.Author.Tests.{eqb-true, eqb-false}
 use Rattle.whole.proofs.Tests.{by-test}
 use Rattle.building.specs.declared.Building.{Building}
 use Rattle.building.specs.declared.Sizes.{Sizes}
-use Rattle.building.specs.Order.{InOrder}
+use Rattle.building.specs.Order.{SizesInOrder}
 use Rattle.building.specs.Building.{buildingFault, sizes}
 use Rattle.building.specs.Places.{F, wallPlace, zoneOn, localOn, knows}
 use Rattle.building.proofs.Accepted.{in-order}
@@ -23,7 +23,7 @@ use Rattle.book.proofs.Interpolated.{interpolated-unique}
 use Rattle.book.proofs.Roofed.{roof-rises, roof-interpolated}
 use Rattle.book.proofs.Answers.{on-wall, on-gable, on-f, on-flat, wall-on, answered}
 
-module _ (s : Sizes) (o : InOrder s) (wind place : ℕ) where
+module _ (s : Sizes) (o : SizesInOrder s) (wind place : ℕ) where
   -- what is answered for a place that is on the building
   pub coefficient-is : (wallPlace place ≡ false → 0 < s .kind)
       → IsCoefficient s wind place (valuesOf (coefficientOf s wind place))

@@ -7,24 +7,24 @@ use native.Mathlib.Nat.{mul-lt-mul-of-pos-right}
 use native.Mathlib.Omega.{arith}
 use lib.IntN.{ℤ, pos, _*ℤ_}
 use Rattle.whole.proofs.Nearest.{roundAway-nearest, nearest-unique}
-use Rattle.book.specs.Line.{Row, lineAt, Between}
+use Rattle.book.specs.Line.{Row, onStraight, Between}
 use Rattle.book.specs.Interpolated.{Rising, LiesBetween, hundredths, NearLine, Interpolated, between, alone}
 use Rattle.book.proofs.Between.{line-between, line-first, line-last}
 use Rattle.book.proofs.Neighbours.{two-rows, neighbours-rise, Before, Met, same, before, after, meet}
 
--- what `lineAt` gives at x/d
+-- what `onStraight` gives at x/d
 abbrev onLine : Row → Row → ℕ → ℕ → ℕ → ℤ
 onLine lower upper col x d =
-    lineAt (hundredths lower col) (hundredths upper col) (x - lower .at * d) (upper .at * d - lower .at * d)
+    onStraight (hundredths lower col) (hundredths upper col) (x - lower .at * d) (upper .at * d - lower .at * d)
 
 module _ (rows : List Row) (rises : Rising rows) (col x d : ℕ) (some : 0 < d) where
   apart : {lower upper : Row} → LiesBetween rows x d lower upper → lower .at * d < upper .at * d
   apart b = mul-lt-mul-of-pos-right (neighbours-rise rows rises (b .next)) some
 
   module _ (lower upper : Row) (b : LiesBetween rows x d lower upper) where
-    -- `lineAt` is nearest to the line, and nothing else is
+    -- `onStraight` is nearest to the line, and nothing else is
     pub line-near : NearLine lower upper col x d (onLine lower upper col x d)
-    unfolding lineAt
+    unfolding onStraight
     line-near =
         let s = lower .at * d in
         let t = upper .at * d in

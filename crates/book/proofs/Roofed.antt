@@ -13,7 +13,7 @@ use Rattle.book.specs.Line.{cellIn, Between}
 use Rattle.book.specs.Interpolated.{Rising, Interpolated}
 use Rattle.book.specs.Gable.{blockOf}
 use Rattle.building.specs.Roof.{roofOf}
-use Rattle.building.specs.Order.{InOrder}
+use Rattle.building.specs.Order.{SizesInOrder}
 use Rattle.book.specs.Roofs.{partRows, partAts, firstRow, partOf, spotIn, roofCells, roofValue}
 use Rattle.book.proofs.Spot.{Good, spot-good}
 use Rattle.book.proofs.Walked.{lastAt, rows-rise, walked-interpolated}
@@ -54,7 +54,7 @@ pub record Covered (s : Sizes) (k : ℕ) : Type 0 where
   pub ends : lastAt (partRows k) ≡ roofOf (s .kind) .greatest
   pub gable : s .kind ≡ 1 → k < 3
 
-module _ (s : Sizes) (o : InOrder s) (roofed : 0 < s .kind) where
+module _ (s : Sizes) (o : SizesInOrder s) (roofed : 0 < s .kind) where
   pub covered : Covered s (partOf s)
   covered = go (eqb (s .kind) 1) refl
     where

@@ -32,15 +32,15 @@ spotFrom i (s ∷ []) x d = on i
 spotFrom i (s ∷ t ∷ l) x d = cond (leb x (t * d)) (way i s t x d) (spotFrom (i + 1) (t ∷ l) x d)
 
 -- part/whole of the way from v to w, which are hundredths: in thousandths
-unfoldable pub lineAt : ℤ → ℤ → ℕ → ℕ → ℤ
-lineAt v w part whole = roundAway ((v *ℤ pos (whole - part) +ℤ w *ℤ pos part) *ℤ pos 10) whole
+unfoldable pub onStraight : ℤ → ℤ → ℕ → ℕ → ℤ
+onStraight v w part whole = roundAway ((v *ℤ pos (whole - part) +ℤ w *ℤ pos part) *ℤ pos 10) whole
 
 -- the hundredths in row i and column col of a table, and the value at a spot
 abbrev pub cellIn : List (List ℤ) → ℕ → ℕ → ℤ
 cellIn cells i col = getD (getD cells i []) col (pos 0)
 
 abbrev pub valueAt : List (List ℤ) → ℕ → Spot → ℤ
-valueAt cells col s = lineAt (cellIn cells (s .lower) col) (cellIn cells (s .upper) col) (s .part) (s .whole)
+valueAt cells col s = onStraight (cellIn cells (s .lower) col) (cellIn cells (s .upper) col) (s .part) (s .whole)
 
 -- a value between two others, whichever is the larger
 pub record Between (v w z : ℤ) : Type 0 where

@@ -40,12 +40,12 @@ coefficientOf s wind place =
 -- ---- the question
 
 -- what is refused stays refused
-abbrev pub answer : Question → ℕ → ℕ → Answer
-answer (asked.Of s) wind place = coefficientOf s wind place
-answer (asked.Refused number line) wind place = Refused number line
+abbrev pub answerTo : Question → ℕ → ℕ → Answer
+answerTo (asked.Of s) wind place = coefficientOf s wind place
+answerTo (asked.Refused number line) wind place = Refused number line
 
 unfoldable pub outsideOf : Building → ℤ → ℕ → Answer
-outsideOf g direction place = answer (askedOf g direction place) (natAbs direction) place
+outsideOf g direction place = answerTo (askedOf g direction place) (natAbs direction) place
 
 -- net = outside minus internal, which is in hundredths
 abbrev pub net : ℤ → ℤ → ℤ
@@ -62,9 +62,9 @@ tooGreat internal = beyond (negℤ (pos 100)) (pos 100) internal
 
 -- the internal coefficient is judged once the rest is in order
 abbrev pub then : Answer → Answer → Answer
-then (One v) answer = answer
-then (Two v w) answer = answer
-then (Refused number line) answer = Refused number line
+then (One v) answerTo = answerTo
+then (Two v w) answerTo = answerTo
+then (Refused number line) answerTo = Refused number line
 
 unfoldable pub netOf : Building → ℤ → ℕ → ℤ → Answer
 netOf g direction place internal =

@@ -3,7 +3,7 @@ ghost use mathlib.Core.Path.{_≡_};
 ghost use Prim.Native.Nat.{_+_, _*_, _/_, _<_, _≤_};
 ghost use lib.IntN.{natAbs};
 ghost use Rattle.whole.specs.Round.{roundAway};
-ghost use Rattle.book.specs.Line.{lineAt};
+ghost use Rattle.book.specs.Line.{onStraight};
 
 // From row `lower` to row `upper`, `part` / `whole` of the way.
 pub(crate) struct Spot {
@@ -36,7 +36,7 @@ fn round_away(z: i64, d: u64) -> i64
 // `part` / `whole` of the way from v to w, in thousandths.
 pub(crate) fn line_at(v: i16, w: i16, part: u64, whole: u64) -> i32
     requires { ⌜ (natAbs v ≤ 250) × (natAbs w ≤ 250) × (part ≤ whole) × (0 < whole) × (whole < 100000000) ⌝ }
-    ensures { λ r. ⌜ r ≡ lineAt v w part whole ⌝ }
+    ensures { λ r. ⌜ r ≡ onStraight v w part whole ⌝ }
 {
     let n = ((v as i64) * ((whole - part) as i64) + (w as i64) * (part as i64)) * 10;
     round_away(n, whole) as i32

@@ -4,7 +4,7 @@ ghost use mathlib.Core.Bool.{true, false};
 ghost use Prim.Native.Nat.{_≤_, _<_};
 ghost use lib.IntN.{natAbs};
 ghost use Rattle.building.specs.Places.{wallPlace};
-ghost use Rattle.building.specs.Order.{InOrder};
+ghost use Rattle.building.specs.Order.{SizesInOrder};
 ghost use Rattle.book.specs.Question as question;
 ghost use Rattle.book.specs.Question.{wallColumn, gableColumn, flatColumn, bothSigns, coefficientOf};
 use super::Answer;
@@ -80,7 +80,7 @@ fn both_signs(v: i32) -> Answer
 
 // A place that is not on a wall needs a roof.
 pub(crate) fn coefficient(s: Sizes, wind: u64, place: u8) -> Answer
-    requires { ⌜ InOrder s ⌝ }
+    requires { ⌜ SizesInOrder s ⌝ }
     requires { ⌜ (wallPlace place ≡ false → 0 < s .kind) ⌝ }
     ensures { λ r. ⌜ r ≡ coefficientOf s wind place ⌝ }
 {

@@ -8,7 +8,7 @@ ghost use lib.ListN.{getD};
 ghost use Rattle.book.specs.Line.{cellIn};
 ghost use Rattle.book.specs.Gable.{heights, blockOf};
 ghost use Rattle.book.specs.Roofs.{roofCells, firstRow, partAts, partOf, spotIn, roofValue};
-ghost use Rattle.building.specs.Order.{InOrder};
+ghost use Rattle.building.specs.Order.{SizesInOrder};
 ghost use Rattle.building.specs.Ratio.{_÷_, upTo};
 use super::line::Spot;
 use super::line::line_at;
@@ -80,7 +80,7 @@ fn in_block(block: usize, s: Sizes) -> bool
 
 // The first block, in the book's order, up to whose limit h/b comes.
 fn block_of(s: Sizes) -> usize
-    requires { ⌜ InOrder s ⌝ }
+    requires { ⌜ SizesInOrder s ⌝ }
     ensures { λ r. ⌜ r ≡ blockOf (s .h) (s .b) ⌝ }
 {
     let mut block: usize = 0;
@@ -118,7 +118,7 @@ fn cell(row: usize, col: usize) -> i16
 
 // A gable's part goes by h/b, a flat roof's by its kind.
 fn part_of(s: Sizes) -> usize
-    requires { ⌜ InOrder s ⌝ }
+    requires { ⌜ SizesInOrder s ⌝ }
     ensures { λ r. ⌜ r ≡ partOf s ⌝ }
 {
     if s.kind == 1 {
@@ -158,7 +158,7 @@ fn spot_in(k: usize, x: u64, d: u64) -> Spot
 
 // The value of a column of the roof's table.
 pub(crate) fn roof_value(s: Sizes, col: usize) -> i32
-    requires { ⌜ InOrder s ⌝ }
+    requires { ⌜ SizesInOrder s ⌝ }
     requires { ⌜ (0 < s .kind) × (col < 4) ⌝ }
     ensures { λ r. ⌜ r ≡ roofValue s col ⌝ }
 {

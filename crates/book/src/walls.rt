@@ -7,7 +7,7 @@ ghost use lib.ListN.{getD};
 ghost use Rattle.building.specs.Ratio.{_÷_, upTo};
 ghost use Rattle.book.specs.Line.{cellIn};
 ghost use Rattle.book.specs.Walls.{wall, walls, wallRow, wallCells, wallValue};
-ghost use Rattle.building.specs.Order.{InOrder};
+ghost use Rattle.building.specs.Order.{SizesInOrder};
 use super::line::line_at;
 use building::Sizes;
 use building::ratio::up_to;
@@ -40,7 +40,7 @@ fn in_row(row: usize, s: Sizes) -> bool
 
 // The first row, in the book's order, up to whose limits h/b and a/b come.
 fn wall_row(s: Sizes) -> usize
-    requires { ⌜ InOrder s ⌝ }
+    requires { ⌜ SizesInOrder s ⌝ }
     ensures { λ r. ⌜ r ≡ wallRow (s .h) (s .a) (s .b) ⌝ }
 {
     let mut row: usize = 0;
@@ -68,7 +68,7 @@ fn wall_cell(row: usize, col: usize) -> i16
 }
 
 pub(crate) fn wall_value(s: Sizes, col: usize) -> i32
-    requires { ⌜ InOrder s ⌝ }
+    requires { ⌜ SizesInOrder s ⌝ }
     requires { ⌜ col < 9 ⌝ }
     ensures { λ r. ⌜ r ≡ wallValue (s .h) (s .a) (s .b) col ⌝ }
 {

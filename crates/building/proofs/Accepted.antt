@@ -12,8 +12,9 @@ use Rattle.building.specs.declared.Sizes.{Sizes}
 use Rattle.building.specs.Test.{beyond, tooLong}
 use Rattle.building.specs.Ratio.{_÷_, upTo}
 use Rattle.building.specs.Roof.{roofOf}
-use Rattle.building.specs.Order.{Ranged, InOrder}
-use Rattle.building.specs.Building.{begun, outOfForm, outOfRange, outOfWalls, outOfRoof, sizes, buildingFault, givenFault}
+use Rattle.building.specs.Order.{Ranged, SizesInOrder}
+use Rattle.building.specs.Building.{begun, outOfForm, outOfRange, outOfWalls, outOfRoof, sizes, buildingFault}
+use Rattle.building.specs.Building.{givenFault}
 use Rattle.building.proofs.Roofs.{across-range}
 
 -- ---- each number in its range
@@ -84,7 +85,8 @@ in-walls s e =
     let k₃ = leb-true (1 * s .a) (4 * s .b) (not-false _ (r₂ .1)) in
     (omega arith, omega arith, omega arith)
 
-pub in-roof : (s : Sizes) → outOfRoof s ≡ false → (roofOf (s .kind) .least * s .across ≤ s .along) × (s .along ≤ roofOf (s .kind) .greatest * s .across)
+pub in-roof : (s : Sizes) → outOfRoof s ≡ false
+    → (roofOf (s .kind) .least * s .across ≤ s .along) × (s .along ≤ roofOf (s .kind) .greatest * s .across)
 unfolding outOfRoof
 in-roof s e =
     let least = roofOf (s .kind) .least * s .across in
@@ -92,7 +94,8 @@ in-roof s e =
     let r = or-false (ltb (s .along) least) (ltb greatest (s .along)) e in
     (ltb-false (s .along) least (r .0), ltb-false greatest (s .along) (r .1))
 
-pub orderly : (g : Building) → Fields g → outOfWalls (sizes g) ≡ false → outOfRoof (sizes g) ≡ false → InOrder (sizes g)
+pub orderly : (g : Building) → Fields g → outOfWalls (sizes g) ≡ false → outOfRoof (sizes g) ≡ false
+    → SizesInOrder (sizes g)
 orderly g f e d =
     let w = in-walls (sizes g) e in
     let r = in-roof (sizes g) d in
@@ -119,7 +122,7 @@ module _ (g : Building) (good : buildingFault g ≡ 0) where
   pub good-fields : Fields g
   good-fields = fields g in-range
 
-  pub in-order : InOrder (sizes g)
+  pub in-order : SizesInOrder (sizes g)
   in-order = orderly g good-fields (passes .1) (passes .2)
 
 -- ---- given as a record: a number in its range is not too long
@@ -150,7 +153,7 @@ none-given g e = passed (outOfForm g) 0 _ e .1
 
 -- what each number says of the building
 pub data Why (g : Building) : ℕ → Type 0 where
-  in-order-throughout : Fields g → InOrder (sizes g) → Why g 0
+  in-order-throughout : Fields g → SizesInOrder (sizes g) → Why g 0
   a-number-out-of-range : outOfRange g ≡ true → Why g 3
   outside-the-wall-table : Fields g → outOfWalls (sizes g) ≡ true → Why g 4
   outside-the-roof's-range : Fields g → outOfWalls (sizes g) ≡ false → outOfRoof (sizes g) ≡ true → Why g 5
@@ -159,7 +162,8 @@ pub why : (g : Building) → Why g (buildingFault g)
 unfolding buildingFault
 why g = go (outOfRange g) (outOfWalls (sizes g)) (outOfRoof (sizes g)) refl refl refl
   where
-    go : (t u v : Bool) → outOfRange g ≡ t → outOfWalls (sizes g) ≡ u → outOfRoof (sizes g) ≡ v → Why g (cond t 3 (cond u 4 (cond v 5 0)))
+    go : (t u v : Bool) → outOfRange g ≡ t → outOfWalls (sizes g) ≡ u → outOfRoof (sizes g) ≡ v
+        → Why g (cond t 3 (cond u 4 (cond v 5 0)))
     go true u v p q r = a-number-out-of-range p
     go false true v p q r = outside-the-wall-table (fields g p) q
     go false false true p q r = outside-the-roof's-range (fields g p) q r

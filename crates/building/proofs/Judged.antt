@@ -1,4 +1,5 @@
--- A question's four outcomes, in the order of its checks; and that the sizes of one in order are those of a building in order, with a roof where its place needs one.
+-- A question's four outcomes, in the order of its checks; and that the sizes of one in order are those of a building
+-- in order, with a roof where its place needs one.
 use mathlib.Core.Path.{_≡_, refl, sym, subst}
 use mathlib.Core.Bool.{Bool, true, false, _||_}
 use Prim.Native.Nat.{ℕ, zero, suc, _<_}
@@ -9,7 +10,7 @@ use Rattle.building.specs.declared.Building.{Building}
 use Rattle.building.specs.declared.Sizes.{Sizes}
 use Rattle.building.specs.declared.Question.{Question}
 use Rattle.building.specs.declared.Question.the-variants.{Of, Refused}
-use Rattle.building.specs.Order.{InOrder}
+use Rattle.building.specs.Order.{SizesInOrder}
 use Rattle.building.specs.Building.{buildingFault, givenFault, sizes}
 use Rattle.building.specs.Places.{zoneOn, localOn, knows, wallPlace}
 use Rattle.building.specs.Question.{refuse, askedOf}
@@ -28,21 +29,24 @@ module _ (g : Building) (direction : ℤ) (place : ℕ) where
   unfolding askedOf
   bad-building h = refuse-some (givenFault g) 2 _ h
 
-  pub bad-direction : buildingFault g ≡ 0 → knows (g .kind) direction ≡ false → askedOf g direction place ≡ Refused 3 0
+  pub bad-direction : buildingFault g ≡ 0 → knows (g .kind) direction ≡ false
+      → askedOf g direction place ≡ Refused 3 0
   unfolding askedOf
   bad-direction e f = rw (given-none g e, f)
 
-  pub bad-place : buildingFault g ≡ 0 → knows (g .kind) direction ≡ true → On false → askedOf g direction place ≡ Refused 6 0
+  pub bad-place : buildingFault g ≡ 0 → knows (g .kind) direction ≡ true → On false
+      → askedOf g direction place ≡ Refused 6 0
   unfolding askedOf
   bad-place e f k = rw (given-none g e, f, k)
 
-  pub in-question : buildingFault g ≡ 0 → knows (g .kind) direction ≡ true → On true → askedOf g direction place ≡ Of (sizes g)
+  pub in-question : buildingFault g ≡ 0 → knows (g .kind) direction ≡ true → On true
+      → askedOf g direction place ≡ Of (sizes g)
   unfolding askedOf
   in-question e f k = rw (given-none g e, f, k)
 
   -- what a question in order tells of its sizes
   pub record Fit (s : Sizes) : Type 0 where
-    pub order : InOrder s
+    pub order : SizesInOrder s
     pub roofed : wallPlace place ≡ false → 0 < s .kind
 
   abbrev pub Told : Question → Type 0
@@ -50,12 +54,16 @@ module _ (g : Building) (direction : ℤ) (place : ℕ) where
   Told (Refused number line) = Unit {0}
 
   pub told : Told (askedOf g direction place)
-  told = go (eqb (givenFault g) 0) (knows (g .kind) direction) (zoneOn (g .kind) place || localOn (g .kind) place) refl refl refl
+  told =
+      go (eqb (givenFault g) 0) (knows (g .kind) direction)
+      (zoneOn (g .kind) place || localOn (g .kind) place) refl refl refl
     where
-      go : (t u v : Bool) → eqb (givenFault g) 0 ≡ t → knows (g .kind) direction ≡ u → On v → Told (askedOf g direction place)
+      go : (t u v : Bool) → eqb (givenFault g) 0 ≡ t → knows (g .kind) direction ≡ u → On v
+          → Told (askedOf g direction place)
       go false u v p q r = subst Told (sym (bad-building (eqb-false (givenFault g) 0 p))) tt
       go true false v p q r = subst Told (sym (bad-direction (none-given g (eqb-true (givenFault g) 0 p)) q)) tt
       go true true false p q r = subst Told (sym (bad-place (none-given g (eqb-true (givenFault g) 0 p)) q r)) tt
       go true true true p q r =
           let e = none-given g (eqb-true (givenFault g) 0 p) in
-          subst Told (sym (in-question e q r)) (record { order = in-order g e; roofed = λ w. needs-roof (g .kind) place w r })
+          subst Told (sym (in-question e q r))
+          (record { order = in-order g e; roofed = λ w. needs-roof (g .kind) place w r })

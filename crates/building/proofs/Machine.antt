@@ -28,7 +28,8 @@ module _ (n z : ℤ) (h : mag n < 2 ^ 63) (k : mag z < 2 ^ 63) where
   same-bits =
       by-test (is n z)
       (λ e. eq-eqb _ _ (ap (ofZ w64) (is-same n z e)) ∙ sym e)
-      (λ e. ne-eqb (ofZ w64 z) (ofZ w64 n) (λ q. true≢false (sym (is-self n) ∙ ap (is n) (sym (read-back q)) ∙ e)) ∙ sym e)
+      (λ e.
+      ne-eqb (ofZ w64 z) (ofZ w64 n) (λ q. true≢false (sym (is-self n) ∙ ap (is n) (sym (read-back q)) ∙ e)) ∙ sym e)
     where
       read-back : ofZ w64 z ≡ ofZ w64 n → z ≡ n
       read-back q = sym (returned w64 z k .same) ∙ ap (toZ w64) q ∙ returned w64 n h .same

@@ -23,7 +23,8 @@ nowhere true u e f = true≢false e
 nowhere false true e f = true≢false e
 nowhere false false e f = false≢true f
 
-pub needs-roof : (kind : ℤ) (place : ℕ) → wallPlace place ≡ false → (zoneOn kind place || localOn kind place) ≡ true → 0 < natAbs kind
+pub needs-roof : (kind : ℤ) (place : ℕ) → wallPlace place ≡ false → (zoneOn kind place || localOn kind place) ≡ true
+    → 0 < natAbs kind
 unfolding zoneOn localOn beyond
 needs-roof (pos zero) place e f = absurd (nowhere (among A D place) (eqb place wallLocal) e f)
 needs-roof (pos (suc n)) place e f = omega arith
@@ -37,12 +38,14 @@ no-gable (negsuc k) h = refl
 last-of : (t u v w z : Bool) → t ≡ false → u ≡ false → (t || (u && v || w && z)) ≡ true → z ≡ true
 last-of t u v w z e f k = and-true w z (rw (e, f) at k) .1
 
-pub must-be-E : (kind : ℤ) (zone : ℕ) → zoneOn kind zone ≡ true → wallPlace zone ≡ false → (natAbs kind ≡ 1 → ⊥) → (zone ≡ F → ⊥) → zone ≡ E
+pub must-be-E : (kind : ℤ) (zone : ℕ) → zoneOn kind zone ≡ true → wallPlace zone ≡ false → (natAbs kind ≡ 1 → ⊥)
+    → (zone ≡ F → ⊥) → zone ≡ E
 unfolding zoneOn
 must-be-E kind zone e f g h =
     let r =
     among-yes E F zone
-    (last-of (among A D zone) (gable kind) (among E H zone) (flat kind) (among E F zone) (or-false (among A D zone) (eqb zone wallLocal) f .0) (no-gable kind g) e)
+    (last-of (among A D zone) (gable kind) (among E H zone) (flat kind) (among E F zone)
+    (or-false (among A D zone) (eqb zone wallLocal) f .0) (no-gable kind g) e)
     in
     omega arith
 
@@ -55,4 +58,5 @@ known kind direction e =
 pub known-within : (kind direction : ℤ) → knows kind direction ≡ true → Within 0 90 direction
 known-within kind direction e =
     ⊎-elim (λ q. subst (Within 0 90) (sym q) (record { from = omega arith; to = omega arith; plain = refl }))
-    (λ q. subst (Within 0 90) (sym q) (record { from = omega arith; to = omega arith; plain = refl })) (known kind direction e)
+    (λ q. subst (Within 0 90) (sym q) (record { from = omega arith; to = omega arith; plain = refl }))
+    (known kind direction e)

@@ -12,7 +12,8 @@ use Rattle.building.specs.Test.{beyond}
 module _ (least greatest z : ℤ) where
   pub not-beyond : beyond least greatest z ≡ false → (least ≤ℤ z) × (z ≤ℤ greatest)
   unfolding beyond
-  not-beyond e = let t = or-false (ltZ z least) (ltZ greatest z) e in (lt-false z least (t .0), lt-false greatest z (t .1))
+  not-beyond e =
+      let t = or-false (ltZ z least) (ltZ greatest z) e in (lt-false z least (t .0), lt-false greatest z (t .1))
 
   pub is-within : least ≤ℤ z → z ≤ℤ greatest → beyond least greatest z ≡ false
   unfolding beyond

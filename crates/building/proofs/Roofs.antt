@@ -14,10 +14,12 @@ unfolding roofOf
 low-at kind = all-at low roofs (roof 0 0 false) tt tt kind
 
 pub least-most : (kind : ℕ) → roofOf kind .least ≤ 900
-least-most kind = leb→le _ 900 (both-left (leb (roofOf kind .least) 900) (leb (roofOf kind .greatest) 900) (low-at kind))
+least-most kind =
+    leb→le _ 900 (both-left (leb (roofOf kind .least) 900) (leb (roofOf kind .greatest) 900) (low-at kind))
 
 pub greatest-most : (kind : ℕ) → roofOf kind .greatest ≤ 900
-greatest-most kind = leb→le _ 900 (both-right (leb (roofOf kind .least) 900) (leb (roofOf kind .greatest) 900) (low-at kind))
+greatest-most kind =
+    leb→le _ 900 (both-right (leb (roofOf kind .least) 900) (leb (roofOf kind .greatest) 900) (low-at kind))
 
 pub across-range : (kind h : ℕ) → 100 ≤ h → h ≤ 30000 → (0 < acrossOf kind h) × (acrossOf kind h ≤ 30000)
 across-range kind h from to = go (roofOf kind .byHeight)

@@ -63,7 +63,8 @@ outOfWalls s = not (upTo (s .h) (s .b) (6 ÷ 1)) || (not (begun (s .a) (s .b)) |
 
 -- x below the least of its roof, or above the greatest
 unfoldable pub outOfRoof : Sizes → Bool
-outOfRoof s = ltb (s .along) (roofOf (s .kind) .least * s .across) || ltb (roofOf (s .kind) .greatest * s .across) (s .along)
+outOfRoof s =
+    ltb (s .along) (roofOf (s .kind) .least * s .across) || ltb (roofOf (s .kind) .greatest * s .across) (s .along)
 
 -- ---- the faults in their order
 

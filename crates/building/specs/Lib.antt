@@ -1,4 +1,5 @@
--- A building: its numbers and their faults, the roofs by kind, the zones, locals and directions that a roof has, and what a question about one place is refused for.
+-- A building: its numbers and their faults, the roofs by kind, the zones, locals and directions that a roof has, and
+-- what a question about one place is refused for.
 pub mod Test
 pub mod Fault
 pub mod Ratio

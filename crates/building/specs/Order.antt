@@ -1,4 +1,5 @@
--- What it is for a building to be in order, said of its sizes. `in-order` of proofs/Accepted.antt shows it of each building without a fault.
+-- What it is for a building to be in order, said of its sizes. `in-order` of proofs/Accepted.antt shows it of each
+-- building without a fault.
 use Prim.Native.Nat.{_*_, _≤_, _<_}
 use Rattle.building.specs.declared.Sizes.{Sizes}
 use Rattle.building.specs.Roof.{roofOf}
@@ -16,7 +17,7 @@ pub record Ranged (s : Sizes) : Type 0 where
   pub across-most : s .across ≤ 30000
 
 -- and within the limits of the walls' table and of its roof: every table has a row for it
-pub record InOrder (s : Sizes) : Type 0 where
+pub record SizesInOrder (s : Sizes) : Type 0 where
   pub ranged : Ranged s
   pub h-over-b : s .h ≤ 6 * s .b
   pub a-above-b : s .b < s .a

@@ -1,4 +1,5 @@
--- A question about one zone or local, judged: the building, with the line that it has in the sheet; then the direction; then the zone or local.
+-- A question about one zone or local, judged: the building, with the line that it has in the sheet; then the
+-- direction; then the zone or local.
 use mathlib.Core.Bool.{_||_}
 use Prim.Native.Nat.{ℕ, zero, suc}
 use lib.IntN.{ℤ}

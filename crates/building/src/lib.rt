@@ -10,7 +10,8 @@ pub mod limits;
 pub mod ratio;
 mod tests;
 
-// The numbers of a building's line: cm, g/m³, the roof's kind and number. 64 bits, so that no number of a host program is cut.
+// The numbers of a building's line: cm, g/m³, the roof's kind and number. 64 bits, so that no number of a host
+// program is cut.
 pub struct Building {
     pub h: i64,
     pub a: i64,
@@ -20,7 +21,8 @@ pub struct Building {
     pub x: i64,
 }
 
-// What of a building the tables ask for, without signs. Lengths have 32 bits, and so their products with a limit fit 64.
+// What of a building the tables ask for, without signs. Lengths have 32 bits, and so their products with a limit fit
+// 64.
 // Along over across is compared with the rows of its roof's table.
 pub struct Sizes {
     pub h: u32,

@@ -1,4 +1,5 @@
-// A ratio of two lengths compared with a printed limit, exactly: both sides are multiplied out, and nothing is divided.
+// A ratio of two lengths compared with a printed limit, exactly: both sides are multiplied out, and nothing is
+// divided.
 ghost use mathlib.Core.Path.{_≡_};
 ghost use Prim.Native.Nat.{_*_};
 ghost use lib.Dec.{leb};

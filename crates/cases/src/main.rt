@@ -1,4 +1,5 @@
-// Runs the worked cases that are not theorems, and prints each with what came out; tools/cases.py says how they were worked out.
+// Runs the worked cases that are not theorems, and prints each with what came out; tools/cases.py says how they were
+// worked out.
 mod ask;
 mod sheets;
 

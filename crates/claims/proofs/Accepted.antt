@@ -9,7 +9,7 @@ use Rattle.job.specs.Lines.{linesOf}
 use Rattle.job.specs.InOrder.{InOrder}
 use Rattle.job.specs.Walk.{Accepted, judged}
 use Rattle.job.proofs.InOrder.{accepted-in-order}
-use Rattle.lines.specs.Lines.{rows}
+use Rattle.lines.specs.Lines.{linesIn}
 use Rattle.sheet.specs.Sheet.{reading}
 use Rattle.worst.specs.declared.Side.{Side}
 use Rattle.worst.specs.declared.Side.the-variants.{Greatest, Least}
@@ -24,7 +24,7 @@ job-in-order j c a = accepted-in-order (linesOf (carried j)) c a
 
 pub sheet-in-order : (s : List ℕ) (c : Carried) → reading s ≡ Accepted c → InOrder c
 unfolding reading
-sheet-in-order s c a = accepted-in-order (rows s) c a
+sheet-in-order s c a = accepted-in-order (linesIn s) c a
 
 pub six-is : (j : Job) (c : Carried) → judged j ≡ Accepted c → worstOf j .six ≡ sixExtremes c
 unfolding worstOf

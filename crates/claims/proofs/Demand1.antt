@@ -10,7 +10,7 @@ use lib.Dec.{eqb, lit≤}
 use lib.IntN.{ℤ, pos, negsuc}
 use borrow.Author.Tests.{ne-eqb}
 use Rattle.form.specs.declared.Field.{Field}
-use Rattle.lines.specs.Lines.{rows}
+use Rattle.lines.specs.Lines.{linesIn}
 use Rattle.page.specs.declared.Writing.the-variants as written
 use Rattle.page.specs.Writing.{writing}
 use Rattle.job.specs.declared.Job.{Job}
@@ -36,14 +36,14 @@ use Rattle.claims.proofs.Fault as fault
 -- "A bad sheet or job gets the number and line of the first fault in paper 01's order and no other result."
 pub record BadGetsFirstFault : Type 0 where
   -- a sheet
-  pub read-sheet : GetsFault of.read-sheet.Post (λ κ a. rows (now (a .0)))
+  pub read-sheet : GetsFault of.read-sheet.Post (λ κ a. linesIn (now (a .0)))
       (λ κ a n l. record { number = n; line = l; job = recorded nothing })
-  pub write-totals : GetsFault of.write-totals.Post (λ κ a. rows (now (a .0)))
+  pub write-totals : GetsFault of.write-totals.Post (λ κ a. linesIn (now (a .0)))
       (λ κ a n l. writing (refusedText n l) (now (a .1 .0)))
-  pub aral-read : GetsFault of.aral-read.Post (λ κ a. rows (now (a .0))) (λ κ a n l. record { number = n; line = l })
-  pub aral-rewrite : GetsFault of.aral-rewrite.Post (λ κ a. rows (now (a .0))) (λ κ a n l. noHostText n l)
-  pub aral-report : GetsFault of.aral-report.Post (λ κ a. rows (now (a .0))) (λ κ a n l. noHostText n l)
-  pub aral-total : GetsFault of.aral-total.Post (λ κ a. rows (now (a .0))) (λ κ a n l. noHostExtreme n l)
+  pub aral-read : GetsFault of.aral-read.Post (λ κ a. linesIn (now (a .0))) (λ κ a n l. record { number = n; line = l })
+  pub aral-rewrite : GetsFault of.aral-rewrite.Post (λ κ a. linesIn (now (a .0))) (λ κ a n l. noHostText n l)
+  pub aral-report : GetsFault of.aral-report.Post (λ κ a. linesIn (now (a .0))) (λ κ a n l. noHostText n l)
+  pub aral-total : GetsFault of.aral-total.Post (λ κ a. linesIn (now (a .0))) (λ κ a n l. noHostExtreme n l)
   -- a job
   pub judge : GetsFault of.judge.Post (λ κ a. linesOf (carried (a .0))) (λ κ a n l. record { number = n; line = l })
   pub worst-cases : GetsFault of.worst-cases.Post (λ κ a. linesOf (carried (a .0)))
@@ -53,8 +53,8 @@ pub record BadGetsFirstFault : Type 0 where
 
 -- Where there is no fault, the number and the line are 0. What is then written and shown is said by demands 2 and 3.
 pub record GoodIsAccepted : Type 0 where
-  pub read-sheet : GetsAccepted of.read-sheet.Post (λ κ a. rows (now (a .0))) (λ κ r. (r .number ≡ 0) × (r .line ≡ 0))
-  pub aral-read : GetsAccepted of.aral-read.Post (λ κ a. rows (now (a .0))) (λ κ r. (r .number ≡ 0) × (r .line ≡ 0))
+  pub read-sheet : GetsAccepted of.read-sheet.Post (λ κ a. linesIn (now (a .0))) (λ κ r. (r .number ≡ 0) × (r .line ≡ 0))
+  pub aral-read : GetsAccepted of.aral-read.Post (λ κ a. linesIn (now (a .0))) (λ κ r. (r .number ≡ 0) × (r .line ≡ 0))
   pub judge : GetsAccepted of.judge.Post (λ κ a. linesOf (carried (a .0))) (λ κ r. (r .number ≡ 0) × (r .line ≡ 0))
   pub worst-cases : GetsAccepted of.worst-cases.Post (λ κ a. linesOf (carried (a .0)))
       (λ κ r. (r .number ≡ 0) × (r .line ≡ 0))
@@ -66,14 +66,14 @@ FaultsAreOne = (xs : List (List Field)) → (Faultless xs ⊎ ((n : ℕ) × (l :
 
 -- A sheet or a job is accepted, with what its lines carry, exactly where they have no fault.
 pub record AcceptedIsFaultless : Type 0 where
-  pub sheet : (s : List ℕ) → (Faultless (rows s) → (c : Carried) × (reading s ≡ Accepted c))
-      × ((c : Carried) → reading s ≡ Accepted c → Faultless (rows s) × (linesOf c ≡ rows s))
+  pub sheet : (s : List ℕ) → (Faultless (linesIn s) → (c : Carried) × (reading s ≡ Accepted c))
+      × ((c : Carried) → reading s ≡ Accepted c → Faultless (linesIn s) × (linesOf c ≡ linesIn s))
   pub job : (j : Job) → (Faultless (linesOf (carried j)) → judged j ≡ Accepted (carried j))
       × ((c : Carried) → judged j ≡ Accepted c → Faultless (linesOf (carried j)) × (c ≡ carried j))
 
 -- A line of the report other than 1 to 6 is 3 with line 0, after the sheet's own fault.
 abbrev pub OtherLineIsThree : Type 0
-OtherLineIsThree = Always of.aral-total.Post (λ κ a r s. Faultless (rows (now (a .0)))
+OtherLineIsThree = Always of.aral-total.Post (λ κ a r s. Faultless (linesIn (now (a .0)))
     → ((n : ℕ) → 1 ≤ n → n ≤ 6 → a .1 .0 ≡ pos n → ⊥) → r ≡ noHostExtreme 3 0)
 
 -- "A refused call changes no byte of any buffer."

@@ -15,7 +15,7 @@ use Rattle.worst.specs.declared.Axis.{Axis}
 use Rattle.worst.specs.declared.Axis.the-variants.{X, Y, Z}
 use Rattle.worst.specs.declared.Extreme.{Extreme}
 use Rattle.worst.specs.declared.Reckoning.{Reckoning}
-use Rattle.worst.specs.Best.{Within}
+use Rattle.worst.specs.Best.{NoFurther}
 use Rattle.worst.specs.Cases.{Permitted, Loads, Case, cases}
 use Rattle.worst.specs.Worst.{extreme, sixExtremes, worstOf}
 use Rattle.worst.proofs.Members.{case-permitted, permitted-case}
@@ -64,15 +64,15 @@ abbrev pub MoreShowsNoLess : Type 0
 MoreShowsNoLess = Always of.worst-cases.Post (λ κ a r s. Always of.worst-cases.Post (λ κ′ b q t.
     (c d : Carried) → judged (a .0) ≡ Accepted c → judged (b .0) ≡ Accepted d → More c d
     → (axis : Axis) (side : Side)
-    → Within side (shownIn (r .six) axis side .total) (shownIn (q .six) axis side .total)))
+    → NoFurther side (shownIn (r .six) axis side .total) (shownIn (q .six) axis side .total)))
 
 -- "If only speeds change and none is lowered, a greatest that was zero or more does not fall, and a least that was
 -- zero or less does not rise."
 abbrev pub FasterShowsNoLess : Type 0
 FasterShowsNoLess = Always of.worst-cases.Post (λ κ a r s. Always of.worst-cases.Post (λ κ′ b q t.
     (c d : Carried) → judged (a .0) ≡ Accepted c → judged (b .0) ≡ Accepted d → Faster c d
-    → (axis : Axis) (side : Side) → Within side (pos 0) (shownIn (r .six) axis side .total)
-    → Within side (shownIn (r .six) axis side .total) (shownIn (q .six) axis side .total)))
+    → (axis : Axis) (side : Side) → NoFurther side (pos 0) (shownIn (r .six) axis side .total)
+    → NoFurther side (shownIn (r .six) axis side .total) (shownIn (q .six) axis side .total)))
 
 -- ---- the proofs
 

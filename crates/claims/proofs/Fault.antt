@@ -6,7 +6,7 @@ use mathlib.Core.List.{List}
 use Prim.Native.Nat.{ℕ, _+_}
 use native.Mathlib.Omega.{arith}
 use Rattle.form.specs.declared.Field.{Field}
-use Rattle.lines.specs.Lines.{rows}
+use Rattle.lines.specs.Lines.{linesIn}
 use Rattle.job.specs.declared.Job.{Job}
 use Rattle.job.specs.Carried.{Carried, nothing, carried}
 use Rattle.job.specs.Lines.{linesOf}
@@ -42,18 +42,18 @@ module _ (xs : List (List Field)) where
 
 -- ---- a sheet and a job
 
-pub sheet-faulty : (s : List ℕ) {n l : ℕ} → Faulty (rows s) n l → reading s ≡ Refused n l
+pub sheet-faulty : (s : List ℕ) {n l : ℕ} → Faulty (linesIn s) n l → reading s ≡ Refused n l
 unfolding reading
-sheet-faulty s f = faulty-answer (rows s) (readLines (rows s)) (lines-answer (rows s)) f
+sheet-faulty s f = faulty-answer (linesIn s) (readLines (linesIn s)) (lines-answer (linesIn s)) f
 
-pub sheet-faultless : (s : List ℕ) → Faultless (rows s) → (c : Carried) × (reading s ≡ Accepted c)
+pub sheet-faultless : (s : List ℕ) → Faultless (linesIn s) → (c : Carried) × (reading s ≡ Accepted c)
 unfolding reading
-sheet-faultless s f = faultless-answer (rows s) (readLines (rows s)) (lines-answer (rows s)) f
+sheet-faultless s f = faultless-answer (linesIn s) (readLines (linesIn s)) (lines-answer (linesIn s)) f
 
-pub sheet-accepted : (s : List ℕ) (c : Carried) → reading s ≡ Accepted c → Faultless (rows s) × (linesOf c ≡ rows s)
+pub sheet-accepted : (s : List ℕ) (c : Carried) → reading s ≡ Accepted c → Faultless (linesIn s) × (linesOf c ≡ linesIn s)
 unfolding reading
 sheet-accepted s c e =
-    (accepted-answer (rows s) (readLines (rows s)) (lines-answer (rows s)) c e, accepted-lines (rows s) c e)
+    (accepted-answer (linesIn s) (readLines (linesIn s)) (lines-answer (linesIn s)) c e, accepted-lines (linesIn s) c e)
 
 module _ (j : Job) where
   pub job-faulty : {n l : ℕ} → Faulty (linesOf (carried j)) n l → judged j ≡ Refused n l

@@ -62,7 +62,8 @@ JobAsSheet = Always of.judge.Post (λ κ a r s. Always of.read-sheet.Post (λ κ
 -- No report is longer than 474 bytes, and no accepted sheet than 827.
 abbrev pub TextsAreShort : Type 0
 TextsAreShort = Always of.aral-report.Post (λ κ a r s. r .length ≤ 474)
-    × Always of.aral-read.Post (λ κ a r s. (c : Carried) → reading (now (a .0)) ≡ Accepted c → length (now (a .0)) ≤ 827)
+    × Always of.aral-read.Post
+    (λ κ a r s. (c : Carried) → reading (now (a .0)) ≡ Accepted c → length (now (a .0)) ≤ 827)
 
 -- A program that reads the first 881 bytes, or more, of its input answers for all of it.
 abbrev pub PartAnswers : Type 0

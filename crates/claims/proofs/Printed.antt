@@ -11,10 +11,10 @@ use Rattle.whole.specs.Round.{halfUp, roundAway, roundDown, leftOver}
 use Rattle.whole.specs.Newton.{newtons, remainder}
 use Rattle.whole.specs.Digits.{allDigits, valueAfter, value}
 use Rattle.form.specs.Field.{digitsInForm, unsigned, negative, number, field}
-use Rattle.lines.specs.Lines.{split, fieldsOf, rowsOf, rows}
+use Rattle.lines.specs.Lines.{split, fieldsOf, linesFrom, linesIn}
 use Rattle.building.specs.declared.Building.{Building}
 use Rattle.building.specs.Test.{beyond, tooLong}
-use Rattle.book.specs.Line.{spotFrom, lineAt}
+use Rattle.book.specs.Line.{spotFrom, onStraight}
 use Rattle.book.specs.Walls.{wallRow, wallCells}
 use Rattle.book.specs.Gable.{blockOf}
 use Rattle.book.specs.Roofs.{roofValue, roofCells, spotIn, partAts, firstRow}
@@ -109,7 +109,7 @@ p and q = (p, q)
 pub printed-hold : Every Holds printed
 unfolding outsideOf askedOf givenFault buildingFault outOfForm outOfRange outOfWalls outOfRoof tooLong beyond zoneOn
     localOn roofOf coefficientOf wallColumn gableColumn flatColumn wallRow wallCells blockOf roofValue roofCells
-    spotIn partAts firstRow spotFrom lineAt halfUp roundAway roundDown leftOver reading rows rowsOf split fieldsOf
+    spotIn partAts firstRow spotFrom onStraight halfUp roundAway roundDown leftOver reading linesIn linesFrom split fieldsOf
     field number unsigned negative digitsInForm allDigits valueAfter value readLines walk lineFault inForm hasForm
 printed-hold =
     refl and refl and refl and refl  -- P1 to P4

@@ -8,8 +8,8 @@ use mathlib.Core.List.{List, [], _∷_}
 use Rattle.whole.specs.Round.{halfUp, roundAway}
 use Rattle.whole.specs.Digits.{digitsWithin, digits, decimal, allDigits, valueAfter, value}
 use Rattle.form.specs.Field.{digitsInForm, unsigned, negative, number, field}
-use Rattle.lines.specs.Lines.{split, fieldsOf, rowsOf, rows}
-use Rattle.book.specs.Line.{spotFrom, lineAt}
+use Rattle.lines.specs.Lines.{split, fieldsOf, linesFrom, linesIn}
+use Rattle.book.specs.Line.{spotFrom, onStraight}
 use Rattle.book.specs.Walls.{wallRow, wallCells}
 use Rattle.book.specs.Gable.{blockOf}
 use Rattle.book.specs.Roofs.{roofCells, partAts, firstRow, spotIn, roofValue}
@@ -49,7 +49,7 @@ lines =
 
 pub sample : totalsText (reading (bytes sheet)) ≡ bytes lines
 unfolding halfUp roundAway digitsWithin digits decimal allDigits valueAfter value digitsInForm unsigned negative
-    number field split fieldsOf rowsOf rows spotFrom lineAt wallRow wallCells blockOf outOfRoof roofOf roofCells
+    number field split fieldsOf linesFrom linesIn spotFrom onStraight wallRow wallCells blockOf outOfRoof roofOf roofCells
     partAts firstRow spotIn roofValue givenFault buildingFault outOfForm outOfRange outOfWalls tooLong zoneOn
     localOn wallColumn gableColumn flatColumn coefficientOf outsideOf askedOf beyond hasForm inForm lineFault walk
     readLines reading better best numbers each choices total cases caseTotal worst padded shown sixExtremes spaced

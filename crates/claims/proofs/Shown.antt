@@ -23,7 +23,7 @@ use Rattle.worst.specs.declared.Axis.{Axis}
 use Rattle.worst.specs.declared.Axis.the-variants.{X, Y, Z}
 use Rattle.worst.specs.declared.Extreme.{Extreme}
 use Rattle.worst.specs.declared.Six.{Six}
-use Rattle.worst.specs.Best.{Within}
+use Rattle.worst.specs.Best.{NoFurther}
 use Rattle.worst.specs.Cases.{Case, cases, caseTotal}
 use Rattle.worst.specs.Forces.{loads}
 use Rattle.worst.specs.Shown.{padded, shown}
@@ -142,12 +142,13 @@ raised g (w ∷ ws) (v ∷ vs) o r x m =
     (List·Memᴰ·cases-cons m)
 
 module _ {c d : Carried} (o : InOrder c) (p : InOrder d) (axis : Axis) (side : Side) where
-  pub more-no-less : More c d → Within side (extreme axis side c .total) (extreme axis side d .total)
+  pub more-no-less : More c d → NoFurther side (extreme axis side c .total) (extreme axis side d .total)
   more-no-less m =
       extreme-more c d (m .building) (m .faces) o p (included (m .winds)) (included (m .internals)) axis side
 
-  pub faster-no-less : faster.Faster c d → Within side (pos 0) (extreme axis side c .total)
-      → Within side (extreme axis side c .total) (extreme axis side d .total)
+  pub faster-no-less : faster.Faster c d → NoFurther side (pos 0) (extreme axis side c .total)
+      → NoFurther side (extreme axis side c .total) (extreme axis side d .total)
   faster-no-less m =
-      extreme-faster c d (m .building) (m .faces) o p (raised (c .building) (c .winds) (d .winds) (o .winds) (m .winds))
+      extreme-faster c d (m .building) (m .faces) o p
+      (raised (c .building) (c .winds) (d .winds) (o .winds) (m .winds))
       (λ x n. (x, subst (List·Memᴰ x) (m .internals) n, refl)) axis side

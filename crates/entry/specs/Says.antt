@@ -51,7 +51,14 @@ at fs i = getD fs i Bad
 
 abbrev pub buildingOf : List Field → Building
 buildingOf fs =
-    record { h = number (at fs 0); a = number (at fs 1); b = number (at fs 2); density = number (at fs 3); kind = number (at fs 4); x = number (at fs 5) }
+    record {
+      h = number (at fs 0);
+      a = number (at fs 1);
+      b = number (at fs 2);
+      density = number (at fs 3);
+      kind = number (at fs 4);
+      x = number (at fs 5);
+    }
 
 abbrev pub windOf : List Field → Wind
 windOf fs = record { direction = number (at fs 0); speed = number (at fs 1) }
@@ -61,4 +68,10 @@ internalOf fs = number (at fs 0)
 
 abbrev pub faceOf : List Field → Face
 faceOf fs =
-    record { zone = letter (at fs 0); mark = mark (at fs 1); x = number (at fs 2); y = number (at fs 3); z = number (at fs 4) }
+    record {
+      zone = letter (at fs 0);
+      mark = mark (at fs 1);
+      x = number (at fs 2);
+      y = number (at fs 3);
+      z = number (at fs 4);
+    }

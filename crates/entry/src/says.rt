@@ -7,7 +7,8 @@ use form::Field;
 use lines::Line;
 ghost use mathlib.Core.Path.{_≡_};
 ghost use Rattle.lines.specs.Held.{held};
-ghost use Rattle.entry.specs.Says.{number, size, letter, isDash, mark, at, buildingOf, windOf, internalOf, faceOf};
+ghost use Rattle.entry.specs.Says.{number, size, letter, isDash, mark, at, buildingOf, windOf, internalOf};
+ghost use Rattle.entry.specs.Says.{faceOf};
 
 pub fn number_of(f: Field) -> i64
     ensures { λ r. ⌜ r ≡ number f ⌝ }

@@ -48,8 +48,10 @@ signed-above (pos n) e t = ap Plus e
 signed-above (negsuc n) e t = absurd (true≢false t)
 
 -- a number of a record, which the machine hands on as bits
-pub slot-is : (z : ℤ) {r : Slot} → mag z < 2 ^ 63 → r ≡ slot (numberField (toZ w64 (ofZ w64 z))) → r ≡ slot (numberField z)
+pub slot-is : (z : ℤ) {r : Slot} → mag z < 2 ^ 63 → r ≡ slot (numberField (toZ w64 (ofZ w64 z)))
+    → r ≡ slot (numberField z)
 slot-is z h e = said (λ (y : ℤ). slot (numberField y)) z e h
 
-pub mark-is : (z : ℤ) {r : Slot} → mag z < 2 ^ 63 → r ≡ slot (markField (toZ w64 (ofZ w64 z))) → r ≡ slot (markField z)
+pub mark-is : (z : ℤ) {r : Slot} → mag z < 2 ^ 63 → r ≡ slot (markField (toZ w64 (ofZ w64 z)))
+    → r ≡ slot (markField z)
 mark-is z h e = said (λ (y : ℤ). slot (markField y)) z e h

@@ -24,7 +24,8 @@ markField z = cond (is both z) Dash (numberField z)
 
 abbrev pub buildingFields : Building → List Field
 buildingFields g =
-    numberField (g .h) ∷ numberField (g .a) ∷ numberField (g .b) ∷ numberField (g .density) ∷ numberField (g .kind) ∷ numberField (g .x) ∷ []
+    numberField (g .h) ∷ numberField (g .a) ∷ numberField (g .b) ∷ numberField (g .density) ∷ numberField
+    (g .kind) ∷ numberField (g .x) ∷ []
 
 abbrev pub windFields : Wind → List Field
 windFields w = numberField (w .direction) ∷ numberField (w .speed) ∷ []
@@ -33,4 +34,5 @@ abbrev pub internalFields : ℤ → List Field
 internalFields i = numberField i ∷ []
 
 abbrev pub faceFields : Face → List Field
-faceFields f = Letter (f .zone) ∷ markField (f .mark) ∷ numberField (f .x) ∷ numberField (f .y) ∷ numberField (f .z) ∷ []
+faceFields f =
+    Letter (f .zone) ∷ markField (f .mark) ∷ numberField (f .x) ∷ numberField (f .y) ∷ numberField (f .z) ∷ []

@@ -7,8 +7,9 @@ use form::Field;
 use lines::Line;
 use lines::Slot;
 ghost use mathlib.Core.Path.{_≡_};
-ghost use Rattle.lines.specs.Held.{slot, lineOf};
-ghost use Rattle.fields.specs.Fields.{numberField, markField, buildingFields, windFields, internalFields, faceFields};
+ghost use Rattle.lines.specs.Held.{slot, heldLine};
+ghost use Rattle.fields.specs.Fields.{numberField, markField, buildingFields, windFields, internalFields};
+ghost use Rattle.fields.specs.Fields.{faceFields};
 
 fn slot(f: Field) -> Slot
     ensures { λ r. ⌜ r ≡ slot f ⌝ }
@@ -39,7 +40,7 @@ fn mark_slot(z: i64) -> Slot
 }
 
 pub fn building_line(g: Building) -> Line
-    ensures { λ r. ⌜ r ≡ lineOf 0 (buildingFields g) ⌝ }
+    ensures { λ r. ⌜ r ≡ heldLine 0 (buildingFields g) ⌝ }
 {
     let fields = [
         number_slot(g.h),
@@ -57,7 +58,7 @@ pub fn building_line(g: Building) -> Line
 }
 
 pub fn wind_line(w: Wind) -> Line
-    ensures { λ r. ⌜ r ≡ lineOf 0 (windFields w) ⌝ }
+    ensures { λ r. ⌜ r ≡ heldLine 0 (windFields w) ⌝ }
 {
     let no = slot(Field::Bad);
     let fields = [
@@ -76,7 +77,7 @@ pub fn wind_line(w: Wind) -> Line
 }
 
 pub fn internal_line(i: i64) -> Line
-    ensures { λ r. ⌜ r ≡ lineOf 0 (internalFields i) ⌝ }
+    ensures { λ r. ⌜ r ≡ heldLine 0 (internalFields i) ⌝ }
 {
     let no = slot(Field::Bad);
     let fields = [number_slot(i), no, no, no, no, no];
@@ -88,7 +89,7 @@ pub fn internal_line(i: i64) -> Line
 }
 
 pub fn face_line(f: Face) -> Line
-    ensures { λ r. ⌜ r ≡ lineOf 0 (faceFields f) ⌝ }
+    ensures { λ r. ⌜ r ≡ heldLine 0 (faceFields f) ⌝ }
 {
     let fields = [
         slot(Field::Letter(f.zone)),

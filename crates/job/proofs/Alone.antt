@@ -20,7 +20,8 @@ use Rattle.fields.specs.Fields.{buildingFields, windFields, internalFields, fac
 use Rattle.job.specs.Lines.{entriesOf, sectionOf}
 use Rattle.job.specs.Walk.{verdict, walk}
 use Rattle.job.proofs.Walk.{EntriesInOrder}
-use Rattle.job.proofs.Sections.{Counted, countLine, count-counted, count-refused, section-refused, section-walk}
+use Rattle.job.proofs.Sections.{Counted, countLine, count-counted, count-refused, section-refused}
+use Rattle.job.proofs.Sections.{section-walk}
 
 -- ---- the entries of a record
 
@@ -53,7 +54,8 @@ module _ (j : Job) where
   unfolding carried
   faces-counted = entries-length noFace faceFields (j .faces .count) (j .faces .entry)
 
-  pub entry-is : (s : Section) (i : ℕ) → i < length (entriesOf (carried j) s) → getD (entriesOf (carried j) s) i [] ≡ entryOf j s i
+  pub entry-is : (s : Section) (i : ℕ) → i < length (entriesOf (carried j) s)
+      → getD (entriesOf (carried j) s) i [] ≡ entryOf j s i
   unfolding carried
   entry-is B zero h = refl
   entry-is B (suc i) h = absurd (omega arith)
@@ -82,16 +84,19 @@ module _ (s : Section) (c : Carried) (line : ℕ) (xs : List (List Field)) where
   module _ (w : Counted s (length xs)) (i n : ℕ) (h : i < length xs) (o : EntriesInOrder s (c .building) (take i xs))
       (en : n ≡ lineFault (Entry s) (c .building) (getD xs i [])) where
     pub alone-entry : (n ≡ 0 → ⊥) → record { number = n; line = line + 1 + i } ≡ alone
-    alone-entry z = sym (nothing-behind ∙ ap verdict (section-refused s [] c line xs [] i w h o (λ e. z (en ∙ e))) ∙ rw (← en))
+    alone-entry z =
+        sym (nothing-behind ∙ ap verdict (section-refused s [] c line xs [] i w h o (λ e. z (en ∙ e))) ∙ rw (← en))
 
     pub alone-next : n ≡ 0 → EntriesInOrder s (c .building) (take (i + 1) xs)
     alone-next z = every-take (λ x. lineFault (Entry s) (c .building) x ≡ 0) xs [] i o (sym en ∙ z)
 
   -- all have none
-  pub alone-passed : Counted s (length xs) → (i : ℕ) → length xs ≤ i → EntriesInOrder s (c .building) (take i xs) → record { number = 0; line = 0 } ≡ alone
+  pub alone-passed : Counted s (length xs) → (i : ℕ) → length xs ≤ i → EntriesInOrder s (c .building) (take i xs)
+      → record { number = 0; line = 0 } ≡ alone
   unfolding walk
   alone-passed w i h o =
-      sym (nothing-behind ∙ ap verdict (section-walk s [] c line xs [] w (subst (EntriesInOrder s (c .building)) (take-all i xs h) o)))
+      sym
+      (nothing-behind ∙ ap verdict (section-walk s [] c line xs [] w (subst (EntriesInOrder s (c .building)) (take-all i xs h) o)))
 
 pub most-24 : (s : Section) → about s .most ≤ 24
 most-24 B = omega arith

@@ -21,7 +21,8 @@ none-left c zero m f = f
 none-left c (suc i) m f = f
 
 -- a line in order, and the rest
-module _ (k : Kind) (ks : List Kind) (c : Carried) (line : ℕ) (x : List Field) (xs : List (List Field)) (z : lineFault k (c .building) x ≡ 0) where
+module _ (k : Kind) (ks : List Kind) (c : Carried) (line : ℕ) (x : List Field) (xs : List (List Field))
+    (z : lineFault k (c .building) x ≡ 0) where
   none-here : (m : ℕ) → 0 < m → HasFault m (c .building) x k → ⊥
   none-here m h f = omega (arith, fault-lowest k (c .building) x f .0)
 
@@ -46,7 +47,8 @@ at-once ks c line xs n p f low =
     subst (λ (l : ℕ). Answers ks c xs line (Refused n l)) (omega arith)
     (faulty n 0 (record { some = p; has = f; lowest = low; first = λ h m y w g. omega arith }))
 
-pub walk-answers : (ks : List Kind) (c : Carried) (line : ℕ) (xs : List (List Field)) → Answers ks c xs line (walk ks c line xs)
+pub walk-answers : (ks : List Kind) (c : Carried) (line : ℕ) (xs : List (List Field))
+    → Answers ks c xs line (walk ks c line xs)
 unfolding walk
 walk-answers [] c line [] = in-order c (λ i m z f. none-left c i m f)
 walk-answers [] c line (x ∷ xs) = at-once [] c line (x ∷ xs) 1 (omega arith) refl (λ m z h f. omega arith)
@@ -54,7 +56,9 @@ walk-answers (k ∷ ks) c line [] = at-once (k ∷ ks) c line [] 1 (omega arith)
 walk-answers (k ∷ ks) c line (x ∷ xs) =
     let n = lineFault k (c .building) x in
     by-test (eqb n 0)
-    (λ e. rw e (later k ks c line x xs (eqb-true n 0 e) (walk (calls k x ++ ks) (learn k x c) (line + 1) xs) (walk-answers (calls k x ++ ks) (learn k x c) (line + 1) xs)))
+    (λ e.
+    rw e
+    (later k ks c line x xs (eqb-true n 0 e) (walk (calls k x ++ ks) (learn k x c) (line + 1) xs) (walk-answers (calls k x ++ ks) (learn k x c) (line + 1) xs)))
     (λ e.
     let p : 0 < n = omega (arith, eqb-false n 0 e) in
     rw e (at-once (k ∷ ks) c line (x ∷ xs) n p (fault-has k (c .building) x p)
@@ -79,7 +83,8 @@ module _ (ks : List Kind) (c : Carried) (xs : List (List Field)) where
       (λ e.
       let q = eqb-true i h e in
       by-test (leb n m) (λ w. (q, leb-true n m w))
-      (λ w. absurd (a .lowest m (b .some) (leb-false n m w) (subst (λ (y : ℕ). FaultAt y m ks c xs) (sym q) (b .has)))))
+      (λ w.
+      absurd (a .lowest m (b .some) (leb-false n m w) (subst (λ (y : ℕ). FaultAt y m ks c xs) (sym q) (b .has)))))
       (λ e. absurd (b .first i n (omega (arith, eqb-false i h e)) (a .some) (a .has)))
 
   first-ordered : {n i m h : ℕ} → FirstFault ks c xs n i → FirstFault ks c xs m h → i ≤ h → (i ≡ h) × (n ≡ m)
@@ -93,7 +98,8 @@ module _ (ks : List Kind) (c : Carried) (xs : List (List Field)) where
       by-test (leb i h) (λ e. first-ordered a b (leb-true i h e))
       (λ e. let t = first-ordered b a (omega (arith, leb-false i h e)) in (sym (t .0), sym (t .1)))
 
-  pub answers-unique : (line : ℕ) (r s : Reading) → Answers ks c xs line r → Answers ks c xs line s → verdict r ≡ verdict s
+  pub answers-unique : (line : ℕ) (r s : Reading) → Answers ks c xs line r → Answers ks c xs line s
+      → verdict r ≡ verdict s
   answers-unique line r s (in-order d none) (in-order e none′) = refl
   answers-unique line r s (in-order d none) (faulty n i a) = absurd (none i n (a .some) (a .has))
   answers-unique line r s (faulty n i a) (in-order d none) = absurd (none i n (a .some) (a .has))

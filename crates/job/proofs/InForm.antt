@@ -1,4 +1,5 @@
--- Lines that are accepted hold at least one field each, and every field is in form: `lines` gives them back from their text, and their text from them.
+-- Lines that are accepted hold at least one field each, and every field is in form: `lines` gives them back from
+-- their text, and their text from them.
 use Prim.Native.Nat.{ℕ, zero, suc, _+_, _≤_, _<_, _^_}
 use mathlib.Core.Path.{_≡_, subst, sym}
 use mathlib.Core.Bool.{false, not}
@@ -48,7 +49,8 @@ mark-form : {f : Field} → Formed Mark f → InForm f
 mark-form dash = tt
 mark-form (mark h) = number-form h
 
-face-form : {x : List Field} → AllFormed (forms (Entry F)) x → not (among A H (say.letter (at x 0))) ≡ false → LineInForm x
+face-form : {x : List Field} → AllFormed (forms (Entry F)) x → not (among A H (say.letter (at x 0))) ≡ false
+    → LineInForm x
 face-form (more (letter {b = b}) (more m a)) e =
     let t = among-yes A H b (not-false _ e) in
     (omega arith, ((t .0, omega (arith, t .1)), (mark-form m, numbers-form 3 a)))
@@ -71,7 +73,8 @@ line-form (Entry W) g x z = some-number 1 (in-order (Entry W) g x z .formed)
 line-form (Entry I) g x z = some-number 0 (in-order (Entry I) g x z .formed)
 line-form (Entry F) g x z = let o = in-order (Entry F) g x z in face-form (o .formed) (o .none .0)
 
-walk-form : (ks : List Kind) (c e : Carried) (line : ℕ) (xs : List (List Field)) → walk ks c line xs ≡ Accepted e → LinesInForm xs
+walk-form : (ks : List Kind) (c e : Carried) (line : ℕ) (xs : List (List Field)) → walk ks c line xs ≡ Accepted e
+    → LinesInForm xs
 walk-form ks c e line [] a = tt
 walk-form [] c e line (x ∷ xs) a = absurd (accepted-no-more c e line x xs a)
 walk-form (k ∷ ks) c e line (x ∷ xs) a = (

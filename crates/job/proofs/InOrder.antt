@@ -60,7 +60,8 @@ module _ (g : Building) where
   internal-line x z = not-larger 100 (internalOf x) (in-order (Entry I) g x z .none .0)
 
   wind-none : (w : Wind) → WindInOrder g w → NoneFound (windFaults g w)
-  wind-none w o = (ap not (o .direction), (is-within (pos 1) (pos 1000) (w .speed) (o .least-speed) (o .greatest-speed), tt))
+  wind-none w o =
+      (ap not (o .direction), (is-within (pos 1) (pos 1000) (w .speed) (o .least-speed) (o .greatest-speed), tt))
 
   face-sound : (f : Face) → NoneFound (faceFaults g f) → FaceInOrder g f
   face-sound f n =
@@ -68,7 +69,9 @@ module _ (g : Building) where
       record {
         zone = record { low = t .0; high = t .1 };
         on = not-false _ (n .1 .1 .1 .1 .1 .0);
-        mark = ⊎-elim (λ e. inl (is-same both (f .mark) e)) (λ e. inr e) (or-true (is both (f .mark)) _ (not-false _ (n .1 .0)));
+        mark =
+            ⊎-elim (λ e. inl (is-same both (f .mark) e)) (λ e. inr e)
+            (or-true (is both (f .mark)) _ (not-false _ (n .1 .0)));
         x = not-larger 100000 (f .x) (n .1 .1 .0);
         y = not-larger 100000 (f .y) (n .1 .1 .1 .0);
         z = not-larger 100000 (f .z) (n .1 .1 .1 .1 .0);
@@ -92,20 +95,24 @@ module _ (g : Building) where
 
 -- ---- accepted, so in order
 
-counted-map : {A C : Type 0} {least most : ℕ} (f : A → C) (l : List A) → Within least most (length l) → Within least most (length (map f l))
+counted-map : {A C : Type 0} {least most : ℕ} (f : A → C) (l : List A) → Within least most (length l)
+    → Within least most (length (map f l))
 counted-map f l w = rw (length-map l f) w
 
 module _ (es : Section → List (List Field)) (o : SheetInOrder es) where
   abbrev g : Building
   g = saidBy es .building
 
-  all-said : {A : Type 0} (P : A → Type 0) (s : Section) (of : List Field → A) → ((x : List Field) → lineFault (Entry s) g x ≡ 0 → P (of x)) → Every P (map of (es s))
+  all-said : {A : Type 0} (P : A → Type 0) (s : Section) (of : List Field → A)
+      → ((x : List Field) → lineFault (Entry s) g x ≡ 0 → P (of x)) → Every P (map of (es s))
   all-said P s of said = map-every P of (es s) (every-by said (es s) (o .entries s))
 
   said-in-order : InOrder (saidBy es)
   unfolding buildingFault
   said-in-order = record {
-    building = found-none (faults g) (in-order (Entry B) g _ (every-at _ (es B) [] 0 (omega (arith, o .counted B .low)) (o .entries B)) .none);
+    building =
+        found-none (faults g)
+        (in-order (Entry B) g _ (every-at _ (es B) [] 0 (omega (arith, o .counted B .low)) (o .entries B)) .none);
     winds-counted = counted-map windOf (es W) (o .counted W);
     winds = all-said (WindInOrder g) W windOf (wind-line g);
     internals-counted = counted-map internalOf (es I) (o .counted I);
@@ -128,7 +135,8 @@ known-short kind z e = small-short z (omega (arith, known-within kind z e .to))
 module _ (g : Building) where
   wind-entry : (w : Wind) → WindInOrder g w → lineFault (Entry W) g (windFields w) ≡ 0
   wind-entry w o =
-      let v = within 1 1000 (w .speed) (is-within (pos 1) (pos 1000) (w .speed) (o .least-speed) (o .greatest-speed)) in
+      let v =
+      within 1 1000 (w .speed) (is-within (pos 1) (pos 1000) (w .speed) (o .least-speed) (o .greatest-speed)) in
       wind-given g w
       ∙ rw (known-short (g .kind) (w .direction) (o .direction), small-short (w .speed) (omega (arith, v .to)))
       (found-none (windFaults g w) (wind-none g w o))
@@ -154,9 +162,12 @@ module _ (g : Building) where
 module _ (c : Carried) (o : InOrder c) where
   entries-in-order : (e : Building) → e ≡ c .building → (s : Section) → EntriesInOrder s e (entriesOf c s)
   entries-in-order e q B = (sym (building-given (c .building) e) ∙ given-none (c .building) (o .building), tt)
-  entries-in-order e q W = rw q (map-every _ windFields (c .winds) (every-by (wind-entry (c .building)) (c .winds) (o .winds)))
-  entries-in-order e q I = map-every _ internalFields (c .internals) (every-by (internal-entry e) (c .internals) (o .internals))
-  entries-in-order e q F = rw q (map-every _ faceFields (c .faces) (every-by (face-entry (c .building)) (c .faces) (o .faces)))
+  entries-in-order e q W =
+      rw q (map-every _ windFields (c .winds) (every-by (wind-entry (c .building)) (c .winds) (o .winds)))
+  entries-in-order e q I =
+      map-every _ internalFields (c .internals) (every-by (internal-entry e) (c .internals) (o .internals))
+  entries-in-order e q F =
+      rw q (map-every _ faceFields (c .faces) (every-by (face-entry (c .building)) (c .faces) (o .faces)))
 
   counted : (s : Section) → Within (about s .least) (about s .most) (length (entriesOf c s))
   counted B = record { low = omega arith; high = omega arith }
@@ -167,7 +178,9 @@ module _ (c : Carried) (o : InOrder c) where
   sheet-sound : SheetInOrder (entriesOf c)
   sheet-sound =
       let g = c .building in
-      let q = building-back g (in-order (Entry B) g (buildingFields g) (sym (building-given g g) ∙ given-none g (o .building)) .formed) in
+      let q =
+      building-back g
+      (in-order (Entry B) g (buildingFields g) (sym (building-given g g) ∙ given-none g (o .building)) .formed) in
       record { counted = counted; entries = entries-in-order (buildingOf (buildingFields g)) q }
 
 pub in-order-accepted : (c : Carried) → InOrder c → readLines (linesOf c) ≡ Accepted c

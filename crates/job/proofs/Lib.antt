@@ -1,4 +1,5 @@
--- The laws: of the walk; that the answer is the first fault; what is accepted, written and read again; and of records.
+-- The laws: of the walk; that the answer is the first fault; what is accepted, written and read again; and of
+-- records.
 pub mod Lowest
 pub mod FirstFault
 pub mod Walk

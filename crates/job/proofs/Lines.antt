@@ -1,4 +1,5 @@
--- A field in form, written again, is the same field, and what a value's field says is that value; so for the lines of what a sheet carries.
+-- A field in form, written again, is the same field, and what a value's field says is that value; so for the lines of
+-- what a sheet carries.
 use Prim.Native.Nat.{ℕ, zero, suc, _≤_}
 use mathlib.Core.Path.{_≡_, refl, sym, _∙_}
 use mathlib.Core.Bool.{true, false}
@@ -22,7 +23,8 @@ use Rattle.entry.specs.declared.Wind.{Wind}
 use Rattle.entry.specs.declared.Face.{Face}
 use Rattle.entry.specs.Says.{number, mark, both, buildingOf, windOf, internalOf, faceOf}
 use Rattle.rules.specs.Sections.{forms}
-use Rattle.fields.specs.Fields.{signed, numberField, markField, buildingFields, windFields, internalFields, faceFields}
+use Rattle.fields.specs.Fields.{signed, numberField, markField, buildingFields, windFields, internalFields}
+use Rattle.fields.specs.Fields.{faceFields}
 use Rattle.rules.proofs.Form as form
 use Rattle.rules.proofs.Form.{Formed, AllFormed, none, more}
 
@@ -44,7 +46,8 @@ number-again (form.minus {m = suc m} p h) = short-field (negsuc m) h
 mark-again : {f : Field} → Formed Mark f → markField (mark f) ≡ f
 unfolding markField
 mark-again form.dash = refl
-mark-again (form.mark (form.plus {m = m} h)) = rw (ne-eqb m 4294967295 (λ e. omega arith)) (number-again (form.plus h))
+mark-again (form.mark (form.plus {m = m} h)) =
+    rw (ne-eqb m 4294967295 (λ e. omega arith)) (number-again (form.plus h))
 mark-again (form.mark (form.minus {m = zero} p h)) = absurd (omega arith)
 mark-again (form.mark (form.minus {m = suc m} p h)) = number-again (form.minus {m = suc m} p h)
 
@@ -95,11 +98,13 @@ pub internal-again : {x : List Field} → AllFormed (forms (Entry I)) x → inte
 internal-again (more i none) = cc (number-again i)
 
 pub face-again : {x : List Field} → AllFormed (forms (Entry F)) x → faceFields (faceOf x) ≡ x
-face-again (more form.letter (more m (more a (more b (more d none))))) = cc (mark-again m, number-again a, number-again b, number-again d)
+face-again (more form.letter (more m (more a (more b (more d none))))) =
+    cc (mark-again m, number-again a, number-again b, number-again d)
 
 -- ---- what the fields of a value say
 
-pub building-back : (g : Building) → AllFormed (forms (Entry B)) (buildingFields g) → buildingOf (buildingFields g) ≡ g
+pub building-back : (g : Building) → AllFormed (forms (Entry B)) (buildingFields g)
+    → buildingOf (buildingFields g) ≡ g
 building-back g (more h (more a (more b (more d (more k (more y none)))))) =
     λ i. record {
       h = number-back (g .h) h i;
@@ -111,7 +116,8 @@ building-back g (more h (more a (more b (more d (more k (more y none)))))) =
     }
 
 pub wind-back : (w : Wind) → AllFormed (forms (Entry W)) (windFields w) → windOf (windFields w) ≡ w
-wind-back w (more d (more v none)) = λ i. record { direction = number-back (w .direction) d i; speed = number-back (w .speed) v i }
+wind-back w (more d (more v none)) =
+    λ i. record { direction = number-back (w .direction) d i; speed = number-back (w .speed) v i }
 
 pub internal-back : (z : ℤ) → AllFormed (forms (Entry I)) (internalFields z) → internalOf (internalFields z) ≡ z
 internal-back z (more s none) = number-back z s

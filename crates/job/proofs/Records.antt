@@ -1,4 +1,5 @@
--- The record of what a sheet carries: it carries that, it is accepted as the sheet was, and it is the same job as the record that was written.
+-- The record of what a sheet carries: it carries that, it is accepted as the sheet was, and it is the same job as the
+-- record that was written.
 use Prim.Native.Nat.{ℕ, _≤_}
 use mathlib.Core.Path.{_≡_, refl, ap, _∙_, sym}
 use mathlib.Core.List.{List}
@@ -36,7 +37,8 @@ same-judged j k e = ap (λ (c : Carried). readLines (linesOf c)) e
 roomed : {A : Type 0} (d : A) (room : ℕ) (l : List A) → length l ≤ room → firstOf d (length l) (firstOf d room l) ≡ l
 roomed d room l h = firstOf-fewer d (length l) room l h ∙ firstOf-all d l
 
-pub recorded-carried : (c : Carried) → length (c .winds) ≤ 8 → length (c .internals) ≤ 4 → length (c .faces) ≤ 24 → carried (recorded c) ≡ c
+pub recorded-carried : (c : Carried) → length (c .winds) ≤ 8 → length (c .internals) ≤ 4 → length (c .faces) ≤ 24
+    → carried (recorded c) ≡ c
 unfolding carried recorded
 recorded-carried c w i f =
     λ k. record {
@@ -49,17 +51,20 @@ recorded-carried c w i f =
 -- ---- what was read
 
 pub in-order-recorded : (c : Carried) → InOrder c → carried (recorded c) ≡ c
-in-order-recorded c o = recorded-carried c (o .winds-counted .high) (o .internals-counted .high) (o .faces-counted .high)
+in-order-recorded c o =
+    recorded-carried c (o .winds-counted .high) (o .internals-counted .high) (o .faces-counted .high)
 
 -- the record of an accepted sheet is accepted, and read as the sheet was
-pub recorded-accepted : (xs : List (List Field)) (c : Carried) → readLines xs ≡ Accepted c → judged (recorded c) ≡ Accepted c
+pub recorded-accepted : (xs : List (List Field)) (c : Carried) → readLines xs ≡ Accepted c
+    → judged (recorded c) ≡ Accepted c
 unfolding judged
 recorded-accepted xs c a =
     let o = accepted-in-order xs c a in
     ap (λ (d : Carried). readLines (linesOf d)) (in-order-recorded c o) ∙ in-order-accepted c o
 
 -- what is read of an accepted record's sheet is the same job, with nothing left that the sheet does not carry
-pub same-recorded : (j : Job) (c : Carried) → judged j ≡ Accepted c → SameJob j (recorded c) × (recorded c ≡ recorded (carried j))
+pub same-recorded : (j : Job) (c : Carried) → judged j ≡ Accepted c
+    → SameJob j (recorded c) × (recorded c ≡ recorded (carried j))
 unfolding judged
 same-recorded j c a =
     let e = judged-carried j c a in

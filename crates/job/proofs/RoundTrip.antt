@@ -19,7 +19,8 @@ use Rattle.job.specs.Walk.{Accepted, readLines, judged}
 use Rattle.rules.proofs.Form.{AllFormed}
 use Rattle.rules.proofs.Line.{in-order}
 use Rattle.job.proofs.Sheet.{saidBy, SheetInOrder, sheet-in-order, sheet-said, accepted-sheet}
-use Rattle.job.proofs.Lines.{building-again, wind-again, internal-again, face-again, building-back, wind-back, internal-back, face-back}
+use Rattle.job.proofs.Lines.{building-again, wind-again, internal-again, face-again, building-back, wind-back}
+use Rattle.job.proofs.Lines.{internal-back, face-back}
 
 module _ (es : Section → List (List Field)) (o : SheetInOrder es) where
   -- the entries are in form
@@ -28,7 +29,8 @@ module _ (es : Section → List (List Field)) (o : SheetInOrder es) where
 
   -- ---- entries, read, and written again
 
-  all-again : {A : Type 0} (s : Section) (fields : A → List Field) (of : List Field → A) → ((x : List Field) → AllFormed (forms (Entry s)) x → fields (of x) ≡ x)
+  all-again : {A : Type 0} (s : Section) (fields : A → List Field) (of : List Field → A)
+      → ((x : List Field) → AllFormed (forms (Entry s)) x → fields (of x) ≡ x)
       → map fields (map of (es s)) ≡ es s
   all-again s fields of again = map-back of fields (es s) (every-by again (es s) (says s))
 
@@ -53,9 +55,11 @@ accepted-lines xs c a =
 -- ---- values, written, and read again
 
 module _ (d : Carried) (o : SheetInOrder (entriesOf d)) where
-  all-back : {A : Type 0} (s : Section) (fields : A → List Field) (of : List Field → A) → ((v : A) → AllFormed (forms (Entry s)) (fields v) → of (fields v) ≡ v)
+  all-back : {A : Type 0} (s : Section) (fields : A → List Field) (of : List Field → A)
+      → ((v : A) → AllFormed (forms (Entry s)) (fields v) → of (fields v) ≡ v)
       → (l : List A) → Every (AllFormed (forms (Entry s))) (map fields l) → map of (map fields l) ≡ l
-  all-back s fields of back l a = map-back fields of l (every-by back l (every-map (AllFormed (forms (Entry s))) fields l a))
+  all-back s fields of back l a =
+      map-back fields of l (every-by back l (every-map (AllFormed (forms (Entry s))) fields l a))
 
   pub said-back : saidBy (entriesOf d) ≡ d
   said-back =

@@ -28,7 +28,9 @@ use Rattle.job.specs.Walk.{entries, Accepted, Refused, walk}
 use Rattle.job.specs.InOrder.{Within}
 use Rattle.rules.proofs.Form.{AllFormed, none, more, letter, count, count-below}
 use Rattle.rules.proofs.Line.{in-order, order-in}
-use Rattle.job.proofs.Walk.{walk-on, walk-refused, entries-refused, accepted-line, accepted-next, accepted-some, learnAll, EntriesInOrder, entries-walk, entries-in-order, entries-there}
+use Rattle.job.proofs.Walk.{walk-on, walk-refused, entries-refused, accepted-line, accepted-next}
+use Rattle.job.proofs.Walk.{accepted-some, learnAll, EntriesInOrder, entries-walk, entries-in-order}
+use Rattle.job.proofs.Walk.{entries-there}
 
 -- ---- the count of a section
 
@@ -46,7 +48,8 @@ count-in-order s g n w =
     order-in (Count s) g (countLine s n)
     (record {
       formed = more letter (more count none);
-      none = (ap not (eq-eqb l l refl), (is-within (pos (about s .least)) (pos (about s .most)) (pos n) low high, tt));
+      none =
+          (ap not (eq-eqb l l refl), (is-within (pos (about s .least)) (pos (about s .most)) (pos n) low high, tt));
     })
 
 -- a count line in order is the letter and the count
@@ -55,7 +58,8 @@ pub record CountLine (s : Section) (x : List Field) : Type 0 where
   pub is : x ≡ countLine s count
   pub counted : Counted s count
 
-count-of : (s : Section) {x : List Field} → AllFormed (forms (Count s)) x → not (eqb (say.letter (at x 0)) (about s .letter)) ≡ false
+count-of : (s : Section) {x : List Field} → AllFormed (forms (Count s)) x
+    → not (eqb (say.letter (at x 0)) (about s .letter)) ≡ false
     → beyond (pos (about s .least)) (pos (about s .most)) (number (at x 1)) ≡ false → CountLine s x
 count-of s (more (letter {b = b}) (more (count {m = n}) none)) e h =
     let t = within (about s .least) (about s .most) (pos n) h in
@@ -83,28 +87,36 @@ module _ (s : Section) (ks : List Kind) (c : Carried) (line : ℕ) where
   pub section-walk : (xs rest : List (List Field)) → Counted s (length xs) → EntriesInOrder s (c .building) xs
       → walk (Count s ∷ ks) c line (sectionOf s xs ++ rest) ≡ walk ks (learnAll s xs c) (line + 1 + length xs) rest
   section-walk xs rest w h =
-      walk-on (Count s) ks c line (countLine s (length xs)) (xs ++ rest) (count-in-order s (c .building) (length xs) w)
+      walk-on (Count s) ks c line (countLine s (length xs)) (xs ++ rest)
+      (count-in-order s (c .building) (length xs) w)
       ∙ entries-walk s ks (c .building) xs rest c (line + 1) (λ x. refl) h
 
   -- refused at its count, or at the first entry that is not in order
-  pub count-refused : (xs rest : List (List Field)) → (lineFault (Count s) (c .building) (countLine s (length xs)) ≡ 0 → ⊥)
-      → walk (Count s ∷ ks) c line (sectionOf s xs ++ rest) ≡ Refused (lineFault (Count s) (c .building) (countLine s (length xs))) line
+  pub count-refused : (xs rest : List (List Field))
+      → (lineFault (Count s) (c .building) (countLine s (length xs)) ≡ 0 → ⊥)
+      → walk (Count s ∷ ks) c line (sectionOf s xs ++ rest) ≡ Refused
+      (lineFault (Count s) (c .building) (countLine s (length xs))) line
   count-refused xs rest z = walk-refused (Count s) ks c line (countLine s (length xs)) (xs ++ rest) z
 
-  pub section-refused : (xs rest : List (List Field)) (i : ℕ) → Counted s (length xs) → i < length xs → EntriesInOrder s (c .building) (take i xs)
+  pub section-refused : (xs rest : List (List Field)) (i : ℕ) → Counted s (length xs) → i < length xs
+      → EntriesInOrder s (c .building) (take i xs)
       → (lineFault (Entry s) (c .building) (getD xs i []) ≡ 0 → ⊥)
-      → walk (Count s ∷ ks) c line (sectionOf s xs ++ rest) ≡ Refused (lineFault (Entry s) (c .building) (getD xs i [])) (line + 1 + i)
+      → walk (Count s ∷ ks) c line (sectionOf s xs ++ rest) ≡ Refused
+      (lineFault (Entry s) (c .building) (getD xs i [])) (line + 1 + i)
   section-refused xs rest i w n h z =
-      walk-on (Count s) ks c line (countLine s (length xs)) (xs ++ rest) (count-in-order s (c .building) (length xs) w)
+      walk-on (Count s) ks c line (countLine s (length xs)) (xs ++ rest)
+      (count-in-order s (c .building) (length xs) w)
       ∙ entries-refused s ks (c .building) xs rest i c (line + 1) (λ x. refl) n h z
 
   module _ (e : Carried) where
-    pub section-in-order : (xs rest : List (List Field)) → walk (Count s ∷ ks) c line (sectionOf s xs ++ rest) ≡ Accepted e
+    pub section-in-order : (xs rest : List (List Field))
+        → walk (Count s ∷ ks) c line (sectionOf s xs ++ rest) ≡ Accepted e
         → Counted s (length xs) × EntriesInOrder s (c .building) xs
     section-in-order xs rest a =
         let x = countLine s (length xs) in (
           count-counted s (c .building) (length xs) (accepted-line (Count s) ks c line x (xs ++ rest) a),
-          entries-in-order s ks (c .building) xs rest c e (line + 1) (λ y. refl) (accepted-next (Count s) ks c line x (xs ++ rest) a),
+          entries-in-order s ks (c .building) xs rest c e (line + 1) (λ y. refl)
+              (accepted-next (Count s) ks c line x (xs ++ rest) a),
         )
 
     -- lines that are accepted begin with the section
@@ -117,7 +129,8 @@ module _ (s : Section) (ks : List Kind) (c : Carried) (line : ℕ) where
     section-there [] a = absurd (accepted-some (Count s) ks c e line a)
     section-there (x ∷ xs) a =
         let t = count-says s (c .building) x (accepted-line (Count s) ks c line x xs a) in
-        let b : walk (entries s (t .count) ++ ks) c (line + 1) xs ≡ Accepted e = rw (t .is) at (accepted-next (Count s) ks c line x xs a) in
+        let b : walk (entries s (t .count) ++ ks) c (line + 1) xs ≡ Accepted e =
+        rw (t .is) at (accepted-next (Count s) ks c line x xs a) in
         let u = entries-there s ks (t .count) c e (line + 1) xs b in
         record { front = u .front; rest = u .rest; is = cc (t .is, u .is, u .many) }
 

@@ -1,4 +1,5 @@
--- Lines are accepted exactly if they are the four sections, each in order; what is read is then what the entries say. Else the answer is at the first count or entry that is not in order.
+-- Lines are accepted exactly if they are the four sections, each in order; what is read is then what the entries say.
+-- Else the answer is at the first count or entry that is not in order.
 use Prim.Native.Nat.{ℕ, zero, suc, _+_, _<_}
 use mathlib.Core.Path.{_≡_, refl, ap, _∙_, sym, subst}
 use mathlib.Core.List.{List, [], _∷_, _++_, map, append-assoc, append-nil}
@@ -58,7 +59,13 @@ module _ (es : Section → List (List Field)) where
   before B = nothing
   before W = record { building = saidBy es .building; winds = []; internals = []; faces = [] }
   before I = record { building = saidBy es .building; winds = map windOf (es W); internals = []; faces = [] }
-  before F = record { building = saidBy es .building; winds = map windOf (es W); internals = map internalOf (es I); faces = [] }
+  before F =
+      record {
+        building = saidBy es .building;
+        winds = map windOf (es W);
+        internals = map internalOf (es I);
+        faces = [];
+      }
 
   abbrev pub after : Section → Carried
   after B = before W
@@ -67,15 +74,23 @@ module _ (es : Section → List (List Field)) where
   after F = saidBy es
 
   section-learned : (s : Section) → Counted s (length (es s)) → learnAll s (es s) (before s) ≡ after s
-  section-learned B w = ap (λ (xs : List (List Field)). learnAll B xs nothing) (only-one (es B) [] (omega (arith, w .low, w .high)))
-  section-learned W w = learn-list W windOf (λ l. record { building = saidBy es .building; winds = l; internals = []; faces = [] }) (λ l x. refl) [] (es W)
+  section-learned B w =
+      ap (λ (xs : List (List Field)). learnAll B xs nothing) (only-one (es B) [] (omega (arith, w .low, w .high)))
+  section-learned W w =
+      learn-list W windOf (λ l. record { building = saidBy es .building; winds = l; internals = []; faces = [] })
+      (λ l x. refl) [] (es W)
   section-learned I w =
-      learn-list I internalOf (λ l. record { building = saidBy es .building; winds = map windOf (es W); internals = l; faces = [] }) (λ l x. refl) [] (es I)
+      learn-list I internalOf
+      (λ l. record { building = saidBy es .building; winds = map windOf (es W); internals = l; faces = [] })
+      (λ l x. refl) [] (es I)
   section-learned F w =
-      learn-list F faceOf (λ l. record { building = saidBy es .building; winds = map windOf (es W); internals = map internalOf (es I); faces = l }) (λ l x. refl) [] (es F)
+      learn-list F faceOf
+      (λ l. record { building = saidBy es .building; winds = map windOf (es W); internals = map internalOf (es I); faces = l })
+      (λ l x. refl) [] (es F)
 
   -- the building's line is judged by itself
-  pub section-judged : (s : Section) (x : List Field) → lineFault (Entry s) (before s .building) x ≡ lineFault (Entry s) (saidBy es .building) x
+  pub section-judged : (s : Section) (x : List Field)
+      → lineFault (Entry s) (before s .building) x ≡ lineFault (Entry s) (saidBy es .building) x
   unfolding lineFault
   section-judged B x = refl
   section-judged W x = refl
@@ -108,9 +123,12 @@ module _ (es : Section → List (List Field)) where
   reached-first = refl
 
   -- `passed B` reaches W, `passed W` reaches I, and `passed I` reaches F
-  pub passed : (s : Section) → Reached s → Counted s (length (es s)) → EntriesInOrder s (saidBy es .building) (es s) → Passed s
+  pub passed : (s : Section) → Reached s → Counted s (length (es s)) → EntriesInOrder s (saidBy es .building) (es s)
+      → Passed s
   passed s r w h =
-      r ∙ section-walk s (later s) (before s) (lineOf s) (es s) (behind s) w (every-by (λ x e. section-judged s x ∙ e) (es s) h)
+      r
+      ∙ section-walk s (later s) (before s) (lineOf s) (es s) (behind s) w
+      (every-by (λ x e. section-judged s x ∙ e) (es s) h)
       ∙ ap (λ (c : Carried). walk (later s) c (lineOf s + 1 + length (es s)) (behind s)) (section-learned s w)
 
   pub passed-last : Passed F → readLines (sheetOf es) ≡ Accepted (saidBy es)
@@ -143,12 +161,16 @@ module _ (es : Section → List (List Field)) where
 
   -- the first line that is not in order: the count of a section that was reached, or an entry of it
   module _ (s : Section) (r : Reached s) where
-    pub sheet-refused : (i : ℕ) → Counted s (length (es s)) → i < length (es s) → EntriesInOrder s (saidBy es .building) (take i (es s))
+    pub sheet-refused : (i : ℕ) → Counted s (length (es s)) → i < length (es s)
+        → EntriesInOrder s (saidBy es .building) (take i (es s))
         → (lineFault (Entry s) (saidBy es .building) (getD (es s) i []) ≡ 0 → ⊥)
-        → readLines (sheetOf es) ≡ Refused (lineFault (Entry s) (saidBy es .building) (getD (es s) i [])) (lineOf s + 1 + i)
+        → readLines (sheetOf es) ≡ Refused (lineFault (Entry s) (saidBy es .building) (getD (es s) i []))
+        (lineOf s + 1 + i)
     sheet-refused i w n h z =
         let x = getD (es s) i [] in
-        r ∙ section-refused s (later s) (before s) (lineOf s) (es s) (behind s) i w n (every-by (λ y e. section-judged s y ∙ e) (take i (es s)) h) (λ e. z (sym (section-judged s x) ∙ e))
+        r
+        ∙ section-refused s (later s) (before s) (lineOf s) (es s) (behind s) i w n
+        (every-by (λ y e. section-judged s y ∙ e) (take i (es s)) h) (λ e. z (sym (section-judged s x) ∙ e))
         ∙ ap (λ (f : ℕ). Refused f (lineOf s + 1 + i)) (section-judged s x)
 
 -- ---- lines that are accepted are some sections
@@ -162,7 +184,8 @@ abbrev numbered : (ℕ → List (List Field)) → List Section → List (List Fi
 numbered f [] = []
 numbered f (s ∷ ss) = sectionOf s (f 0) ++ numbered (λ i. f (suc i)) ss
 
-sections-there : (ss : List Section) (c e : Carried) (line : ℕ) (xs : List (List Field)) → walk (map Count ss) c line xs ≡ Accepted e
+sections-there : (ss : List Section) (c e : Carried) (line : ℕ) (xs : List (List Field))
+    → walk (map Count ss) c line xs ≡ Accepted e
     → (f : ℕ → List (List Field)) × (xs ≡ numbered f ss)
 sections-there [] c e line xs a = (λ i. [], accepted-end c e line xs a)
 sections-there (s ∷ ss) c e line xs a =
@@ -170,7 +193,8 @@ sections-there (s ∷ ss) c e line xs a =
     let (f, q) = sections-there ss (learnAll s (t .front) c) e (line + 1 + length (t .front)) (t .rest) b in
     (first (t .front) f, t .is ∙ ap (λ (l : List (List Field)). sectionOf s (t .front) ++ l) q)
 
-sheet-there : (xs : List (List Field)) (e : Carried) → readLines xs ≡ Accepted e → (es : Section → List (List Field)) × (xs ≡ sheetOf es)
+sheet-there : (xs : List (List Field)) (e : Carried) → readLines xs ≡ Accepted e
+    → (es : Section → List (List Field)) × (xs ≡ sheetOf es)
 unfolding readLines
 sheet-there xs e a = let (f, q) = sections-there sections nothing e 1 xs a in (λ s. f (earlier s), q)
 
@@ -184,7 +208,8 @@ pub record AcceptedSheet (xs : List (List Field)) (c : Carried) : Type 0 where
 accepted-same : {c d : Carried} → Accepted c ≡ Accepted d → c ≡ d
 accepted-same e = cc
 
-pub sheet-said : (es : Section → List (List Field)) (c : Carried) → readLines (sheetOf es) ≡ Accepted c → c ≡ saidBy es
+pub sheet-said : (es : Section → List (List Field)) (c : Carried) → readLines (sheetOf es) ≡ Accepted c
+    → c ≡ saidBy es
 sheet-said es c a = accepted-same (sym a ∙ sheet-accepted es (sheet-in-order es c a))
 
 pub accepted-sheet : (xs : List (List Field)) (c : Carried) → readLines xs ≡ Accepted c → AcceptedSheet xs c

@@ -18,7 +18,8 @@ pub refused-by : (r : Reading) → (verdict r .number ≡ 0 → ⊥) → r ≡ R
 refused-by (Accepted c) h = absurd (h refl)
 refused-by (Refused number line) h = refl
 
-pub accepted-by : {ks : List Kind} {c : Carried} {xs : List (List Field)} {line : ℕ} {r : Reading} → Answers ks c xs line r → verdict r .number ≡ 0
+pub accepted-by : {ks : List Kind} {c : Carried} {xs : List (List Field)} {line : ℕ} {r : Reading}
+    → Answers ks c xs line r → verdict r .number ≡ 0
     → (d : Carried) × (r ≡ Accepted d)
 accepted-by (in-order d none) z = (d, refl)
 accepted-by (faulty n i f) z = absurd (omega (arith, f .some))

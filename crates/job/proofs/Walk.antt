@@ -22,11 +22,13 @@ use Rattle.job.specs.Walk.{entries, calls, learn, Accepted, Refused, wal
 -- ---- one line
 
 module _ (k : Kind) (ks : List Kind) (c : Carried) (line : ℕ) (x : List Field) (xs : List (List Field)) where
-  pub walk-refused : (lineFault k (c .building) x ≡ 0 → ⊥) → walk (k ∷ ks) c line (x ∷ xs) ≡ Refused (lineFault k (c .building) x) line
+  pub walk-refused : (lineFault k (c .building) x ≡ 0 → ⊥)
+      → walk (k ∷ ks) c line (x ∷ xs) ≡ Refused (lineFault k (c .building) x) line
   unfolding walk
   walk-refused h = rw (ne-eqb _ _ h)
 
-  pub walk-on : lineFault k (c .building) x ≡ 0 → walk (k ∷ ks) c line (x ∷ xs) ≡ walk (calls k x ++ ks) (learn k x c) (line + 1) xs
+  pub walk-on : lineFault k (c .building) x ≡ 0
+      → walk (k ∷ ks) c line (x ∷ xs) ≡ walk (calls k x ++ ks) (learn k x c) (line + 1) xs
   unfolding walk
   walk-on h = rw (eq-eqb _ _ h)
 
@@ -35,14 +37,16 @@ module _ (k : Kind) (ks : List Kind) (c : Carried) (line : ℕ) (x : List Field)
       by-test (eqb (lineFault k (c .building) x) 0) (λ q. eqb-true _ _ q)
       (λ q. absurd (let z : _≡_ {A = ℕ} 0 1 = cc (walk-refused (eqb-false _ _ q)) in omega arith))
 
-  pub accepted-next : {e : Carried} → walk (k ∷ ks) c line (x ∷ xs) ≡ Accepted e → walk (calls k x ++ ks) (learn k x c) (line + 1) xs ≡ Accepted e
+  pub accepted-next : {e : Carried} → walk (k ∷ ks) c line (x ∷ xs) ≡ Accepted e
+      → walk (calls k x ++ ks) (learn k x c) (line + 1) xs ≡ Accepted e
   accepted-next a = sym (walk-on (accepted-line a)) ∙ a
 
 pub accepted-some : (k : Kind) (ks : List Kind) (c e : Carried) (line : ℕ) → walk (k ∷ ks) c line [] ≡ Accepted e → ⊥
 unfolding walk
 accepted-some k ks c e line a = let z : _≡_ {A = ℕ} 0 1 = cc in omega arith
 
-pub accepted-no-more : (c e : Carried) (line : ℕ) (x : List Field) (xs : List (List Field)) → walk [] c line (x ∷ xs) ≡ Accepted e → ⊥
+pub accepted-no-more : (c e : Carried) (line : ℕ) (x : List Field) (xs : List (List Field))
+    → walk [] c line (x ∷ xs) ≡ Accepted e → ⊥
 unfolding walk
 accepted-no-more c e line x xs a = let z : _≡_ {A = ℕ} 0 1 = cc in omega arith
 
@@ -65,7 +69,8 @@ abbrev pub JudgesAs : Section → Building → Carried → Type 0
 JudgesAs s g c = (x : List Field) → lineFault (Entry s) (c .building) x ≡ lineFault (Entry s) g x
 
 -- entries change nothing that entries after them are judged by: a building's line is judged by itself
-pub entry-judges : (s : Section) (g : Building) (c : Carried) (y : List Field) → JudgesAs s g c → JudgesAs s g (learn (Entry s) y c)
+pub entry-judges : (s : Section) (g : Building) (c : Carried) (y : List Field) → JudgesAs s g c
+    → JudgesAs s g (learn (Entry s) y c)
 unfolding lineFault
 entry-judges B g c y same x = same x
 entry-judges W g c y same x = same x
@@ -88,16 +93,20 @@ module _ (s : Section) (ks : List Kind) (g : Building) where
   entries-in-order (x ∷ xs) rest c e line same a =
       let ls = entries s (length xs) ++ ks in (
         sym (same x) ∙ accepted-line (Entry s) ls c line x (xs ++ rest) a,
-        entries-in-order xs rest (learn (Entry s) x c) e (line + 1) (entry-judges s g c x same) (accepted-next (Entry s) ls c line x (xs ++ rest) a),
+        entries-in-order xs rest (learn (Entry s) x c) e (line + 1) (entry-judges s g c x same)
+            (accepted-next (Entry s) ls c line x (xs ++ rest) a),
       )
 
   -- the first entry that is not in order
-  pub entries-refused : (xs rest : List (List Field)) (i : ℕ) (c : Carried) (line : ℕ) → JudgesAs s g c → i < length xs → EntriesInOrder s g (take i xs)
+  pub entries-refused : (xs rest : List (List Field)) (i : ℕ) (c : Carried) (line : ℕ) → JudgesAs s g c
+      → i < length xs → EntriesInOrder s g (take i xs)
       → (lineFault (Entry s) g (getD xs i []) ≡ 0 → ⊥)
-      → walk (entries s (length xs) ++ ks) c line (xs ++ rest) ≡ Refused (lineFault (Entry s) g (getD xs i [])) (line + i)
+      → walk (entries s (length xs) ++ ks) c line (xs ++ rest) ≡ Refused (lineFault (Entry s) g (getD xs i []))
+      (line + i)
   entries-refused [] rest i c line same n h z = absurd (omega arith)
   entries-refused (x ∷ xs) rest zero c line same n h z =
-      walk-refused (Entry s) (entries s (length xs) ++ ks) c line x (xs ++ rest) (λ e. z (sym (same x) ∙ e)) ∙ rw (same x, add-zero)
+      walk-refused (Entry s) (entries s (length xs) ++ ks) c line x (xs ++ rest) (λ e. z (sym (same x) ∙ e))
+      ∙ rw (same x, add-zero)
   entries-refused (x ∷ xs) rest (suc i) c line same n h z =
       let l : line + 1 + i ≡ line + suc i = omega arith in
       walk-on (Entry s) (entries s (length xs) ++ ks) c line x (xs ++ rest) (same x ∙ h .0)
@@ -116,5 +125,12 @@ pub entries-there : (s : Section) (ks : List Kind) (n : ℕ) (c e : Carried) (li
 entries-there s ks zero c e line xs a = record { front = []; rest = xs; is = refl; many = refl }
 entries-there s ks (suc n) c e line [] a = absurd (accepted-some (Entry s) (entries s n ++ ks) c e line a)
 entries-there s ks (suc n) c e line (x ∷ xs) a =
-    let t = entries-there s ks n (learn (Entry s) x c) e (line + 1) xs (accepted-next (Entry s) (entries s n ++ ks) c line x xs a) in
-    record { front = x ∷ t .front; rest = t .rest; is = ap (λ (l : List (List Field)). x ∷ l) (t .is); many = ap suc (t .many) }
+    let t =
+    entries-there s ks n (learn (Entry s) x c) e (line + 1) xs
+    (accepted-next (Entry s) (entries s n ++ ks) c line x xs a) in
+    record {
+      front = x ∷ t .front;
+      rest = t .rest;
+      is = ap (λ (l : List (List Field)). x ∷ l) (t .is);
+      many = ap suc (t .many);
+    }

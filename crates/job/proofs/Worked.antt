@@ -71,6 +71,7 @@ cases =
     ∷ with 9 (Letter 71 ∷ Plus 0 ∷ Plus 100001 ∷ Plus 0 ∷ Plus 0 ∷ []) 3 9
     ∷ []
 
-cases-right : map (λ c. verdict (readLines (c .lines))) cases ≡ map (λ c. record { number = c .number; line = c .line }) cases
+cases-right : map (λ c. verdict (readLines (c .lines))) cases ≡ map
+    (λ c. record { number = c .number; line = c .line }) cases
 unfolding readLines walk lineFault inForm hasForm outOfRange outOfWalls outOfRoof roofOf tooLong beyond zoneOn
 cases-right = refl

@@ -1,4 +1,5 @@
--- The fault of an entry of a record, as it would be written: 1 where one of its numbers is too long, and else that of the entry itself.
+-- The fault of an entry of a record, as it would be written: 1 where one of its numbers is too long, and else that of
+-- the entry itself.
 use Prim.Native.Nat.{ℕ, suc}
 use mathlib.Core.Path.{_≡_, refl, sym, ap, _∙_}
 use mathlib.Core.Bool.{Bool, true, false, cond, not, _&&_, _||_}
@@ -23,7 +24,8 @@ use Rattle.entry.specs.Says.{both}
 use Rattle.rules.specs.Form.{isNumber, hasForm, inForm}
 use Rattle.rules.specs.Faults.{windFaults, internalFaults, faceFaults}
 use Rattle.rules.specs.Sections.{forms, faultsOf, lineFault}
-use Rattle.fields.specs.Fields.{signed, numberField, markField, buildingFields, windFields, internalFields, faceFields}
+use Rattle.fields.specs.Fields.{signed, numberField, markField, buildingFields, windFields, internalFields}
+use Rattle.fields.specs.Fields.{faceFields}
 use Rattle.rules.proofs.Form.{in-formed}
 use Rattle.rules.proofs.Line.{fault-out, fault-in}
 use Rattle.job.proofs.Lines.{signed-back, building-back, wind-back, internal-back, face-back}
@@ -83,33 +85,42 @@ pub building-given : (g k : Building) → givenFault g ≡ lineFault (Entry B) k
 unfolding givenFault outOfForm buildingFault inForm
 building-given g k =
     sym (given-by (Entry B) k (buildingFields g) long (first (faults g))
-    (rw (number-form (g .h), number-form (g .a), number-form (g .b), number-form (g .density), number-form (g .kind), number-form (g .x)))
-    (λ e. ap (λ (b : Building). first (faults b)) (building-back g (in-formed (forms (Entry B)) (buildingFields g) e))))
+    (rw
+    (number-form (g .h), number-form (g .a), number-form (g .b), number-form (g .density), number-form (g .kind), number-form (g .x)))
+    (λ e.
+    ap (λ (b : Building). first (faults b)) (building-back g (in-formed (forms (Entry B)) (buildingFields g) e))))
   where
     long : List Bool
-    long = tooLong (g .h) ∷ tooLong (g .a) ∷ tooLong (g .b) ∷ tooLong (g .density) ∷ tooLong (g .kind) ∷ tooLong (g .x) ∷ []
+    long =
+        tooLong (g .h) ∷ tooLong (g .a) ∷ tooLong (g .b) ∷ tooLong (g .density) ∷ tooLong (g .kind) ∷ tooLong (g .x) ∷
+        []
 
 -- so has each entry
 module _ (g : Building) where
   pub wind-given : (w : Wind)
-      → lineFault (Entry W) g (windFields w) ≡ cond (tooLong (w .direction) || (tooLong (w .speed) || false)) 1 (first (windFaults g w))
+      → lineFault (Entry W) g (windFields w) ≡ cond (tooLong (w .direction) || (tooLong (w .speed) || false)) 1
+      (first (windFaults g w))
   unfolding inForm
   wind-given w =
       given-by (Entry W) g (windFields w) (tooLong (w .direction) ∷ tooLong (w .speed) ∷ []) (first (windFaults g w))
       (rw (number-form (w .direction), number-form (w .speed)))
       (λ e. ap (λ (v : Wind). first (windFaults g v)) (wind-back w (in-formed (forms (Entry W)) (windFields w) e)))
 
-  pub internal-given : (i : ℤ) → lineFault (Entry I) g (internalFields i) ≡ cond (tooLong i || false) 1 (first (internalFaults i))
+  pub internal-given : (i : ℤ)
+      → lineFault (Entry I) g (internalFields i) ≡ cond (tooLong i || false) 1 (first (internalFaults i))
   unfolding inForm
   internal-given i =
       given-by (Entry I) g (internalFields i) (tooLong i ∷ []) (first (internalFaults i)) (rw (number-form i))
-      (λ e. ap (λ (z : ℤ). first (internalFaults z)) (internal-back i (in-formed (forms (Entry I)) (internalFields i) e)))
+      (λ e.
+      ap (λ (z : ℤ). first (internalFaults z)) (internal-back i (in-formed (forms (Entry I)) (internalFields i) e)))
 
   pub face-given : (f : Face) → lineFault (Entry F) g (faceFields f)
-      ≡ cond (markTooLong (f .mark) || (tooLong (f .x) || (tooLong (f .y) || (tooLong (f .z) || false)))) 1 (first (faceFaults g f))
+      ≡ cond (markTooLong (f .mark) || (tooLong (f .x) || (tooLong (f .y) || (tooLong (f .z) || false)))) 1
+      (first (faceFaults g f))
   unfolding inForm
   face-given f =
-      given-by (Entry F) g (faceFields f) (markTooLong (f .mark) ∷ tooLong (f .x) ∷ tooLong (f .y) ∷ tooLong (f .z) ∷ []) (first (faceFaults g f))
+      given-by (Entry F) g (faceFields f)
+      (markTooLong (f .mark) ∷ tooLong (f .x) ∷ tooLong (f .y) ∷ tooLong (f .z) ∷ []) (first (faceFaults g f))
       (rw (letter-form (f .zone), mark-form (f .mark), number-form (f .x), number-form (f .y), number-form (f .z)))
       (λ e. ap (λ (h : Face). first (faceFaults g h)) (face-back f (in-formed (forms (Entry F)) (faceFields f) e)))
 

@@ -42,7 +42,8 @@ carried j =
 abbrev pub SameJob : Job → Job → Type 0
 SameJob j k = carried j ≡ carried k
 
--- the record of what a sheet carries, with room for 8 winds, 4 internal coefficients and 24 faces: the entries after a count are zero
+-- the record of what a sheet carries, with room for 8 winds, 4 internal coefficients and 24 faces: the entries after
+-- a count are zero
 unfoldable pub recorded : Carried → Job
 recorded c =
     record {

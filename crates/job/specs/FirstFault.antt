@@ -18,7 +18,8 @@ pub data HasFault (n : ℕ) (g : Building) (fs : List Field) (k : Kind) : Type 0
   found : inForm (forms k) fs ≡ true → (f : Fault) → List·Memᴰ f (faultsOf k g fs) → f .found ≡ true → f .number ≡ n
       → HasFault n g fs k
 
--- line i, counted from 0, has fault n, where each line before it is taken for what was called for: a line missing or extra has fault 1
+-- line i, counted from 0, has fault n, where each line before it is taken for what was called for: a line missing or
+-- extra has fault 1
 abbrev pub FaultAt : ℕ → ℕ → List Kind → Carried → List (List Field) → Type 0
 FaultAt zero n [] c [] = ⊥
 FaultAt zero n [] c (x ∷ xs) = n ≡ 1
@@ -40,7 +41,8 @@ module _ (ks : List Kind) (c : Carried) (xs : List (List Field)) where
   abbrev pub NoFault : Type 0
   NoFault = (i m : ℕ) → 0 < m → FaultAt i m ks c xs → ⊥
 
-  -- the answer to lines of which the first is number `line`: accepted where there is no fault, else the number and line of the first
+  -- the answer to lines of which the first is number `line`: accepted where there is no fault, else the number and
+  -- line of the first
   pub data Answers (line : ℕ) : Reading → Type 0 where
     in-order : (d : Carried) → NoFault → Answers line (Accepted d)
     faulty : (n i : ℕ) → FirstFault n i → Answers line (Refused n (line + i))

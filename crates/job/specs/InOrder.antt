@@ -1,4 +1,5 @@
--- What an accepted sheet carries: every number in its range, every count within its limits, every face on the building.
+-- What an accepted sheet carries: every number in its range, every count within its limits, every face on the
+-- building.
 use Prim.Native.Nat.{ℕ, _≤_}
 use mathlib.Core.Path.{_≡_}
 use mathlib.Core.Logic.{_⊎_}

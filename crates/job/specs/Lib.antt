@@ -1,4 +1,5 @@
--- From a record to what its sheet carries, from there to lines of fields, and how lines of fields are judged and read; and what is accepted.
+-- From a record to what its sheet carries, from there to lines of fields, and how lines of fields are judged and
+-- read; and what is accepted.
 pub mod Carried
 pub mod Lines
 pub mod Walk

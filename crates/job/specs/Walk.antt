@@ -27,10 +27,29 @@ calls (Entry s) fs = []
 -- what is carried with this line added
 abbrev pub learn : Kind → List Field → Carried → Carried
 learn (Count s) fs c = c
-learn (Entry B) fs c = record { building = buildingOf fs; winds = c .winds; internals = c .internals; faces = c .faces }
-learn (Entry W) fs c = record { building = c .building; winds = c .winds ++ (windOf fs ∷ []); internals = c .internals; faces = c .faces }
-learn (Entry I) fs c = record { building = c .building; winds = c .winds; internals = c .internals ++ (internalOf fs ∷ []); faces = c .faces }
-learn (Entry F) fs c = record { building = c .building; winds = c .winds; internals = c .internals; faces = c .faces ++ (faceOf fs ∷ []) }
+learn (Entry B) fs c =
+    record { building = buildingOf fs; winds = c .winds; internals = c .internals; faces = c .faces }
+learn (Entry W) fs c =
+    record {
+      building = c .building;
+      winds = c .winds ++ (windOf fs ∷ []);
+      internals = c .internals;
+      faces = c .faces;
+    }
+learn (Entry I) fs c =
+    record {
+      building = c .building;
+      winds = c .winds;
+      internals = c .internals ++ (internalOf fs ∷ []);
+      faces = c .faces;
+    }
+learn (Entry F) fs c =
+    record {
+      building = c .building;
+      winds = c .winds;
+      internals = c .internals;
+      faces = c .faces ++ (faceOf fs ∷ []);
+    }
 
 -- accepted with what was read, or refused with a number and a line
 pub data Reading : Type 0 where
@@ -42,7 +61,8 @@ abbrev pub verdict : Reading → Verdict
 verdict (Accepted c) = record { number = 0; line = 0 }
 verdict (Refused number line) = record { number = number; line = line }
 
--- the lines from number `line` on against the lines still called for, with what was read before them: a line missing or extra is 1
+-- the lines from number `line` on against the lines still called for, with what was read before them: a line missing
+-- or extra is 1
 unfoldable pub walk : List Kind → Carried → ℕ → List (List Field) → Reading
 walk [] c line [] = Accepted c
 walk [] c line (x ∷ xs) = Refused 1 line

@@ -1,4 +1,5 @@
-// The fault of a count or an entry of a job given as a record, as its line would get it: a number too long is out of form.
+// The fault of a count or an entry of a job given as a record, as its line would get it: a number too long is out of
+// form.
 use building::Building;
 use building::limits::too_long;
 use entry::BOTH;

@@ -27,7 +27,8 @@ fn count_of(j: Job, s: Section) -> u32
 // A section by itself, whose count stands on this line.
 fn judge_section(j: Job, s: Section, line: u32) -> Verdict
     requires { ⌜ line ≤ 100 ⌝ }
-    ensures { λ r. ⌜ r ≡ verdict (walk (Kind.Count s ∷ []) (carried j) line (sectionOf s (entriesOf (carried j) s))) ⌝ }
+    ensures { λ r. ⌜ r ≡ verdict
+        (walk (Kind.Count s ∷ []) (carried j) line (sectionOf s (entriesOf (carried j) s))) ⌝ }
 {
     let g = j.building;
     let n = count_of(j, s);

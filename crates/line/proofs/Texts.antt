@@ -7,7 +7,7 @@ use native.Mathlib.Omega.{arith}
 use lib.ListN.{length, getD, take}
 use Rattle.form.specs.declared.Field.{Field}
 use Rattle.form.specs.declared.Field.the-variants.{Bad}
-use Rattle.lines.specs.Lines.{fieldText, lineText, textOf}
+use Rattle.lines.specs.Lines.{fieldText, lineText, textOfLines}
 
 -- where there is no first field, Bad has no text either
 pub line-first : (fs : List Field) → lineText (take 1 fs) ≡ fieldText (getD fs 0 Bad)
@@ -30,9 +30,9 @@ line-next fs zero h k = absurd (omega arith)
 line-next fs (suc i) h k = rw add-one (line-later fs i k)
 
 -- the text of more lines
-pub textOf-append : (xs ys : List (List Field)) → textOf (xs ++ ys) ≡ textOf xs ++ textOf ys
-unfolding textOf
+pub textOf-append : (xs ys : List (List Field)) → textOfLines (xs ++ ys) ≡ textOfLines xs ++ textOfLines ys
+unfolding textOfLines
 textOf-append [] ys = refl
 textOf-append (x ∷ xs) ys =
     ap (λ (t : List ℕ). lineText x ++ (10 ∷ t)) (textOf-append xs ys)
-    ∙ sym (append-assoc (lineText x) (10 ∷ textOf xs) (textOf ys))
+    ∙ sym (append-assoc (lineText x) (10 ∷ textOfLines xs) (textOfLines ys))

@@ -2,7 +2,7 @@
 use form::Field;
 use lines::Line;
 ghost use mathlib.Core.List.{[], _∷_};
-ghost use Rattle.lines.specs.Lines.{fieldText, lineText, textOf};
+ghost use Rattle.lines.specs.Lines.{fieldText, lineText, textOfLines};
 ghost use Rattle.lines.specs.Held.{held};
 ghost use Rattle.page.specs.Writing.{Put};
 
@@ -41,7 +41,7 @@ fn put_fields(buf: &mut [u8], at: usize, x: Line) -> usize
 
 // A line and its LF.
 pub fn put_line(buf: &mut [u8], at: usize, x: Line) -> usize
-    ensures { λ r. ⌜ Put (now (buf .entry)) at (textOf (held x ∷ [])) (now (buf .exit)) r ⌝ }
+    ensures { λ r. ⌜ Put (now (buf .entry)) at (textOfLines (held x ∷ [])) (now (buf .exit)) r ⌝ }
 {
     let next = put_fields(buf, at, x);
     page::put_byte(buf, next, 10)

@@ -16,7 +16,7 @@ use Rattle.lines.specs.declared.Slot.{Slot}
 use Rattle.lines.specs.declared.Line.{Line}
 use Rattle.form.specs.Field.{field}
 use Rattle.lines.specs.Lines.{split, fieldsOf}
-use Rattle.lines.specs.Held.{slot, blank, noLine, lineOf, firstLine, lineAt, until, fieldLength}
+use Rattle.lines.specs.Held.{slot, blank, noLine, heldLine, firstLine, lineAt, until, fieldLength}
 use Rattle.lines.proofs.Lines.{Free, until-at, until-take, split-until, split-last, split-seam, split-past}
 use Rattle.lines.proofs.Lines.{split-one}
 
@@ -26,8 +26,8 @@ lineFrom next k v fs =
     cond (leb (k + length fs) 6)
     (record { count = k + length fs; next = next; fields = sets v k (map slot fs) }) noLine
 
-from-start : (next : ℕ) (fs : List Field) → lineOf next fs ≡ lineFrom next 0 blank fs
-unfolding lineOf lineFrom
+from-start : (next : ℕ) (fs : List Field) → heldLine next fs ≡ lineFrom next 0 blank fs
+unfolding heldLine lineFrom
 from-start next fs = rw zero-add
 
 module _ (next k : ℕ) (v : List Slot) (f : Field) where

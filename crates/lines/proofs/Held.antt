@@ -1,4 +1,4 @@
--- Laws of a line that is held: what `line_at` gives at a place, against the rows of the text from there on.
+-- Laws of a line that is held: what `line_at` gives at a place, against the linesIn of the text from there on.
 use Prim.Native.Nat.{ℕ, suc, _+_, _≤_, _<_, min}
 use mathlib.Core.Path.{_≡_, refl, ap, _∙_, sym}
 use mathlib.Core.List.{List, [], _∷_, map}
@@ -12,8 +12,8 @@ use Rattle.form.specs.declared.Field.{Field}
 use Rattle.form.specs.declared.Field.the-variants.{Bad}
 use Rattle.lines.specs.declared.Slot.{Slot}
 use Rattle.lines.specs.declared.Line.{Line}
-use Rattle.lines.specs.Lines.{fieldsOf, rows}
-use Rattle.lines.specs.Held.{slot, blank, noLine, lineOf, firstLine, lineAt, held, until}
+use Rattle.lines.specs.Lines.{fieldsOf, linesIn}
+use Rattle.lines.specs.Held.{slot, blank, noLine, heldLine, firstLine, lineAt, held, until}
 use Rattle.lines.proofs.Lines.{Free, until-le, split-until, split-more, split-last, rows-more, rows-none}
 use Rattle.lines.proofs.Lines.{rows-open}
 
@@ -25,7 +25,7 @@ module _ (s : List ℕ) (at : ℕ) where
   line-out h = rw (split-last 10 (drop at s) (rw length-drop (omega arith)))
 
   pub line-in : at + until 10 (drop at s) < length s
-      → lineAt s at ≡ lineOf (at + until 10 (drop at s) + 1) (fieldsOf (take (until 10 (drop at s)) (drop at s)))
+      → lineAt s at ≡ heldLine (at + until 10 (drop at s) + 1) (fieldsOf (take (until 10 (drop at s)) (drop at s)))
   unfolding lineAt firstLine
   line-in h =
       rw (split-more 10 (drop at s) (rw length-drop (omega arith)))
@@ -62,8 +62,8 @@ module _ (next : ℕ) (fs : List Field) where
   map-slots [] = refl
   map-slots (g ∷ gs) = ap (λ (r : List Field). g ∷ r) (map-slots gs)
 
-  pub held-all : length fs ≤ 6 → (held (lineOf next fs) ≡ fs) × (lineOf next fs .next ≡ next)
-  unfolding lineOf
+  pub held-all : length fs ≤ 6 → (held (heldLine next fs) ≡ fs) × (heldLine next fs .next ≡ next)
+  unfolding heldLine
   held-all h =
       let n : length (map slot fs) ≡ length fs = length-map fs slot in
       rw (le-leb (length fs) 6 h) (
@@ -71,8 +71,8 @@ module _ (next : ℕ) (fs : List Field) where
         refl,
       )
 
-  pub held-none : 6 < length fs → held (lineOf next fs) ≡ []
-  unfolding lineOf
+  pub held-none : 6 < length fs → held (heldLine next fs) ≡ []
+  unfolding heldLine
   held-none h = rw (lt-leb (length fs) 6 h)
 
 -- ---- a place of a text
@@ -81,16 +81,16 @@ module _ (next : ℕ) (fs : List Field) where
 -- left, or one that
 -- is not ended, or a first line of more than six fields.
 pub data At (s : List ℕ) (at : ℕ) (x : Line) : Type 0 where
-  taken : rows (drop at s) ≡ held x ∷ rows (drop (x .next) s) → At s at x
-  gone : held x ≡ [] → rows (drop at s) ≡ [] → At s at x
-  unended : held x ≡ [] → rows (drop at s) ≡ (Bad ∷ []) ∷ [] → At s at x
-  long : (fs : List Field) (rest : List (List Field)) → held x ≡ [] → rows (drop at s) ≡ fs ∷ rest → 6 < length fs
+  taken : linesIn (drop at s) ≡ held x ∷ linesIn (drop (x .next) s) → At s at x
+  gone : held x ≡ [] → linesIn (drop at s) ≡ [] → At s at x
+  unended : held x ≡ [] → linesIn (drop at s) ≡ (Bad ∷ []) ∷ [] → At s at x
+  long : (fs : List Field) (rest : List (List Field)) → held x ≡ [] → linesIn (drop at s) ≡ fs ∷ rest → 6 < length fs
       → At s at x
 
 module _ (s : List ℕ) (at : ℕ) where
   at-open : (t : List ℕ) → drop at s ≡ t → Free 10 t → held (lineAt s at) ≡ [] → At s at (lineAt s at)
-  at-open [] e h z = gone z (ap rows e ∙ rows-none)
-  at-open (y ∷ t) e h z = unended z (ap rows e ∙ rows-open y t h)
+  at-open [] e h z = gone z (ap linesIn e ∙ rows-none)
+  at-open (y ∷ t) e h z = unended z (ap linesIn e ∙ rows-open y t h)
 
   at-ended : at + until 10 (drop at s) < length s → At s at (lineAt s at)
   at-ended h =
@@ -98,7 +98,7 @@ module _ (s : List ℕ) (at : ℕ) where
       let fs = fieldsOf (take u (drop at s)) in
       let q : at + suc u ≡ at + u + 1 = omega arith in
       let l = line-in s at h in
-      let r : rows (drop at s) ≡ fs ∷ rows (drop (at + u + 1) s) =
+      let r : linesIn (drop at s) ≡ fs ∷ linesIn (drop (at + u + 1) s) =
       rows-more (drop at s) (rw length-drop (omega arith)) ∙ rw (drop-drop, q) in
       by-test (leb (length fs) 6)
       (λ t.

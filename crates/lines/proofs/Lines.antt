@@ -1,4 +1,4 @@
--- Laws of `split` and `rows`: the first part of a text ends where its first separator stands, and the rest is split
+-- Laws of `split` and `linesIn`: the first part of a text ends where its first separator stands, and the rest is split
 -- alike.
 use Prim.Native.Nat.{ℕ, zero, suc, _+_, _≤_, _<_}
 use mathlib.Core.Path.{_≡_, refl, ap, _∙_, sym}
@@ -14,7 +14,7 @@ use borrow.Author.Tests.{lt-ltb, le-ltb, eq-eqb, ne-eqb, eqb-true, eqb-false, lt
 use Rattle.whole.proofs.Tests.{by-test, or-true, or-false}
 use Rattle.form.specs.declared.Field.{Field}
 use Rattle.form.specs.declared.Field.the-variants.{Bad}
-use Rattle.lines.specs.Lines.{onto, split, fieldsOf, rowsOf, rows}
+use Rattle.lines.specs.Lines.{onto, split, fieldsOf, linesFrom, linesIn}
 use Rattle.lines.specs.Held.{until, fieldLength}
 
 -- ---- the first b
@@ -156,44 +156,44 @@ split-joined b (x ∷ xs) =
 
 -- ---- lines
 
-rowsOf-more : (l t : List ℕ) → rowsOf (l ∷ split 10 t) ≡ fieldsOf l ∷ rowsOf (split 10 t)
-unfolding rowsOf
+rowsOf-more : (l t : List ℕ) → linesFrom (l ∷ split 10 t) ≡ fieldsOf l ∷ linesFrom (split 10 t)
+unfolding linesFrom
 rowsOf-more l t = rw (split-until 10 t)
 
 -- the first line, and those behind its LF
 pub rows-more : (s : List ℕ) → until 10 s < length s
-    → rows s ≡ fieldsOf (take (until 10 s) s) ∷ rows (drop (suc (until 10 s)) s)
-unfolding rows
-rows-more s h = ap rowsOf (split-more 10 s h) ∙ rowsOf-more (take (until 10 s) s) (drop (suc (until 10 s)) s)
+    → linesIn s ≡ fieldsOf (take (until 10 s) s) ∷ linesIn (drop (suc (until 10 s)) s)
+unfolding linesIn
+rows-more s h = ap linesFrom (split-more 10 s h) ∙ rowsOf-more (take (until 10 s) s) (drop (suc (until 10 s)) s)
 
-pub rows-none : rows [] ≡ []
-unfolding rows rowsOf split
+pub rows-none : linesIn [] ≡ []
+unfolding linesIn linesFrom split
 rows-none = refl
 
 -- a text with no LF
-pub rows-open : (x : ℕ) (s : List ℕ) → Free 10 (x ∷ s) → rows (x ∷ s) ≡ (Bad ∷ []) ∷ []
-unfolding rows rowsOf
+pub rows-open : (x : ℕ) (s : List ℕ) → Free 10 (x ∷ s) → linesIn (x ∷ s) ≡ (Bad ∷ []) ∷ []
+unfolding linesIn linesFrom
 rows-open x s h = rw (split-one 10 (x ∷ s) h)
 
-pub rows-seam : (l t : List ℕ) → Free 10 l → rows (l ++ (10 ∷ t)) ≡ fieldsOf l ∷ rows t
-unfolding rows
-rows-seam l t h = ap rowsOf (split-seam 10 l t h) ∙ rowsOf-more l t
+pub rows-seam : (l t : List ℕ) → Free 10 l → linesIn (l ++ (10 ∷ t)) ≡ fieldsOf l ∷ linesIn t
+unfolding linesIn
+rows-seam l t h = ap linesFrom (split-seam 10 l t h) ∙ rowsOf-more l t
 
 -- at the end of a text no line is left, and before it one is
-pub rows-end : (s : List ℕ) (at : ℕ) → length s ≤ at → rows (drop at s) ≡ []
-rows-end s at h = ap rows (drop-of-length-le s h) ∙ rows-none
+pub rows-end : (s : List ℕ) (at : ℕ) → length s ≤ at → linesIn (drop at s) ≡ []
+rows-end s at h = ap linesIn (drop-of-length-le s h) ∙ rows-none
 
 pub rows-some : (s : List ℕ) (at : ℕ) → at < length s
-    → (x : List Field) × (xs : List (List Field)) × (rows (drop at s) ≡ x ∷ xs)
+    → (x : List Field) × (xs : List (List Field)) × (linesIn (drop at s) ≡ x ∷ xs)
 rows-some s at h = go (drop at s) (rw length-drop (omega arith))
   where
-    go : (t : List ℕ) → 0 < length t → (x : List Field) × (xs : List (List Field)) × (rows t ≡ x ∷ xs)
+    go : (t : List ℕ) → 0 < length t → (x : List Field) × (xs : List (List Field)) × (linesIn t ≡ x ∷ xs)
     go [] k = absurd (omega arith)
     go (y ∷ t) k =
         by-test (ltb (until 10 (y ∷ t)) (length (y ∷ t)))
         (λ e. (
           fieldsOf (take (until 10 (y ∷ t)) (y ∷ t)),
-          rows (drop (suc (until 10 (y ∷ t))) (y ∷ t)),
+          linesIn (drop (suc (until 10 (y ∷ t))) (y ∷ t)),
           rows-more (y ∷ t) (ltb-true _ _ e),
         ))
         (λ e. (

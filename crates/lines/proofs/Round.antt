@@ -14,7 +14,7 @@ use Rattle.form.specs.declared.Field.the-variants.{Bad, Plus, Minus, Letter, Da
 use Rattle.whole.specs.Digits.{digits, isDigit, allDigits, valueAfter, value}
 use Rattle.form.specs.Field.{first, digitsInForm, unsigned, negative, number, field, isDash, isCapital}
 use Rattle.whole.specs.Lists.{Every}
-use Rattle.lines.specs.Lines.{split, fieldsOf, rowsOf, rows, fieldText, lineText, textOf, InForm, LinesInForm}
+use Rattle.lines.specs.Lines.{split, fieldsOf, linesFrom, linesIn, fieldText, lineText, textOfLines, InForm, LinesInForm}
 use Rattle.lines.specs.Lines.{NotBad}
 use Rattle.whole.proofs.Digits.{by-tens, digits-small, digits-more, digits-length}
 use Rattle.whole.proofs.AreDigits.{digits-back}
@@ -67,13 +67,13 @@ line-fields f (g ∷ fs) a =
     ∙ ap (λ (l : List Field). f ∷ l) (line-fields g fs (a .1))
 
 -- lines of fields in form, written, are read as themselves
-pub text-rows : (xs : List (List Field)) → LinesInForm xs → rows (textOf xs) ≡ xs
-unfolding textOf
+pub text-rows : (xs : List (List Field)) → LinesInForm xs → linesIn (textOfLines xs) ≡ xs
+unfolding textOfLines
 text-rows [] a = rows-none
 text-rows ([] ∷ xs) a = absurd (omega (arith, a .0 .0))
 text-rows ((f ∷ fs) ∷ xs) a =
-    rows-seam (lineText (f ∷ fs)) (textOf xs) (line-free (f ∷ fs) (a .0 .1))
-    ∙ ap (λ (x : List Field). x ∷ rows (textOf xs)) (line-fields f fs (a .0 .1))
+    rows-seam (lineText (f ∷ fs)) (textOfLines xs) (line-free (f ∷ fs) (a .0 .1))
+    ∙ ap (λ (x : List Field). x ∷ linesIn (textOfLines xs)) (line-fields f fs (a .0 .1))
     ∙ ap (λ (r : List (List Field)). (f ∷ fs) ∷ r) (text-rows xs (a .1))
 
 -- ---- a text read, then written
@@ -130,18 +130,18 @@ fields-text : (l : List ℕ) → Every NotBad (fieldsOf l) → lineText (fieldsO
 unfolding fieldsOf
 fields-text l a = parts-text (split 32 l) a ∙ split-joined 32 l
 
-lines-text : (ls : List (List ℕ)) → Every (Every NotBad) (rowsOf ls) → textOf (rowsOf ls) ≡ joined 10 ls
-unfolding rowsOf textOf joined
+lines-text : (ls : List (List ℕ)) → Every (Every NotBad) (linesFrom ls) → textOfLines (linesFrom ls) ≡ joined 10 ls
+unfolding linesFrom textOfLines joined
 lines-text [] a = refl
 lines-text ([] ∷ []) a = refl
 lines-text ((b ∷ l) ∷ []) a = absurd (a .0 .0)
 lines-text (l ∷ m ∷ ls) a =
-    ap (λ (t : List ℕ). t ++ (10 ∷ textOf (rowsOf (m ∷ ls)))) (fields-text l (a .0))
+    ap (λ (t : List ℕ). t ++ (10 ∷ textOfLines (linesFrom (m ∷ ls)))) (fields-text l (a .0))
     ∙ ap (λ (t : List ℕ). l ++ (10 ∷ t)) (lines-text (m ∷ ls) (a .1))
 
 -- a text with no field out of form, read, is written as itself
-pub rows-text : (s : List ℕ) → Every (Every NotBad) (rows s) → textOf (rows s) ≡ s
-unfolding rows
+pub rows-text : (s : List ℕ) → Every (Every NotBad) (linesIn s) → textOfLines (linesIn s) ≡ s
+unfolding linesIn
 rows-text s a = lines-text (split 10 s) a ∙ split-joined 10 s
 
 -- ---- what is read is in form
@@ -189,16 +189,16 @@ parts-form : (ps : List (List ℕ)) → Every NotBad (map field ps) → Every In
 parts-form [] a = tt
 parts-form (p ∷ ps) a = (field-form p (a .0), parts-form ps (a .1))
 
-lines-form : (ls : List (List ℕ)) → Every (Every NotBad) (rowsOf ls) → LinesInForm (rowsOf ls)
-unfolding rowsOf fieldsOf
+lines-form : (ls : List (List ℕ)) → Every (Every NotBad) (linesFrom ls) → LinesInForm (linesFrom ls)
+unfolding linesFrom fieldsOf
 lines-form [] a = tt
 lines-form ([] ∷ []) a = tt
 lines-form ((b ∷ l) ∷ []) a = absurd (a .0 .0)
 lines-form (l ∷ m ∷ ls) a =
     ((rw (split-until 32 l) (omega arith), parts-form (split 32 l) (a .0)), lines-form (m ∷ ls) (a .1))
 
-pub rows-form : (s : List ℕ) → Every (Every NotBad) (rows s) → LinesInForm (rows s)
-unfolding rows
+pub rows-form : (s : List ℕ) → Every (Every NotBad) (linesIn s) → LinesInForm (linesIn s)
+unfolding linesIn
 rows-form s a = lines-form (split 10 s) a
 
 -- ---- how long a text is

@@ -21,15 +21,15 @@ blank = replicate 6 (slot Bad)
 abbrev pub noLine : Line
 noLine = record { count = 0; next = 0; fields = blank }
 
-unfoldable pub lineOf : ℕ → List Field → Line
-lineOf next fs =
+unfoldable pub heldLine : ℕ → List Field → Line
+heldLine next fs =
     cond (leb (length fs) 6) (record { count = length fs; next = next; fields = sets blank 0 (map slot fs) }) noLine
 
 -- the first of the parts between LFs, if it is ended
 unfoldable pub firstLine : ℕ → List (List ℕ) → Line
 firstLine at [] = noLine
 firstLine at (l ∷ []) = noLine
-firstLine at (l ∷ m ∷ ls) = lineOf (at + length l + 1) (fieldsOf l)
+firstLine at (l ∷ m ∷ ls) = heldLine (at + length l + 1) (fieldsOf l)
 
 -- the line that begins at a place of a text
 unfoldable pub lineAt : List ℕ → ℕ → Line

@@ -26,15 +26,15 @@ unfoldable pub fieldsOf : List ℕ → List Field
 fieldsOf line = map field (split 32 line)
 
 -- What stands behind the last LF, if it is something, is a line that is not ended and so out of form.
-unfoldable pub rowsOf : List (List ℕ) → List (List Field)
-rowsOf [] = []
-rowsOf ([] ∷ []) = []
-rowsOf ((b ∷ l) ∷ []) = (Bad ∷ []) ∷ []
-rowsOf (l ∷ m ∷ ls) = fieldsOf l ∷ rowsOf (m ∷ ls)
+unfoldable pub linesFrom : List (List ℕ) → List (List Field)
+linesFrom [] = []
+linesFrom ([] ∷ []) = []
+linesFrom ((b ∷ l) ∷ []) = (Bad ∷ []) ∷ []
+linesFrom (l ∷ m ∷ ls) = fieldsOf l ∷ linesFrom (m ∷ ls)
 
 -- a text as lines of fields
-unfoldable pub rows : List ℕ → List (List Field)
-rows s = rowsOf (split 10 s)
+unfoldable pub linesIn : List ℕ → List (List Field)
+linesIn s = linesFrom (split 10 s)
 
 -- ---- from fields to bytes
 
@@ -53,9 +53,9 @@ lineText (f ∷ []) = fieldText f
 lineText (f ∷ g ∷ fs) = fieldText f ++ (32 ∷ lineText (g ∷ fs))
 
 -- each line ends in LF
-unfoldable pub textOf : List (List Field) → List ℕ
-textOf [] = []
-textOf (x ∷ xs) = lineText x ++ (10 ∷ textOf xs)
+unfoldable pub textOfLines : List (List Field) → List ℕ
+textOfLines [] = []
+textOfLines (x ∷ xs) = lineText x ++ (10 ∷ textOfLines xs)
 
 -- ---- which fields a text can have
 

@@ -3,7 +3,7 @@ use Prim.Native.Nat.{ℕ}
 use mathlib.Core.Path.{_≡_, refl, ap, _∙_}
 use mathlib.Core.List.{List, [], _∷_, _++_, append-assoc}
 use Rattle.page.specs.declared.Writing.the-variants as written
-use Rattle.lines.specs.Lines.{rows}
+use Rattle.lines.specs.Lines.{linesIn}
 use Rattle.job.specs.declared.Job.{Job}
 use Rattle.job.specs.declared.Verdict.{Verdict}
 use Rattle.job.specs.Carried.{Carried, carried, recorded}
@@ -77,11 +77,11 @@ module _ (s : List ℕ) (r : Read) (e : r ≡ answer (reading s)) where
 
   pub totals-refused : (r .number ≡ 0 → ⊥) → totalsText (reading s) ≡ refusedText (r .number) (r .line)
   unfolding reading read-verdict
-  totals-refused h = ap totalsText (lines-refused (rows s) read-verdict reads h)
+  totals-refused h = ap totalsText (lines-refused (linesIn s) read-verdict reads h)
 
   pub totals-accepted : r .number ≡ 0 → (c : Carried) × (reading s ≡ Accepted c) × (judged (r .job) ≡ Accepted c)
   unfolding reading read-verdict
   totals-accepted z =
-      let a = lines-accepted (rows s) read-verdict reads z in
+      let a = lines-accepted (linesIn s) read-verdict reads z in
       let k : r .job ≡ recorded (a .0) = ap (λ (v : Read). v .job) (e ∙ ap answer (a .1)) in
-      (a .0, a .1, ap judged k ∙ recorded-accepted (rows s) (a .0) (a .1))
+      (a .0, a .1, ap judged k ∙ recorded-accepted (linesIn s) (a .0) (a .1))

@@ -67,7 +67,8 @@ has-formed Mark Bad e = absurd (false≢true e)
 formed-short : {f : Field} → Formed Number f → isShort f ≡ true
 unfolding tooLong
 formed-short (plus {m = m} h) = rw (le-ltb 9999999 m h)
-formed-short (minus {m = m} p h) = rw (ne-eqb m 0 (λ e. omega arith), le-ltb 9999999 (natAbs (negℤ (pos m))) (omega (arith, natAbs-neg (pos m))))
+formed-short (minus {m = m} p h) =
+    rw (ne-eqb m 0 (λ e. omega arith), le-ltb 9999999 (natAbs (negℤ (pos m))) (omega (arith, natAbs-neg (pos m))))
 
 formed-has : {w : FieldForm} {f : Field} → Formed w f → hasForm w f ≡ true
 unfolding hasForm
@@ -84,7 +85,8 @@ formed-has (mark (minus p h)) = formed-short (minus p h)
 
 pub data AllFormed : List FieldForm → List Field → Type 0 where
   none : AllFormed [] []
-  more : {w : FieldForm} {f : Field} {ws : List FieldForm} {fs : List Field} → Formed w f → AllFormed ws fs → AllFormed (w ∷ ws) (f ∷ fs)
+  more : {w : FieldForm} {f : Field} {ws : List FieldForm} {fs : List Field} → Formed w f → AllFormed ws fs
+      → AllFormed (w ∷ ws) (f ∷ fs)
 
 pub in-formed : (ws : List FieldForm) (fs : List Field) → inForm ws fs ≡ true → AllFormed ws fs
 unfolding inForm
@@ -115,7 +117,8 @@ uneven-out (w ∷ ws) (f ∷ fs) h = rw (uneven-out ws fs (λ e. h (ap suc e))) 
 -- ---- field by field, as the code goes
 
 module _ (ws : List FieldForm) (fs : List Field) (i : ℕ) (h : i < length ws) (k : i < length fs) where
-  pub form-on : inForm (drop i ws) (drop i fs) ≡ hasForm (getD ws i Number) (at fs i) && inForm (drop (suc i) ws) (drop (suc i) fs)
+  pub form-on : inForm (drop i ws) (drop i fs) ≡ hasForm (getD ws i Number) (at fs i) && inForm (drop (suc i) ws)
+      (drop (suc i) fs)
   unfolding inForm
   form-on = rw (drop-cons ws i Number h, drop-cons fs i Bad k)
 
@@ -125,7 +128,8 @@ numbers-at zero i = refl
 numbers-at (suc n) zero = refl
 numbers-at (suc n) (suc i) = numbers-at n i
 
-pub numbers-behind : (v w : FieldForm) (n i : ℕ) → (i ≡ 0 → ⊥) → (i ≡ 1 → ⊥) → Number ≡ getD (v ∷ w ∷ numbers n) i Number
+pub numbers-behind : (v w : FieldForm) (n i : ℕ) → (i ≡ 0 → ⊥) → (i ≡ 1 → ⊥)
+    → Number ≡ getD (v ∷ w ∷ numbers n) i Number
 numbers-behind v w n zero h k = absurd (h refl)
 numbers-behind v w n (suc zero) h k = absurd (k refl)
 numbers-behind v w n (suc (suc i)) h k = numbers-at n i

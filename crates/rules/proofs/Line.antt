@@ -43,7 +43,11 @@ module _ (k : Kind) (g : Building) (fs : List Field) where
   pub in-order : lineFault k g fs ≡ 0 → LineInOrder
   in-order z =
       by-test (inForm (forms k) fs)
-      (λ e. record { formed = in-formed (forms k) fs e; none = none-found 1 (faultsOf k g fs) (omega arith) (faults-rise k g fs) (sym (fault-in e) ∙ z) })
+      (λ e.
+      record {
+        formed = in-formed (forms k) fs e;
+        none = none-found 1 (faultsOf k g fs) (omega arith) (faults-rise k g fs) (sym (fault-in e) ∙ z);
+      })
       (λ e. absurd (omega (arith, fault-out e)))
 
   pub order-in : LineInOrder → lineFault k g fs ≡ 0

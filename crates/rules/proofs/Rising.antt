@@ -2,7 +2,8 @@
 use mathlib.Core.Path.{_≡_, refl, sym, ap, _∙_, subst}
 use mathlib.Core.Logic.{⊎-elim}
 use mathlib.Core.Bool.{Bool, true, false, cond}
-use mathlib.Core.List.{List, [], _∷_, List·Memᴰ, List·Memᴰ·head, List·Memᴰ·tail, List·Memᴰ·cases-cons, List·Memᴰ·not-nil}
+use mathlib.Core.List.{List, [], _∷_, List·Memᴰ, List·Memᴰ·head, List·Memᴰ·tail, List·Memᴰ·cases-cons}
+use mathlib.Core.List.{List·Memᴰ·not-nil}
 use Prim.Native.Nat.{ℕ, _^_, _≤_, _<_}
 use native.Mathlib.Omega.{arith}
 use lib.Dec.{T, leb, leb→le}
@@ -21,7 +22,8 @@ pub found-or : {m k : ℕ} {t u : Bool} (n : ℕ) {r : ℕ} → t ≡ u → m �
 found-or n p q e = e ∙ (λ i. cond (p i) n (q i))
 
 -- and of a number as the machine has it
-pub said-or : (f : ℤ → Fault) (n : ℕ) (z : ℤ) {r m k : ℕ} → mag z < 2 ^ 63 → m ≡ k → r ≡ cond (f (toZ w64 (ofZ w64 z)) .found) n m → r ≡ cond (f z .found) n k
+pub said-or : (f : ℤ → Fault) (n : ℕ) (z : ℤ) {r m k : ℕ} → mag z < 2 ^ 63 → m ≡ k
+    → r ≡ cond (f (toZ w64 (ofZ w64 z)) .found) n m → r ≡ cond (f z .found) n k
 said-or f n z h q e = found-or n (ap (λ (y : ℤ). f y .found) (returned w64 z h .same)) q e
 
 -- each number is at least the one before it, and the first at least m
@@ -34,7 +36,8 @@ rising-member m [] t f h = absurd (List·Memᴰ·not-nil h)
 rising-member m (x ∷ fs) t f h =
     let l = leb→le m (x .number) (both-left (leb m (x .number)) (rising (x .number) fs) t) in
     ⊎-elim (λ e. omega (arith, l, ap (λ (g : Fault). g .number) e))
-    (λ k. omega (arith, l, rising-member (x .number) fs (both-right (leb m (x .number)) (rising (x .number) fs) t) f k))
+    (λ k.
+    omega (arith, l, rising-member (x .number) fs (both-right (leb m (x .number)) (rising (x .number) fs) t) f k))
     (List·Memᴰ·cases-cons h)
 
 pub first-least : (m : ℕ) (fs : List Fault) → T (rising m fs) → (f : Fault) → List·Memᴰ f fs → f .found ≡ true
@@ -44,8 +47,12 @@ first-least m (x ∷ fs) t f h e =
     let l = leb→le m (x .number) (both-left (leb m (x .number)) (rising (x .number) fs) t) in
     let r = both-right (leb m (x .number)) (rising (x .number) fs) t in
     by-test (x .found)
-    (λ q. rw q (l, ⊎-elim (λ s. omega (arith, ap (λ (g : Fault). g .number) s)) (λ k. rising-member (x .number) fs r f k) (List·Memᴰ·cases-cons h)))
-    (λ q. rw q (⊎-elim (λ s. absurd (subst T (sym e ∙ ap (λ (g : Fault). g .found) s ∙ q) tt)) (λ k. let y = first-least (x .number) fs r f k e in (omega (arith, l, y .0), y .1)) (List·Memᴰ·cases-cons h)))
+    (λ q.
+    rw q
+    (l, ⊎-elim (λ s. omega (arith, ap (λ (g : Fault). g .number) s)) (λ k. rising-member (x .number) fs r f k) (List·Memᴰ·cases-cons h)))
+    (λ q.
+    rw q
+    (⊎-elim (λ s. absurd (subst T (sym e ∙ ap (λ (g : Fault). g .found) s ∙ q) tt)) (λ k. let y = first-least (x .number) fs r f k e in (omega (arith, l, y .0), y .1)) (List·Memᴰ·cases-cons h)))
 
 -- a number other than 0 is that of one that is found
 pub record Found (fs : List Fault) (n : ℕ) : Type 0 where
@@ -58,9 +65,12 @@ pub first-found : (fs : List Fault) → 0 < first fs → Found fs (first fs)
 first-found [] h = absurd (omega arith)
 first-found (x ∷ fs) h = go (x .found) refl h (first-found fs)
   where
-    go : (t : Bool) → x .found ≡ t → 0 < cond t (x .number) (first fs) → (0 < first fs → Found fs (first fs)) → Found (x ∷ fs) (cond t (x .number) (first fs))
+    go : (t : Bool) → x .found ≡ t → 0 < cond t (x .number) (first fs) → (0 < first fs → Found fs (first fs))
+        → Found (x ∷ fs) (cond t (x .number) (first fs))
     go true q k later = record { test = x; there = List·Memᴰ·head refl; finds = q; same = refl }
-    go false q k later = let y = later k in record { test = y .test; there = List·Memᴰ·tail (y .there); finds = y .finds; same = y .same }
+    go false q k later =
+        let y = later k in
+        record { test = y .test; there = List·Memᴰ·tail (y .there); finds = y .finds; same = y .same }
 
 -- number 0 says that none is found
 pub none-found : (m : ℕ) (fs : List Fault) → 0 < m → T (rising m fs) → first fs ≡ 0 → Every (λ f. f .found ≡ false) fs

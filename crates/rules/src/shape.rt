@@ -5,7 +5,7 @@ use lines::Line;
 use lines::Slot;
 ghost use mathlib.Core.Path.{_≡_};
 ghost use mathlib.Core.List.{[], _∷_};
-ghost use Rattle.lines.specs.Held.{lineOf};
+ghost use Rattle.lines.specs.Held.{heldLine};
 ghost use Rattle.rules.specs.Sections.{about};
 
 // The letter of a section, and its least and greatest count.
@@ -38,7 +38,7 @@ pub fn limits_of(s: Section) -> Limits
 
 // The line before the entries of a section: its letter and their number.
 pub fn count_line(s: Section, n: u32) -> Line
-    ensures { λ r. ⌜ r ≡ lineOf 0 (Field.Letter (about s .letter) ∷ Field.Plus n ∷ []) ⌝ }
+    ensures { λ r. ⌜ r ≡ heldLine 0 (Field.Letter (about s .letter) ∷ Field.Plus n ∷ []) ⌝ }
 {
     let l = limits_of(s);
     let no = Slot { field: Field::Bad };

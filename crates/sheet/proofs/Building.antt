@@ -36,17 +36,20 @@ plain m (minus {m = zero} p h) e = absurd (omega arith)
 plain m (minus {m = suc n} p h) e = absurd (let q : _≡_ {A = ℕ} 0 1 = cc in omega arith)
 
 -- and so has as many bytes as digits; another has one more
-pub short : {f : Field} (k : ℕ) → Formed Number f → pos (natAbs (number f)) ≡ number f → natAbs (number f) < 10 ^ suc k → length (fieldText f) ≤ suc k
+pub short : {f : Field} (k : ℕ) → Formed Number f → pos (natAbs (number f)) ≡ number f
+    → natAbs (number f) < 10 ^ suc k → length (fieldText f) ≤ suc k
 short {f} k s e h = rw (plain (natAbs (number f)) s e) (digits-length k (natAbs (number f)) h)
 
-pub signed : {f : Field} (k : ℕ) → Formed Number f → natAbs (number f) < 10 ^ suc k → length (fieldText f) ≤ suc (suc k)
+pub signed : {f : Field} (k : ℕ) → Formed Number f → natAbs (number f) < 10 ^ suc k
+    → length (fieldText f) ≤ suc (suc k)
 signed k (plus {m = m} h) l = omega (arith, digits-length k m l)
 signed k (minus {m = m} p h) l = omega (arith, digits-length k m (omega (arith, natAbs-neg (pos m))))
 
 -- ---- x, which the roof limits further
 
 -- at most 900, or 200 thousandths of h
-roof-x : (r : Roof) (h x : ℕ) → r .greatest ≤ cond (r .byHeight) 200 900 → h ≤ 30000 → cond (r .byHeight) (1000 * x) x ≤ r .greatest * cond (r .byHeight) h 1 → x ≤ 6000
+roof-x : (r : Roof) (h x : ℕ) → r .greatest ≤ cond (r .byHeight) 200 900 → h ≤ 30000
+    → cond (r .byHeight) (1000 * x) x ≤ r .greatest * cond (r .byHeight) h 1 → x ≤ 6000
 roof-x r h x g l u =
     by-test (r .byHeight)
     (λ e.
@@ -60,15 +63,18 @@ roof-x r h x g l u =
 
 roof-most : (kind : ℕ) → roofOf kind .greatest ≤ cond (roofOf kind .byHeight) 200 900
 unfolding roofOf
-roof-most kind = leb→le _ _ (all-at (λ r. leb (r .greatest) (cond (r .byHeight) 200 900)) roofs (roof 0 0 false) tt tt kind)
+roof-most kind =
+    leb→le _ _ (all-at (λ r. leb (r .greatest) (cond (r .byHeight) 200 900)) roofs (roof 0 0 false) tt tt kind)
 
 x-most : (g : Building) → buildingFault g ≡ 0 → natAbs (g .x) ≤ 6000
 x-most g z =
-    roof-x (roofOf (natAbs (g .kind))) (natAbs (g .h)) (natAbs (g .x)) (roof-most (natAbs (g .kind))) (good-fields g z .h .to) (in-order g z .x-to)
+    roof-x (roofOf (natAbs (g .kind))) (natAbs (g .h)) (natAbs (g .x)) (roof-most (natAbs (g .kind)))
+    (good-fields g z .h .to) (in-order g z .x-to)
 
 -- ---- the line
 
-pub building-bytes : {fs : List Field} → AllFormed (forms (Entry B)) fs → buildingFault (buildingOf fs) ≡ 0 → bytes fs ≤ 30
+pub building-bytes : {fs : List Field} → AllFormed (forms (Entry B)) fs → buildingFault (buildingOf fs) ≡ 0
+    → bytes fs ≤ 30
 building-bytes {fs} (more h (more a (more b (more density (more kind (more x none)))))) z =
     let n = good-fields (buildingOf fs) z in
     omega (

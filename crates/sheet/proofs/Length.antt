@@ -1,4 +1,5 @@
--- "At most 7 digits" is said of the digits that are read (`digitsInForm`) and of a number (`tooLong`): a number is too long
+-- "At most 7 digits" is said of the digits that are read (`digitsInForm`) and of a number (`tooLong`): a number is
+-- too long
 -- exactly if its digits are more than 7.
 use Prim.Native.Nat.{ℕ, zero, suc, _*_, _/_, _^_, _≤_, _<_}
 use mathlib.Core.Path.{_≡_, sym, _∙_}
@@ -15,7 +16,8 @@ use Rattle.building.specs.Test.{tooLong}
 
 some-digit : (n : ℕ) → 0 < length (digits n)
 some-digit n =
-    by-test (ltb n 10) (λ e. omega (arith, length-small n (ltb-true n 10 e))) (λ e. omega (arith, length-more n (ltb-false n 10 e)))
+    by-test (ltb n 10) (λ e. omega (arith, length-small n (ltb-true n 10 e)))
+    (λ e. omega (arith, length-more n (ltb-false n 10 e)))
 
 digits-least : (k n : ℕ) → 10 ^ suc k ≤ n → suc k < length (digits n)
 digits-least zero n h = omega (arith, length-more n (omega arith), some-digit (n / 10))

@@ -65,14 +65,17 @@ known-short kind h e = let w = known-within kind _ e in short 1 h (w .plain) (om
 -- speed: 4 digits
 wind-bytes : (g : Building) {x : List Field} → AllFormed (forms (Entry W)) x → WindInOrder g (windOf x) → bytes x ≤ 8
 wind-bytes g {x} (more d (more v none)) o =
-    let w = within 1 1000 (windOf x .speed) (is-within (pos 1) (pos 1000) (windOf x .speed) (o .least-speed) (o .greatest-speed)) in
+    let w =
+    within 1 1000 (windOf x .speed)
+    (is-within (pos 1) (pos 1000) (windOf x .speed) (o .least-speed) (o .greatest-speed)) in
     omega (arith, known-short (g .kind) d (o .direction), short 3 v (w .plain) (omega (arith, w .to)))
 
 -- a sign and 3 digits
 internal-bytes : {x : List Field} → AllFormed (forms (Entry I)) x → InternalInOrder (internalOf x) → bytes x ≤ 5
 internal-bytes (more i none) o = omega (arith, signed 2 i (omega arith))
 
-mark-short : {f : Field} (kind : ℤ) → Formed Mark f → (mark f ≡ both) ⊎ (knows kind (mark f) ≡ true) → length (fieldText f) ≤ 2
+mark-short : {f : Field} (kind : ℤ) → Formed Mark f → (mark f ≡ both) ⊎ (knows kind (mark f) ≡ true)
+    → length (fieldText f) ≤ 2
 mark-short kind dash e = omega arith
 mark-short kind (form.mark (plus {m = m} h)) (inl e) = absurd (let q : m ≡ 4294967295 = cc in omega arith)
 mark-short kind (form.mark (plus h)) (inr e) = known-short kind (plus h) e
@@ -97,12 +100,14 @@ count-bytes s x t = rw (t .is) (omega (arith, digits-mono (about s .most) (t .co
 in-order-bytes : (k : Kind) (g : Building) (x : List Field) → lineFault k g x ≡ 0 → bytes x ≤ longestLine k
 unfolding longestLine buildingFault
 in-order-bytes (Count s) g x z = count-bytes s x (count-says s g x z)
-in-order-bytes (Entry B) g x z = let o = in-order (Entry B) g x z in building-bytes (o .formed) (found-none (faults (buildingOf x)) (o .none))
+in-order-bytes (Entry B) g x z =
+    let o = in-order (Entry B) g x z in building-bytes (o .formed) (found-none (faults (buildingOf x)) (o .none))
 in-order-bytes (Entry W) g x z = wind-bytes g (in-order (Entry W) g x z .formed) (wind-line g x z)
 in-order-bytes (Entry I) g x z = internal-bytes (in-order (Entry I) g x z .formed) (internal-line g x z)
 in-order-bytes (Entry F) g x z = face-bytes g (in-order (Entry F) g x z .formed) (face-line g x z)
 
-pub in-order-short : (k : Kind) (g : Building) (l : List ℕ) → lineFault k g (fieldsOf l) ≡ 0 → length l + 1 ≤ longestLine k
+pub in-order-short : (k : Kind) (g : Building) (l : List ℕ) → lineFault k g (fieldsOf l) ≡ 0
+    → length l + 1 ≤ longestLine k
 in-order-short k g l z =
     omega (arith, line-bytes l (all-not-bad (in-order k g (fieldsOf l) z .formed)), in-order-bytes k g (fieldsOf l) z)
 
@@ -119,16 +124,19 @@ pub longest-sheet-is : longest sheet ≡ 827
 unfolding longest longestLine digits digitsWithin
 longest-sheet-is = refl
 
-longest-entries : (s : Section) (n : ℕ) (ks : List Kind) → longest (entries s n ++ ks) ≡ n * longestLine (Entry s) + longest ks
+longest-entries : (s : Section) (n : ℕ) (ks : List Kind)
+    → longest (entries s n ++ ks) ≡ n * longestLine (Entry s) + longest ks
 unfolding longest
 longest-entries s zero ks = omega arith
 longest-entries s (suc n) ks = omega (arith, longest-entries s n ks, suc-mul n (longestLine (Entry s)))
 
-pub count-most : (s : Section) (g : Building) (x : List Field) → lineFault (Count s) g x ≡ 0 → size (at x 1) ≤ about s .most
+pub count-most : (s : Section) (g : Building) (x : List Field) → lineFault (Count s) g x ≡ 0
+    → size (at x 1) ≤ about s .most
 count-most s g x z = let t = count-says s g x z in rw (t .is) (t .counted .high)
 
 -- a line in order leaves room for the lines that are then called for
-pub longest-on : (k : Kind) (ks : List Kind) (g : Building) (x : List Field) → lineFault k g x ≡ 0 → longestLine k + longest (calls k x ++ ks) ≤ longest (k ∷ ks)
+pub longest-on : (k : Kind) (ks : List Kind) (g : Building) (x : List Field) → lineFault k g x ≡ 0
+    → longestLine k + longest (calls k x ++ ks) ≤ longest (k ∷ ks)
 unfolding longest
 longest-on (Count s) ks g x z =
     omega (arith, longest-entries s (size (at x 1)) ks, mul-le-mul-right (longestLine (Entry s)) (count-most s g x z))

@@ -34,7 +34,8 @@ module _ (k : Kind) (g : Building) where
   bad-line : (x : List Field) → BadAt x → lineFault k g x ≡ 1
   bad-line x b =
       fault-out k g x (by-test (inForm (forms k) x)
-      (λ e. absurd (subst NotBad (b .bad) (every-at NotBad x Bad (b .place) (b .within) (all-not-bad (in-formed (forms k) x e))))) (λ e. e))
+      (λ e. absurd (subst NotBad (b .bad) (every-at NotBad x Bad (b .place) (b .within) (all-not-bad (in-formed (forms k) x e)))))
+      (λ e. e))
 
   -- not ended
   pub bad-first : lineFault k g (Bad ∷ []) ≡ 1

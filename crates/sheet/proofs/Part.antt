@@ -12,7 +12,7 @@ use borrow.Author.Tests.{eqb-true, eqb-false, ltb-true, ltb-false}
 use Rattle.whole.proofs.Tests.{by-test}
 use Rattle.form.specs.declared.Field.{Field}
 use Rattle.form.specs.declared.Field.the-variants.{Bad}
-use Rattle.lines.specs.Lines.{rows, fieldsOf}
+use Rattle.lines.specs.Lines.{linesIn, fieldsOf}
 use Rattle.lines.specs.Held.{until}
 use Rattle.lines.proofs.Lines.{Free, rows-open, rows-seam}
 use Rattle.building.specs.declared.Building.{Building}
@@ -57,22 +57,27 @@ no-line (k ∷ ks) c n x xs h = rw (h k (c .building))
 accepted-no : (c : Carried) (m n : ℕ) → Refused m n ≡ Accepted c → ⊥
 accepted-no c m n e = let z : _≡_ {A = ℕ} 0 1 = cc in omega arith
 
-walk-short : {s : List ℕ} → ByLines s → (ks : List Kind) (c e : Carried) (n : ℕ) → walk ks c n (rows s) ≡ Accepted e
+walk-short : {s : List ℕ} → ByLines s → (ks : List Kind) (c e : Carried) (n : ℕ) → walk ks c n (linesIn s) ≡ Accepted e
     → length s ≤ longest ks
 walk-short none ks c e n a = omega arith
 walk-short (unended x s f) ks c e n a =
     absurd
     (accepted-no e 1 n (sym (no-line ks c n (Bad ∷ []) [] bad-first) ∙ sym (ap (walk ks c n) (rows-open x s f)) ∙ a))
 walk-short (ended l t f b) [] c e n a =
-    absurd (accepted-no-more c e n (fieldsOf l) (rows t) (rw (rows-seam l t f) at a))
+    absurd (accepted-no-more c e n (fieldsOf l) (linesIn t) (rw (rows-seam l t f) at a))
 walk-short (ended l t f b) (k ∷ ks) c e n a =
-    let q : walk (k ∷ ks) c n (fieldsOf l ∷ rows t) ≡ Accepted e = rw (rows-seam l t f) at a in
-    let z = accepted-line k ks c n (fieldsOf l) (rows t) q in
+    let q : walk (k ∷ ks) c n (fieldsOf l ∷ linesIn t) ≡ Accepted e = rw (rows-seam l t f) at a in
+    let z = accepted-line k ks c n (fieldsOf l) (linesIn t) q in
     let r =
     walk-short b (calls k (fieldsOf l) ++ ks) (learn k (fieldsOf l) c) e (n + 1)
-    (sym (walk-on k ks c n (fieldsOf l) (rows t) z) ∙ q) in
-    omega
-    (arith, length-append l (10 ∷ t), in-order-short k (c .building) l z, longest-on k ks (c .building) (fieldsOf l) z)
+    (sym (walk-on k ks c n (fieldsOf l) (linesIn t) z) ∙ q) in
+    omega (
+      arith,
+      length-append l (10 ∷ t),
+      in-order-short k (c .building) l z,
+      longest-on k ks (c .building)
+          (fieldsOf l) z,
+    )
 
 -- no accepted sheet is longer
 pub longest-sheet : (s : List ℕ) (c : Carried) → reading s ≡ Accepted c → length s ≤ 827
@@ -90,7 +95,7 @@ free-take (suc n) (x ∷ s) f =
     (λ e. let q : suc (until 10 s) ≡ suc (length s) = rw e at f in rw e (ap suc (free-take n s (omega arith))))
 
 -- a part of a text with no LF in it, if not empty
-rows-part : (n : ℕ) (s : List ℕ) → 0 < n → 0 < length s → Free 10 s → rows (take n s) ≡ (Bad ∷ []) ∷ []
+rows-part : (n : ℕ) (s : List ℕ) → 0 < n → 0 < length s → Free 10 s → linesIn (take n s) ≡ (Bad ∷ []) ∷ []
 rows-part zero s h k f = absurd (omega arith)
 rows-part (suc n) [] h k f = absurd (omega arith)
 rows-part (suc n) (x ∷ s) h k f = rows-open x (take n s) (free-take (suc n) (x ∷ s) f)
@@ -116,8 +121,8 @@ walk-alike k ks c n x xs ys h =
 
 -- the first line ends in the part, or it is longer than any line in form
 first-line : (l t : List ℕ) → Free 10 l → (ks : List Kind) (c : Carried) (n m : ℕ) → 54 ≤ m
-    → (length l < m → walk ks c n (fieldsOf l ∷ rows (take (m - suc (length l)) t)) ≡ walk ks c n (fieldsOf l ∷ rows t))
-    → walk ks c n (rows (take m (l ++ (10 ∷ t)))) ≡ walk ks c n (rows (l ++ (10 ∷ t)))
+    → (length l < m → walk ks c n (fieldsOf l ∷ linesIn (take (m - suc (length l)) t)) ≡ walk ks c n (fieldsOf l ∷ linesIn t))
+    → walk ks c n (linesIn (take m (l ++ (10 ∷ t)))) ≡ walk ks c n (linesIn (l ++ (10 ∷ t)))
 first-line l t f ks c n m h on =
     by-test (ltb (length l) m)
     (λ e.
@@ -127,17 +132,17 @@ first-line l t f ks c n m h on =
     let k : m ≤ length l = ltb-false (length l) m e in
     rw (take-append-le m l (10 ∷ t) k, rows-part m l (omega arith) (omega arith) f, rows-seam l t f)
     (no-line ks c n (Bad ∷ []) [] bad-first ∙ sym
-    (no-line ks c n (fieldsOf l) (rows t) (λ i g. line-long i g l (omega arith)))))
+    (no-line ks c n (fieldsOf l) (linesIn t) (λ i g. line-long i g l (omega arith)))))
 
 walk-part : {s : List ℕ} → ByLines s → (ks : List Kind) (c : Carried) (n m : ℕ) → longest ks + 54 ≤ m
-    → walk ks c n (rows (take m s)) ≡ walk ks c n (rows s)
+    → walk ks c n (linesIn (take m s)) ≡ walk ks c n (linesIn s)
 unfolding walk
 walk-part none ks c n m h = rw take-nil
 walk-part (unended x s f) ks c n m h = rw (rows-part m (x ∷ s) (omega arith) (omega arith) f, rows-open x s f)
 walk-part (ended l t f b) [] c n m h = first-line l t f [] c n m (omega arith) (λ i. refl)
 walk-part (ended l t f b) (k ∷ ks) c n m h =
     first-line l t f (k ∷ ks) c n m (omega arith)
-    (λ i. walk-alike k ks c n (fieldsOf l) (rows (take (m - suc (length l)) t)) (rows t)
+    (λ i. walk-alike k ks c n (fieldsOf l) (linesIn (take (m - suc (length l)) t)) (linesIn t)
     (λ z. walk-part b (calls k (fieldsOf l) ++ ks) (learn k (fieldsOf l) c) (n + 1) (m - suc (length l))
     (omega (arith, in-order-short k (c .building) l z, longest-on k ks (c .building) (fieldsOf l) z))))
 

@@ -5,7 +5,7 @@ use Prim.Native.Nat.{ℕ, _≤_}
 use lib.ListN.{length, take, drop}
 use lib.Seq.{take-append-seam}
 use borrow.Author.Tests.{le-leb}
-use Rattle.lines.specs.Lines.{textOf, LinesInForm, rows}
+use Rattle.lines.specs.Lines.{textOfLines, LinesInForm, linesIn}
 use Rattle.page.specs.Writing.{writing, bufferAfter}
 use Rattle.lines.proofs.Round.{text-rows, rows-text}
 use Rattle.job.specs.declared.Job.{Job}
@@ -20,21 +20,21 @@ use Rattle.job.proofs.Records.{recorded-accepted, same-recorded}
 use Rattle.sheet.specs.Sheet.{reading, answer, sheetText, jobWriting, jobBuffer}
 
 -- what a text says is the first faulty line, and in it the lowest number
-pub reading-answers : (s : List ℕ) → Answers sheet nothing (rows s) 1 (reading s)
+pub reading-answers : (s : List ℕ) → Answers sheet nothing (linesIn s) 1 (reading s)
 unfolding reading
-reading-answers s = lines-answer (rows s)
+reading-answers s = lines-answer (linesIn s)
 
 -- an accepted sheet, read and written again, is the same bytes
 pub read-written : (s : List ℕ) (c : Carried) → reading s ≡ Accepted c → sheetText c ≡ s
 unfolding reading sheetText
-read-written s c a = ap textOf (accepted-lines (rows s) c a) ∙ rows-text s (accepted-not-bad (rows s) c a)
+read-written s c a = ap textOfLines (accepted-lines (linesIn s) c a) ∙ rows-text s (accepted-not-bad (linesIn s) c a)
 
 -- so with the record that was read and a lent buffer: what comes of writing it is what comes of writing the text
 pub read-rewritten : (s : List ℕ) (c : Carried) → reading s ≡ Accepted c → (buf : List ℕ)
     → (jobWriting sheetText (judged (answer (reading s) .job)) buf ≡ writing s buf)
     × (jobBuffer sheetText (judged (answer (reading s) .job)) buf ≡ bufferAfter s buf)
 unfolding reading
-read-rewritten s c a buf = rw (a, recorded-accepted (rows s) c a, read-written s c a) (refl, refl)
+read-rewritten s c a buf = rw (a, recorded-accepted (linesIn s) c a, read-written s c a) (refl, refl)
 
 -- where every entry of a record can be written, the record gets what its sheet gets
 pub judge-is-reader : (j : Job) → LinesInForm (linesOf (carried j)) → reading (sheetText (carried j)) ≡ judged j

@@ -7,7 +7,7 @@ use native.Mathlib.Numerals.{add-one}
 use lib.ListN.{length, drop}
 use lib.Seq.{drop-cons}
 use Rattle.lines.specs.declared.Line.{Line}
-use Rattle.lines.specs.Lines.{rows}
+use Rattle.lines.specs.Lines.{linesIn}
 use Rattle.lines.specs.Held.{held, lineAt}
 use Rattle.lines.proofs.Lines.{rows-some, rows-end}
 use Rattle.entry.specs.Says.{size, at}
@@ -32,7 +32,7 @@ use Rattle.sheet.proofs.Steps.{walk-stop, walk-go}
 pub record ReadSoFar (s : List ℕ) (sec : Section) (left begun : ℕ) (j : Job) (line next : ℕ) : Type 0 where
   pub carries : Carried
   pub records : j ≡ recorded carries
-  pub rest : walk (entries sec left ++ map Count (drop begun sections)) carries line (rows (drop next s)) ≡ reading s
+  pub rest : walk (entries sec left ++ map Count (drop begun sections)) carries line (linesIn (drop next s)) ≡ reading s
   pub room : countIn j sec + left ≤ about sec .most
   pub unread : Unread j (drop begun sections)
   -- no section has more than 25 lines
@@ -58,7 +58,7 @@ module _
     (s : List ℕ) (k : Kind) (ks : List Kind) {j : Job} (c : Carried) (e : j ≡ recorded c) (line next : ℕ) {x : Line}
     (hx : x ≡ lineAt s next)
     {f : ℕ} (hf : f ≡ lineFault k (j .building) (held x))
-    (rest : walk (k ∷ ks) c line (rows (drop next s)) ≡ reading s) where
+    (rest : walk (k ∷ ks) c line (linesIn (drop next s)) ≡ reading s) where
   fault-is : f ≡ lineFault k (c .building) (held x)
   unfolding recorded
   fault-is = hf ∙ ap (λ (i : Job). lineFault k (i .building) (held x)) e
@@ -67,7 +67,7 @@ module _
   line-stops h = sym rest ∙ walk-stop k ks c line s next x hx f fault-is h
 
   line-goes : f ≡ 0
-      → walk (calls k (held x) ++ ks) (learn k (held x) c) (line + 1) (rows (drop (x .next) s)) ≡ reading s
+      → walk (calls k (held x) ++ ks) (learn k (held x) c) (line + 1) (linesIn (drop (x .next) s)) ≡ reading s
   line-goes z = sym (walk-go k ks c line s next x hx f fault-is z) ∙ rest
 
 -- ---- the count of the next section
@@ -81,7 +81,7 @@ module _ {s : List ℕ} {sec : Section} {i : ℕ} {j : Job} {line next : ℕ} (r
   next-section : drop i sections ≡ sectionAt i ∷ later
   next-section = drop-cons sections i B few
 
-  count-called : walk (Count (sectionAt i) ∷ map Count later) (r .carries) line (rows (drop next s)) ≡ reading s
+  count-called : walk (Count (sectionAt i) ∷ map Count later) (r .carries) line (linesIn (drop next s)) ≡ reading s
   count-called = rw next-section at (r .rest)
 
   pub count-stops : (f ≡ 0 → ⊥) → reading s ≡ Refused f line
@@ -100,7 +100,8 @@ module _ {s : List ℕ} {sec : Section} {i : ℕ} {j : Job} {line next : ℕ} (r
         records = r .records;
         rest =
             rw hl
-            (line-goes s (Count (sectionAt i)) (map Count later) (r .carries) (r .records) line next hx hf count-called z);
+            (line-goes s (Count (sectionAt i)) (map Count later) (r .carries)
+            (r .records) line next hx hf count-called z);
         room = omega (arith, u .0);
         unread = u .1;
         lines = omega (arith, most-24 (sectionAt i));
@@ -119,7 +120,7 @@ module _ {s : List ℕ} {left i : ℕ} {j : Job} {line next : ℕ} (r : ReadSoFa
   abbrev behind : List Kind
   behind = entries (sectionAt i) (left - 1) ++ map Count (drop (suc i) sections)
 
-  entry-called : walk (Entry (sectionAt i) ∷ behind) (r .carries) line (rows (drop next s)) ≡ reading s
+  entry-called : walk (Entry (sectionAt i) ∷ behind) (r .carries) line (linesIn (drop next s)) ≡ reading s
   entry-called = rw (entries-next (sectionAt i) left more) at (r .rest)
 
   pub entry-stops : {x : Line} → x ≡ lineAt s next → {f : ℕ}
@@ -173,7 +174,7 @@ section-end r z = rw add-one (rw z at r)
 
 module _ {s : List ℕ} {sec : Section} {i : ℕ} {j : Job} {line next : ℕ} (r : ReadSoFar s sec 0 i j line next)
     (all : i ≡ 4) where
-  nothing-called : walk [] (r .carries) line (rows (drop next s)) ≡ reading s
+  nothing-called : walk [] (r .carries) line (linesIn (drop next s)) ≡ reading s
   nothing-called = rw all at (r .rest)
 
   pub end-extra : next < length s → reading s ≡ Refused 1 line

@@ -7,7 +7,7 @@ use lib.ListN.{drop}
 use Rattle.form.specs.declared.Field.{Field}
 use Rattle.form.specs.declared.Field.the-variants.{Bad}
 use Rattle.lines.specs.declared.Line.{Line}
-use Rattle.lines.specs.Lines.{rows}
+use Rattle.lines.specs.Lines.{linesIn}
 use Rattle.lines.specs.Held.{held, lineAt}
 use Rattle.lines.proofs.Held.{At, taken, gone, unended, long, at-is}
 use Rattle.rules.specs.declared.Kind.{Kind}
@@ -32,24 +32,24 @@ module _
   unfolding walk
   missing e = rw e
 
-  pub walk-stop : (f ≡ 0 → ⊥) → walk (k ∷ ks) c n (rows (drop p s)) ≡ Refused f n
+  pub walk-stop : (f ≡ 0 → ⊥) → walk (k ∷ ks) c n (linesIn (drop p s)) ≡ Refused f n
   walk-stop h = go (at-is s p x hx)
     where
-      go : At s p x → walk (k ∷ ks) c n (rows (drop p s)) ≡ Refused f n
-      go (taken e) = rw e (refused-at (held x) (rows (drop (x .next) s)) hf h)
+      go : At s p x → walk (k ∷ ks) c n (linesIn (drop p s)) ≡ Refused f n
+      go (taken e) = rw e (refused-at (held x) (linesIn (drop (x .next) s)) hf h)
       go (gone eh e) = rw e (missing (f-one eh))
       go (unended eh e) = rw e (refused-at (Bad ∷ []) [] (f-one eh ∙ sym (bad-first k (c .building))) h)
       go (long fs rest eh e m) = rw e (refused-at fs rest (f-one eh ∙ sym (many-held k (c .building) fs m)) h)
 
   pub walk-go : f ≡ 0
-      → walk (k ∷ ks) c n (rows (drop p s)) ≡ walk (calls k (held x) ++ ks) (learn k (held x) c) (n + 1)
-      (rows (drop (x .next) s))
+      → walk (k ∷ ks) c n (linesIn (drop p s)) ≡ walk (calls k (held x) ++ ks) (learn k (held x) c) (n + 1)
+      (linesIn (drop (x .next) s))
   walk-go h = go (at-is s p x hx)
     where
       go : At s p x
-          → walk (k ∷ ks) c n (rows (drop p s)) ≡ walk (calls k (held x) ++ ks) (learn k (held x) c) (n + 1)
-          (rows (drop (x .next) s))
-      go (taken e) = rw e (walk-on k ks c n (held x) (rows (drop (x .next) s)) (sym hf ∙ h))
+          → walk (k ∷ ks) c n (linesIn (drop p s)) ≡ walk (calls k (held x) ++ ks) (learn k (held x) c) (n + 1)
+          (linesIn (drop (x .next) s))
+      go (taken e) = rw e (walk-on k ks c n (held x) (linesIn (drop (x .next) s)) (sym hf ∙ h))
       go (gone eh e) = absurd (omega (arith, f-one eh))
       go (unended eh e) = absurd (omega (arith, f-one eh))
       go (long fs rest eh e m) = absurd (omega (arith, f-one eh))

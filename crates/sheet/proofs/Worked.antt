@@ -7,7 +7,7 @@ use mathlib.Core.List.{List, [], _∷_, map}
 use lib.ListN.{length}
 use Rattle.whole.specs.Digits.{allDigits, valueAfter, value}
 use Rattle.form.specs.Field.{digitsInForm, unsigned, negative, number, field}
-use Rattle.lines.specs.Lines.{split, fieldsOf, rowsOf, rows}
+use Rattle.lines.specs.Lines.{split, fieldsOf, linesFrom, linesIn}
 use Rattle.building.specs.Building.{outOfRange, outOfWalls, outOfRoof}
 use Rattle.building.specs.Roof.{roofOf}
 use Rattle.building.specs.Places.{zoneOn}
@@ -124,6 +124,7 @@ cases =
     ∷ case (face "F 0 1 0 -100000") 0 0
     ∷ []
 
-cases-right : map (λ c. verdict (reading (bytes (c .text)))) cases ≡ map (λ c. record { number = c .number; line = c .line }) cases
-unfolding reading rows rowsOf split fieldsOf field number unsigned negative digitsInForm allDigits valueAfter value readLines walk lineFault inForm hasForm outOfRange outOfWalls outOfRoof roofOf tooLong beyond zoneOn
+cases-right : map (λ c. verdict (reading (bytes (c .text)))) cases ≡ map
+    (λ c. record { number = c .number; line = c .line }) cases
+unfolding reading linesIn linesFrom split fieldsOf field number unsigned negative digitsInForm allDigits valueAfter value readLines walk lineFault inForm hasForm outOfRange outOfWalls outOfRoof roofOf tooLong beyond zoneOn
 cases-right = refl

@@ -4,7 +4,7 @@ use Prim.Native.Nat.{ℕ}
 use mathlib.Core.List.{List}
 use Rattle.page.specs.declared.Writing.{Writing}
 use Rattle.page.specs.declared.Writing.the-variants as written
-use Rattle.lines.specs.Lines.{rows, textOf}
+use Rattle.lines.specs.Lines.{linesIn, textOfLines}
 use Rattle.page.specs.Writing.{writing, bufferAfter}
 use Rattle.job.specs.Carried.{Carried, nothing, recorded}
 use Rattle.job.specs.Lines.{linesOf}
@@ -15,7 +15,7 @@ use Rattle.sheet.specs.declared.read.Read.{Read}
 
 -- what a text says, whatever its bytes
 unfoldable pub reading : List ℕ → Reading
-reading s = readLines (rows s)
+reading s = readLines (linesIn s)
 
 -- as an answer: the number and line of a refusal with a record that is all zero, or the record of what was read
 abbrev pub answer : Reading → Read
@@ -25,7 +25,7 @@ answer (Refused number line) = record { number = number; line = line; job = reco
 -- ---- written
 
 unfoldable pub sheetText : Carried → List ℕ
-sheetText c = textOf (linesOf c)
+sheetText c = textOfLines (linesOf c)
 
 -- a text about a job put into a buffer: the job's own refusal first, and then 7
 abbrev pub jobWriting : (Carried → List ℕ) → Reading → List ℕ → Writing

@@ -1,4 +1,5 @@
--- What an accepted job gives: every number is in its range, every face has one or two coefficients, and so it can be reckoned.
+-- What an accepted job gives: every number is in its range, every face has one or two coefficients, and so it can be
+-- reckoned.
 use mathlib.Core.Path.{_≡_, refl, sym, _∙_, subst, subst₂}
 use mathlib.Core.Logic.{_⊎_, ⊎-elim}
 use mathlib.Core.Bool.{true}
@@ -32,7 +33,8 @@ use Rattle.worst.specs.declared.Six.{Six}
 use Rattle.worst.specs.declared.sums.Axes.{Axes}
 use Rattle.worst.specs.Forces.{pressure}
 use Rattle.worst.specs.Worst.{given, extremes, sixExtremes}
-use Rattle.worst.specs.Engine.{surfaceOn, sumsOf, axesOf, extremesOf, Small, AxesSmall, FacesSmall, Ready, Meets}
+use Rattle.worst.specs.Engine.{surfaceOn, sumsOf, axesOf, extremesOf, Small, AxesSmall, FacesSmall, Ready}
+use Rattle.worst.specs.Engine.{Meets}
 use Rattle.worst.proofs.OneFace.{OneOrTwo, alone, pair}
 use Rattle.worst.proofs.AllCells.{Sound, surfaces, extremes-are}
 use Rattle.worst.proofs.Added.{axes-small}
@@ -44,7 +46,8 @@ one-or-two : {k kind place : ℕ} {a : Answer} → Alternatives k kind place a �
 one-or-two (one {v} h) = alone v
 one-or-two (two {v} {w} h k e f) = pair v w
 
-values-small : {kind place : ℕ} {a : Answer} → Alternatives 1200 kind place a → (i : ℕ) → natAbs (getD (valuesOf a) i (pos 0)) ≤ 1200
+values-small : {kind place : ℕ} {a : Answer} → Alternatives 1200 kind place a → (i : ℕ)
+    → natAbs (getD (valuesOf a) i (pos 0)) ≤ 1200
 values-small (one h) zero = h
 values-small (one h) (suc i) = omega arith
 values-small (two h k e f) zero = h
@@ -56,12 +59,14 @@ knows-either kind d = ⊎-elim (λ e. rw e) (λ e. rw e)
 
 -- a speed's range
 speed-within : (g : Building) (w : Wind) → WindInOrder g w → Within 1 1000 (w .speed)
-speed-within g w o = within 1 1000 (w .speed) (is-within (pos 1) (pos 1000) (w .speed) (o .least-speed) (o .greatest-speed))
+speed-within g w o =
+    within 1 1000 (w .speed) (is-within (pos 1) (pos 1000) (w .speed) (o .least-speed) (o .greatest-speed))
 
 -- ---- what is carried
 
 module _ (c : Carried) (o : InOrder c) where
-  answered : (d : ℤ) → knows (c .building .kind) d ≡ true → (f : Face) → FaceInOrder (c .building) f → Alternatives 1200 (natAbs (c .building .kind)) (f .zone) (outsideOf (c .building) d (f .zone))
+  answered : (d : ℤ) → knows (c .building .kind) d ≡ true → (f : Face) → FaceInOrder (c .building) f
+      → Alternatives 1200 (natAbs (c .building .kind)) (f .zone) (outsideOf (c .building) d (f .zone))
   answered d e f h = zone-answered (c .building) d (f .zone) (o .building) e (h .on)
 
   face-in : (f : Face) → List·Memᴰ f (c .faces) → FaceInOrder (c .building) f
@@ -76,7 +81,8 @@ module _ (c : Carried) (o : InOrder c) where
       let b = good-fields (c .building) (o .building) .density in
       let v = speed-within (c .building) w h in
       subst₂ (λ (z q : ℤ). pos 0 <ℤ (z *ℤ (q *ℤ q))) (b .plain) (v .plain)
-      (lt-by _ _ (omega (arith, mul-pos {m = natAbs (c .building .density)} (omega (arith, b .from)) (mul-pos (v .from) (v .from)))))
+      (lt-by _ _
+      (omega (arith, mul-pos {m = natAbs (c .building .density)} (omega (arith, b .from)) (mul-pos (v .from) (v .from)))))
 
   pub given-sound : Sound (given c)
   given-sound =
@@ -89,9 +95,11 @@ module _ (c : Carried) (o : InOrder c) where
   face-small : (f : Face) → FaceInOrder (c .building) f → FaceSmall f
   face-small f h = record { x = h .x; y = h .y; z = h .z }
 
-  surface-on-small : (d : ℤ) → knows (c .building .kind) d ≡ true → (f : Face) → FaceInOrder (c .building) f → Small (surfaceOn (c .building) d f)
+  surface-on-small : (d : ℤ) → knows (c .building .kind) d ≡ true → (f : Face) → FaceInOrder (c .building) f
+      → Small (surfaceOn (c .building) d f)
   surface-on-small d e f h =
-      surface-small (valuesOf (outsideOf (c .building) d (f .zone))) d f (values-small (answered d e f h)) (face-small f h)
+      surface-small (valuesOf (outsideOf (c .building) d (f .zone))) d f (values-small (answered d e f h))
+      (face-small f h)
 
   pub given-in-range : InRange (given c)
   given-in-range =
@@ -108,7 +116,8 @@ module _ (c : Carried) (o : InOrder c) where
 -- ---- a record
 
 -- an entry that counts is an entry that is carried
-counted-at : {A : Type 0} (P : A → Type 0) (d : A) (n : ℕ) (l : List A) → Every P (firstOf d n l) → (k : ℕ) → k < n → P (getD l k d)
+counted-at : {A : Type 0} (P : A → Type 0) (d : A) (n : ℕ) (l : List A) → Every P (firstOf d n l) → (k : ℕ) → k < n
+    → P (getD l k d)
 counted-at P d n l h k lt =
     subst P (firstOf-getD d n k l lt) (every-at P (firstOf d n l) d k (omega (arith, firstOf-length d n l)) h)
 
@@ -122,32 +131,53 @@ module _ (j : Job) (o : InOrder (carried j)) where
         density = good-fields (j .building) (o .building) .density .to;
         someWind = omega (arith, o .winds-counted .low, winds);
         winds = omega (arith, o .winds-counted .high, winds);
-        slow = λ k l. speed-within (j .building) _ (counted-at (WindInOrder (j .building)) noWind (j .winds .count) (j .winds .entry) (o .winds) k l) .to;
+        slow = λ k l.
+            speed-within (j .building) _
+            (counted-at (WindInOrder (j .building)) noWind (j .winds .count) (j .winds .entry) (o .winds) k l) .to;
         someInternal = omega (arith, o .internals-counted .low, internals);
-        internals = (omega (arith, o .internals-counted .high, internals), counted-at InternalInOrder (pos 0) (j .internals .count) (j .internals .entry) (o .internals));
+        internals = (
+          omega (arith, o .internals-counted .high, internals),
+          counted-at InternalInOrder (pos 0) (j .internals .count) (j .internals .entry) (o .internals),
+        );
         faces = omega (arith, o .faces-counted .high, firstOf-length noFace (j .faces .count) (j .faces .entry));
-        small = λ d e k l. surface-on-small (carried j) o d e (getD (j .faces .entry) k noFace) (counted-at (FaceInOrder (j .building)) noFace (j .faces .count) (j .faces .entry) (o .faces) k l);
+        small = λ d e k l.
+            surface-on-small (carried j) o d e (getD (j .faces .entry) k noFace)
+            (counted-at (FaceInOrder (j .building)) noFace (j .faces .count) (j .faces .entry) (o .faces) k l);
       }
 
   -- the faces that a direction meets, and their sums
-  pub met-few : (d : ℤ) (n : ℕ) → knows (j .building .kind) d ≡ true → Meets j d n → (n ≤ 24) × FacesSmall (j .building) d n (j .faces .entry)
+  pub met-few : (d : ℤ) (n : ℕ) → knows (j .building .kind) d ≡ true → Meets j d n
+      → (n ≤ 24) × FacesSmall (j .building) d n (j .faces .entry)
   met-few d n e h =
       (omega (arith, job-ready .faces, h .most), λ i l. job-ready .small d e i (omega (arith, h .most)))
 
-  pub met-small : (d : ℤ) (n : ℕ) → knows (j .building .kind) d ≡ true → Meets j d n → (p : Axes) → p ≡ axesOf (surfaces j d n) → AxesSmall 24 p
+  pub met-small : (d : ℤ) (n : ℕ) → knows (j .building .kind) d ≡ true → Meets j d n → (p : Axes)
+      → p ≡ axesOf (surfaces j d n) → AxesSmall 24 p
   met-small d n e h p q =
       let few = met-few d n e h in
-      subst (AxesSmall 24) (sym q) (axes-small (surfaceOn (j .building) d) (j .faces .entry) noFace n (few .1) 24 (few .0))
+      subst (AxesSmall 24) (sym q)
+      (axes-small (surfaceOn (j .building) d) (j .faces .entry) noFace n (few .1) 24 (few .0))
 
   -- ---- the six extremes
 
   -- of sums under direction 0 and under direction 90
-  module _ (room : j .faces .count ≤ length (j .faces .entry)) (m n : ℕ) (hm : Meets j (pos 0) m) (hn : Meets j (pos 90) n) (zero ninety : Axes) (ez : zero ≡ axesOf (surfaces j (pos 0) m)) (en : ninety ≡ axesOf (surfaces j (pos 90) n)) where
-    on : (axis : Axis) → extremesOf j (sumsOf axis (surfaces j (pos 0) m)) (sumsOf axis (surfaces j (pos 90) n)) ≡ extremes axis (carried j)
+  module _ (room : j .faces .count ≤ length (j .faces .entry)) (m n : ℕ) (hm : Meets j (pos 0) m)
+      (hn : Meets j (pos 90) n) (zero ninety : Axes) (ez : zero ≡ axesOf (surfaces j (pos 0) m))
+      (en : ninety ≡ axesOf (surfaces j (pos 90) n)) where
+    on : (axis : Axis)
+        → extremesOf j (sumsOf axis (surfaces j (pos 0) m)) (sumsOf axis (surfaces j (pos 90) n)) ≡ extremes axis
+        (carried j)
     on axis = extremes-are j (given-sound (carried j) o) room m n hm hn axis
 
-    pub six-are : _≡_ {A = Six} (record { x = extremesOf j (zero .x) (ninety .x); y = extremesOf j (zero .y) (ninety .y); z = extremesOf j (zero .z) (ninety .z) }) (sixExtremes (carried j))
+    pub six-are : _≡_ {A = Six}
+        (record { x = extremesOf j (zero .x) (ninety .x); y = extremesOf j (zero .y) (ninety .y); z = extremesOf j (zero .z) (ninety .z) })
+        (sixExtremes (carried j))
     unfolding sixExtremes
     six-are =
-        (λ k. record { x = extremesOf j (ez k .x) (en k .x); y = extremesOf j (ez k .y) (en k .y); z = extremesOf j (ez k .z) (en k .z) })
+        (λ k.
+        record {
+          x = extremesOf j (ez k .x) (en k .x);
+          y = extremesOf j (ez k .y) (en k .y);
+          z = extremesOf j (ez k .z) (en k .z);
+        })
         ∙ (λ k. record { x = on X k; y = on Y k; z = on Z k })

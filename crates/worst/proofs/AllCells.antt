@@ -26,7 +26,8 @@ use Rattle.worst.specs.Forces.{Given, acts, outsides, pressure, windAt, 
 use Rattle.worst.specs.Shown.{padded, shown}
 use Rattle.worst.specs.Worst.{given, extremes}
 use Rattle.worst.specs.Quick.{over, sum, tagged}
-use Rattle.worst.specs.Engine.{surfaceOn, areaOf, reach, pick, spanOf, sumsOf, under, alternativesOf, cellTotal, Spot, windOf, internalOf, cellBest, bestCell, cellShown, extremesOf, Meets}
+use Rattle.worst.specs.Engine.{surfaceOn, areaOf, reach, pick, spanOf, sumsOf, under, alternativesOf, cellTotal}
+use Rattle.worst.specs.Engine.{Cell, windOf, internalOf, cellBest, bestCell, cellShown, extremesOf, Meets}
 use Rattle.worst.proofs.Better.{over-same-in, tagged-over}
 use Rattle.worst.proofs.Quick.{worst-quick}
 use Rattle.worst.proofs.Lists.{numbers-member, getD-member, sum-map, map-map}
@@ -37,15 +38,18 @@ use Rattle.worst.proofs.OneFace.{OneOrTwo, valueOf, face-best}
 pub record Sound (g : Given) : Type 0 where
   pub direction : (w : Wind) → List·Memᴰ w (g .winds) → (w .direction ≡ pos 0) ⊎ (w .direction ≡ pos 90)
   pub pressed : (w : Wind) → List·Memᴰ w (g .winds) → pos 0 <ℤ pressure (g .density) w
-  pub outside : (w : Wind) (f : Face) → List·Memᴰ w (g .winds) → List·Memᴰ f (g .faces) → acts f (w .direction) ≡ true → OneOrTwo (outsides g w f)
+  pub outside : (w : Wind) (f : Face) → List·Memᴰ w (g .winds) → List·Memᴰ f (g .faces) → acts f (w .direction) ≡ true
+      → OneOrTwo (outsides g w f)
 
 -- ---- the sums of a list of surfaces, side by side
 
-cell-span : (s : Side) (axis : Axis) (fs : List Surface) (p i : ℤ) → (sum (reach s axis) fs -ℤ i *ℤ pos 10 *ℤ sum (areaOf axis) fs) *ℤ p ≡ cellTotal s (spanOf axis fs) p i
+cell-span : (s : Side) (axis : Axis) (fs : List Surface) (p i : ℤ)
+    → (sum (reach s axis) fs -ℤ i *ℤ pos 10 *ℤ sum (areaOf axis) fs) *ℤ p ≡ cellTotal s (spanOf axis fs) p i
 cell-span Greatest axis fs p i = refl
 cell-span Least axis fs p i = refl
 
-picks-are : (s : Side) (axis : Axis) (fs : List Surface) → padded 24 (map (pick s axis) fs) ≡ alternativesOf s (sumsOf axis fs)
+picks-are : (s : Side) (axis : Axis) (fs : List Surface)
+    → padded 24 (map (pick s axis) fs) ≡ alternativesOf s (sumsOf axis fs)
 picks-are Greatest axis fs = refl
 picks-are Least axis fs = refl
 
@@ -62,7 +66,8 @@ surfaces j d k = map (surfaceOn (j .building) d) (take k (j .faces .entry))
 
 -- ---- the job, and how many of its faces were added up under each direction
 
-module _ (j : Job) (sound : Sound (given (carried j))) (room : j .faces .count ≤ length (j .faces .entry)) (m n : ℕ) (hm : Meets j (pos 0) m) (hn : Meets j (pos 90) n) where
+module _ (j : Job) (sound : Sound (given (carried j))) (room : j .faces .count ≤ length (j .faces .entry)) (m n : ℕ)
+    (hm : Meets j (pos 0) m) (hn : Meets j (pos 90) n) where
   abbrev g : Given
   g = given (carried j)
 
@@ -84,25 +89,31 @@ module _ (j : Job) (sound : Sound (given (carried j))) (room : j .faces .count �
   unfolding carried
   wind-is w mw = firstOf-getD noWind (j .winds .count) (w - 1) (j .winds .entry) (wind-counts w mw)
 
-  internal-is : (i : ℕ) → List·Memᴰ i (numbers (length (g .internals)) 1) → internalAt g i ≡ internalOf (j .internals) i
+  internal-is : (i : ℕ) → List·Memᴰ i (numbers (length (g .internals)) 1)
+      → internalAt g i ≡ internalOf (j .internals) i
   unfolding carried
   internal-is i mi =
       let b = numbers-member (length (g .internals)) 1 mi in
-      firstOf-getD (pos 0) (j .internals .count) (i - 1) (j .internals .entry) (omega (arith, b .low, b .high, firstOf-length (pos 0) (j .internals .count) (j .internals .entry)))
+      firstOf-getD (pos 0) (j .internals .count) (i - 1) (j .internals .entry)
+      (omega (arith, b .low, b .high, firstOf-length (pos 0) (j .internals .count) (j .internals .entry)))
 
   -- a direction that a wind has meets all faces
-  met-by : (w : ℕ) (d : ℤ) (k : ℕ) → List·Memᴰ w (numbers (length (g .winds)) 1) → windAt g w .direction ≡ d → Meets j d k → surfaces j d k ≡ map (surfaceOn (j .building) d) (g .faces)
+  met-by : (w : ℕ) (d : ℤ) (k : ℕ) → List·Memᴰ w (numbers (length (g .winds)) 1) → windAt g w .direction ≡ d
+      → Meets j d k → surfaces j d k ≡ map (surfaceOn (j .building) d) (g .faces)
   unfolding carried
   met-by w d k mw e h =
       ap (surfaces j d) (h .all (w - 1) (wind-counts w mw) (ap (λ u. u .direction) (sym (wind-is w mw)) ∙ e))
       ∙ ap (map (surfaceOn (j .building) d)) (sym (firstOf-take noFace (j .faces .count) (j .faces .entry) room))
 
-  met-all : (w : ℕ) → List·Memᴰ w (numbers (length (g .winds)) 1) → met (windAt g w .direction) ≡ map (surfaceOn (j .building) (windAt g w .direction)) (g .faces)
+  met-all : (w : ℕ) → List·Memᴰ w (numbers (length (g .winds)) 1)
+      → met (windAt g w .direction) ≡ map (surfaceOn (j .building) (windAt g w .direction)) (g .faces)
   met-all w mw =
-      ⊎-elim (λ e. ap met e ∙ met-by w (pos 0) m mw e hm ∙ back (sym e)) (λ e. ap met e ∙ met-by w (pos 90) n mw e hn ∙ back (sym e))
+      ⊎-elim (λ e. ap met e ∙ met-by w (pos 0) m mw e hm ∙ back (sym e))
+      (λ e. ap met e ∙ met-by w (pos 90) n mw e hn ∙ back (sym e))
       (sound .direction (windAt g w) (wind-of w mw))
     where
-      back : {c d : ℤ} → c ≡ d → map (surfaceOn (j .building) c) (g .faces) ≡ map (surfaceOn (j .building) d) (g .faces)
+      back : {c d : ℤ} → c ≡ d
+          → map (surfaceOn (j .building) c) (g .faces) ≡ map (surfaceOn (j .building) d) (g .faces)
       back e = ap (λ d. map (surfaceOn (j .building) d) (g .faces)) e
 
   module _ (axis : Axis) where
@@ -117,17 +128,25 @@ module _ (j : Job) (sound : Sound (given (carried j))) (room : j .faces .count �
 
     module _ (s : Side) where
       -- the best choice of a cell, as a case
-      abbrev caseAt : Spot → Case ℕ ℕ ℕ
-      caseAt t = record { wind = t .wind; internal = t .internal; chosen = map (pick s axis) (met (windOf (j .winds) (t .wind) .direction)) }
+      abbrev caseAt : Cell → Case ℕ ℕ ℕ
+      caseAt t =
+          record {
+            wind = t .wind;
+            internal = t .internal;
+            chosen = map (pick s axis) (met (windOf (j .winds) (t .wind) .direction));
+          }
 
       abbrev value : ℕ → ℕ → Face → ℤ
       value w i f =
-          valueOf s axis (pressure (g .density) (windAt g w)) (internalAt g i) (surfaceOn (j .building) (windAt g w .direction) f)
+          valueOf s axis (pressure (g .density) (windAt g w)) (internalAt g i)
+          (surfaceOn (j .building) (windAt g w .direction) f)
 
       abbrev picked : ℕ → ℕ → Face → ℕ
       picked w i f = pick s axis (surfaceOn (j .building) (windAt g w .direction) f)
 
-      value-is : (w i : ℕ) → List·Memᴰ w (numbers (length (g .winds)) 1) → sum (value w i) (g .faces) ≡ cellTotal s (under (windAt g w .direction) zero ninety .span) (pressure (g .density) (windAt g w)) (internalAt g i)
+      value-is : (w i : ℕ) → List·Memᴰ w (numbers (length (g .winds)) 1)
+          → sum (value w i) (g .faces) ≡ cellTotal s (under (windAt g w .direction) zero ninety .span)
+          (pressure (g .density) (windAt g w)) (internalAt g i)
       value-is w i mw =
           let on = surfaceOn (j .building) (windAt g w .direction) in
           let p = pressure (g .density) (windAt g w) in
@@ -138,12 +157,18 @@ module _ (j : Job) (sound : Sound (given (carried j))) (room : j .faces .count �
           ∙ ap (λ fs. cellTotal s (spanOf axis fs) p c) (sym (met-all w mw))
           ∙ ap (λ (q : Sums). cellTotal s (q .span) p c) (met-sums (windAt g w .direction))
 
-      picked-is : (w i : ℕ) → List·Memᴰ w (numbers (length (g .winds)) 1) → map (picked w i) (g .faces) ≡ map (pick s axis) (met (windAt g w .direction))
+      picked-is : (w i : ℕ) → List·Memᴰ w (numbers (length (g .winds)) 1)
+          → map (picked w i) (g .faces) ≡ map (pick s axis) (met (windAt g w .direction))
       picked-is w i mw =
-          sym (map-map (pick s axis) (surfaceOn (j .building) (windAt g w .direction)) (g .faces)) ∙ ap (map (pick s axis)) (sym (met-all w mw))
+          sym (map-map (pick s axis) (surfaceOn (j .building) (windAt g w .direction)) (g .faces))
+          ∙ ap (map (pick s axis)) (sym (met-all w mw))
 
       -- one cell
-      cell-is : (w i : ℕ) → List·Memᴰ w (numbers (length (g .winds)) 1) → List·Memᴰ i (numbers (length (g .internals)) 1) → at (sum (value w i) (g .faces)) (record { wind = w; internal = i; chosen = map (picked w i) (g .faces) }) ≡ tagged caseAt (cellBest s (under (windOf (j .winds) w .direction) zero ninety .span) (pressure (j .building .density) (windOf (j .winds) w)) (j .internals) w i)
+      cell-is : (w i : ℕ) → List·Memᴰ w (numbers (length (g .winds)) 1)
+          → List·Memᴰ i (numbers (length (g .internals)) 1)
+          → at (sum (value w i) (g .faces))
+          (record { wind = w; internal = i; chosen = map (picked w i) (g .faces) }) ≡ tagged caseAt
+          (cellBest s (under (windOf (j .winds) w .direction) zero ninety .span) (pressure (j .building .density) (windOf (j .winds) w)) (j .internals) w i)
       unfolding tagged carried
       cell-is w i mw mi =
           (λ k. at (value-is w i mw k) (record { wind = w; internal = i; chosen = picked-is w i mw k }))
@@ -152,19 +177,22 @@ module _ (j : Job) (sound : Sound (given (carried j))) (room : j .faces .count �
       worst-cell : worst s (loads axis g) ≡ tagged caseAt (bestCell s j zero ninety)
       unfolding bestCell carried
       worst-cell =
-          worst-quick (loads axis g) s value picked (λ w i f mw mi mf. face-best s axis (pressure (g .density) (windAt g w)) (internalAt g i) f (sound .pressed (windAt g w) (wind-of w mw)) (windAt g w .direction) (outsides g (windAt g w) f) (sound .outside (windAt g w) f (wind-of w mw) mf))
-          ∙ over-same-in s _ _ (numbers (length (g .winds)) 1) (λ w mw. over-same-in s _ _ (numbers (length (g .internals)) 1) (λ i mi. cell-is w i mw mi) ∙ sym (tagged-over s caseAt _ (numbers (length (g .internals)) 1)))
+          worst-quick (loads axis g) s value picked
+          (λ w i f mw mi mf. face-best s axis (pressure (g .density) (windAt g w)) (internalAt g i) f (sound .pressed (windAt g w) (wind-of w mw)) (windAt g w .direction) (outsides g (windAt g w) f) (sound .outside (windAt g w) f (wind-of w mw) mf))
+          ∙ over-same-in s _ _ (numbers (length (g .winds)) 1)
+          (λ w mw. over-same-in s _ _ (numbers (length (g .internals)) 1) (λ i mi. cell-is w i mw mi) ∙ sym (tagged-over s caseAt _ (numbers (length (g .internals)) 1)))
           ∙ sym (tagged-over s caseAt _ (numbers (length (g .winds)) 1))
           ∙ (λ k. tagged caseAt (over s (λ w. over s (cellBest s (under (windOf (j .winds) w .direction) zero ninety .span) (pressure (j .building .density) (windOf (j .winds) w)) (j .internals) w) (numbers (firstOf-length (pos 0) (j .internals .count) (j .internals .entry) k) 1)) (numbers (firstOf-length noWind (j .winds .count) (j .winds .entry) k) 1)))
 
       -- and as it is shown
-      shown-cell : (b : Best Spot) → cellShown s j zero ninety b ≡ shown (j .faces .count) (tagged caseAt b)
+      shown-cell : (b : Best Cell) → cellShown s j zero ninety b ≡ shown (j .faces .count) (tagged caseAt b)
       unfolding shown tagged
       shown-cell none = refl
       shown-cell (at v t) =
           λ k. record { total = v; wind = t .wind; internal = t .internal; faces = j .faces .count; alternative = (sym (picks-are s axis (met (windOf (j .winds) (t .wind) .direction)) ∙ ap (alternativesOf s) (met-sums (windOf (j .winds) (t .wind) .direction)))) k }
 
-      extreme-is : cellShown s j zero ninety (bestCell s j zero ninety) ≡ shown (length (g .faces)) (worst s (loads axis g))
+      extreme-is : cellShown s j zero ninety (bestCell s j zero ninety) ≡ shown (length (g .faces))
+          (worst s (loads axis g))
       unfolding carried
       extreme-is =
           shown-cell (bestCell s j zero ninety)

@@ -1,4 +1,5 @@
--- The third demand for what a job gives: more winds and internal coefficients show no less, and faster winds show no less on their side of zero.
+-- The third demand for what a job gives: more winds and internal coefficients show no less, and faster winds show no
+-- less on their side of zero.
 use mathlib.Core.Path.{_≡_, refl, sym, ap, _∙_, subst}
 use mathlib.Core.Bool.{Bool, true, false, cond}
 use mathlib.Core.List.{List, [], _∷_, List·Memᴰ}
@@ -12,11 +13,12 @@ use Rattle.worst.specs.declared.Side.{Side}
 use Rattle.worst.specs.declared.Axis.{Axis}
 use Rattle.entry.specs.declared.Wind.{Wind}
 use Rattle.entry.specs.declared.Face.{Face}
-use Rattle.worst.specs.Best.{Within, at}
+use Rattle.worst.specs.Best.{NoFurther, at}
 use Rattle.worst.specs.Cases.{Case, numbers, worst}
 use Rattle.job.specs.Carried.{noWind}
 use Rattle.book.specs.Question.{net}
-use Rattle.worst.specs.Forces.{Given, acts, alternatives, outsides, pressure, area, force, windAt, internalAt, loads}
+use Rattle.worst.specs.Forces.{Given, acts, alternatives, outsides, pressure, area, force, windAt, internalAt}
+use Rattle.worst.specs.Forces.{loads}
 use Rattle.worst.proofs.Lists.{numbers-member, member-numbers, getD-member, member-getD}
 use Rattle.worst.proofs.Scale.{Raised}
 use Rattle.worst.proofs.Growth.{worst-more, worst-faster}
@@ -34,7 +36,8 @@ module _ {X : Type 0} (Like : X → X → Type 0) where
   abbrev pub AllIn : List X → List X → Type 0
   AllIn xs ys = (x : X) → List·Memᴰ x xs → (y : X) × List·Memᴰ y ys × Like x y
 
-  numbered : (d : X) (xs ys : List X) → AllIn xs ys → (n : ℕ) → List·Memᴰ n (numbers (length xs) 1) → (m : ℕ) × List·Memᴰ m (numbers (length ys) 1) × Like (getD xs (n - 1) d) (getD ys (m - 1) d)
+  numbered : (d : X) (xs ys : List X) → AllIn xs ys → (n : ℕ) → List·Memᴰ n (numbers (length xs) 1)
+      → (m : ℕ) × List·Memᴰ m (numbers (length ys) 1) × Like (getD xs (n - 1) d) (getD ys (m - 1) d)
   numbered d xs ys h n mn =
       let b = numbers-member (length xs) 1 mn in
       let y = h (getD xs (n - 1) d) (getD-member xs (n - 1) d (omega arith)) in
@@ -50,18 +53,26 @@ module _ {X : Type 0} (Like : X → X → Type 0) where
 
 -- ---- more winds and internal coefficients
 
-pub given-more : (s : Side) (axis : Axis) (g g′ : Given) → SameSite g g′ → AllIn _≡_ (g .winds) (g′ .winds) → AllIn _≡_ (g .internals) (g′ .internals)
-    → (v : ℤ) (c : Case ℕ ℕ ℕ) (v′ : ℤ) (c′ : Case ℕ ℕ ℕ) → worst s (loads axis g) ≡ at v c → worst s (loads axis g′) ≡ at v′ c′
-    → Within s v v′
+pub given-more : (s : Side) (axis : Axis) (g g′ : Given) → SameSite g g′ → AllIn _≡_ (g .winds) (g′ .winds)
+    → AllIn _≡_ (g .internals) (g′ .internals)
+    → (v : ℤ) (c : Case ℕ ℕ ℕ) (v′ : ℤ) (c′ : Case ℕ ℕ ℕ) → worst s (loads axis g) ≡ at v c
+    → worst s (loads axis g′) ≡ at v′ c′
+    → NoFurther s v v′
 given-more s axis g g′ same hw hi v c v′ c′ e e′ =
-    worst-more (loads axis g) (loads axis g′) (λ w w′. windAt g w ≡ windAt g′ w′) (λ i i′. internalAt g i ≡ internalAt g′ i′) s v c v′ c′ e e′
+    worst-more (loads axis g) (loads axis g′) (λ w w′. windAt g w ≡ windAt g′ w′)
+    (λ i i′. internalAt g i ≡ internalAt g′ i′) s v c v′ c′ e e′
     (record {
       faces = same .faces;
       wind = numbered _≡_ noWind (g .winds) (g′ .winds) hw;
       internal = numbered _≡_ (pos 0) (g .internals) (g′ .internals) hi;
-      alternatives = λ w w′ r f. λ j. cond (acts f (r j .direction)) (numbers (length (same .outside j (r j .direction) (f .zone))) 1) (1 ∷ []);
+      alternatives = λ w w′ r f.
+          λ j. cond (acts f (r j .direction)) (numbers (length (same .outside j (r j .direction) (f .zone))) 1)
+          (1 ∷ []);
     })
-    (λ w w′ i i′ r q f k. λ j. cond (acts f (r j .direction)) (net (getD (same .outside j (r j .direction) (f .zone)) (k - 1) (pos 0)) (q j) *ℤ pressure (same .density j) (r j) *ℤ area axis f) (pos 0))
+    (λ w w′ i i′ r q f k.
+    λ j. cond (acts f (r j .direction))
+    (net (getD (same .outside j (r j .direction) (f .zone)) (k - 1) (pos 0)) (q j) *ℤ pressure (same .density j) (r j) *ℤ area axis f)
+    (pos 0))
 
 -- ---- faster winds
 
@@ -87,30 +98,45 @@ module _ (axis : Axis) (g g′ : Given) (same : SameSite g g′) where
   raised : (w w′ : Wind) (i : ℤ) → Faster w w′ → Raised (force axis g w i) (force axis g′ w′ i)
   raised w w′ i h =
       record {
-        unit = λ f k. cond (acts f (w .direction)) (net (getD (outsides g w f) (k - 1) (pos 0)) i *ℤ g .density *ℤ area axis f) (pos 0);
+        unit = λ f k.
+            cond (acts f (w .direction)) (net (getD (outsides g w f) (k - 1) (pos 0)) i *ℤ g .density *ℤ area axis f)
+            (pos 0);
         factor = natAbs (w .speed) * natAbs (w .speed);
         factor′ = natAbs (w′ .speed) * natAbs (w′ .speed);
         some = mul-pos (h .some) (h .some);
         risen = mul-le-mul (h .risen) (h .risen);
         was = λ f k. factor w f (acts f (w .direction)) (net (getD (outsides g w f) (k - 1) (pos 0)) i);
-        becomes = λ f k. (λ j. cond (acts f (sym (h .direction) j)) (net (getD (sym (same .outside) j (sym (h .direction) j) (f .zone)) (k - 1) (pos 0)) i *ℤ pressure (sym (same .density) j) w′ *ℤ area axis f) (pos 0)) ∙ factor w′ f (acts f (w .direction)) (net (getD (outsides g w f) (k - 1) (pos 0)) i);
+        becomes = λ f k.
+            (λ j.
+            cond (acts f (sym (h .direction) j))
+            (net (getD (sym (same .outside) j (sym (h .direction) j) (f .zone)) (k - 1) (pos 0)) i *ℤ pressure (sym (same .density) j) w′ *ℤ area axis f)
+            (pos 0))
+            ∙ factor w′ f (acts f (w .direction)) (net (getD (outsides g w f) (k - 1) (pos 0)) i);
       }
     where
-      factor : (u : Wind) (f : Face) (t : Bool) (n : ℤ) → cond t (n *ℤ pressure (g .density) u *ℤ area axis f) (pos 0) ≡ cond t (n *ℤ g .density *ℤ area axis f) (pos 0) *ℤ pos (natAbs (u .speed) * natAbs (u .speed))
+      factor : (u : Wind) (f : Face) (t : Bool) (n : ℤ)
+          → cond t (n *ℤ pressure (g .density) u *ℤ area axis f) (pos 0) ≡ cond t (n *ℤ g .density *ℤ area axis f)
+          (pos 0) *ℤ pos (natAbs (u .speed) * natAbs (u .speed))
       factor u f true n =
           ap (λ (q : ℤ). n *ℤ (g .density *ℤ q) *ℤ area axis f) (squared (u .speed))
           ∙ force-squared n (g .density) (area axis f) (natAbs (u .speed) * natAbs (u .speed))
       factor u f false n = sym (zero-*ℤ (pos (natAbs (u .speed) * natAbs (u .speed))))
 
   pub given-faster : (s : Side) → AllIn Faster (g .winds) (g′ .winds) → AllIn _≡_ (g .internals) (g′ .internals)
-      → (v : ℤ) (c : Case ℕ ℕ ℕ) (v′ : ℤ) (c′ : Case ℕ ℕ ℕ) → worst s (loads axis g) ≡ at v c → worst s (loads axis g′) ≡ at v′ c′
-      → Within s (pos 0) v → Within s v v′
+      → (v : ℤ) (c : Case ℕ ℕ ℕ) (v′ : ℤ) (c′ : Case ℕ ℕ ℕ) → worst s (loads axis g) ≡ at v c
+      → worst s (loads axis g′) ≡ at v′ c′
+      → NoFurther s (pos 0) v → NoFurther s v v′
   given-faster s hw hi v c v′ c′ e e′ =
-      worst-faster (loads axis g) (loads axis g′) (λ w w′. Faster (windAt g w) (windAt g′ w′)) (λ i i′. internalAt g i ≡ internalAt g′ i′) s v c v′ c′ e e′
+      worst-faster (loads axis g) (loads axis g′) (λ w w′. Faster (windAt g w) (windAt g′ w′))
+      (λ i i′. internalAt g i ≡ internalAt g′ i′) s v c v′ c′ e e′
       (record {
         faces = same .faces;
         wind = numbered Faster noWind (g .winds) (g′ .winds) hw;
         internal = numbered _≡_ (pos 0) (g .internals) (g′ .internals) hi;
-        alternatives = λ w w′ r f. λ j. cond (acts f (r .direction j)) (numbers (length (same .outside j (r .direction j) (f .zone))) 1) (1 ∷ []);
+        alternatives = λ w w′ r f.
+            λ j. cond (acts f (r .direction j)) (numbers (length (same .outside j (r .direction j) (f .zone))) 1)
+            (1 ∷ []);
       })
-      (λ w w′ i i′ r q. subst (λ x. Raised (force axis g (windAt g w) (internalAt g i)) (force axis g′ (windAt g′ w′) x)) q (raised (windAt g w) (windAt g′ w′) (internalAt g i) r))
+      (λ w w′ i i′ r q.
+      subst (λ x. Raised (force axis g (windAt g w) (internalAt g i)) (force axis g′ (windAt g′ w′) x)) q
+      (raised (windAt g w) (windAt g′ w′) (internalAt g i) r))

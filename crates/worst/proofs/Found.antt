@@ -11,7 +11,7 @@ use Rattle.worst.specs.declared.tops.Top.{Top}
 use Rattle.worst.specs.Best.{short, Best, none, at, better}
 use Rattle.worst.specs.Cases.{numbers}
 use Rattle.worst.specs.Quick.{over}
-use Rattle.worst.specs.Engine.{Ready, OnJob, spot, topOf, windBest, bestCell}
+use Rattle.worst.specs.Engine.{Ready, OnJob, cell, topOf, windBest, bestCell}
 
 -- something was found, and P holds of it
 abbrev pub Found : {A : Type 0} → (A → Type 0) → Best A → Type 0
@@ -34,7 +34,8 @@ module _ {A : Type 0} (s : Side) (P : A → Type 0) where
   found-alone none p = p
   found-alone (at x a) p = p
 
-  over-found : (g : ℕ → Best A) (n k : ℕ) → 0 < n → ((x : ℕ) → k ≤ x → x < k + n → Found P (g x)) → Found P (over s g (numbers n k))
+  over-found : (g : ℕ → Best A) (n k : ℕ) → 0 < n → ((x : ℕ) → k ≤ x → x < k + n → Found P (g x))
+      → Found P (over s g (numbers n k))
   unfolding over numbers
   over-found g zero k h f = absurd (omega arith)
   over-found g (suc zero) k h f = found-alone (g k) (f k (omega arith) (omega arith))
@@ -46,13 +47,16 @@ module _ (s : Side) (j : Job) (zero ninety : Sums) (h : Ready j) where
   bestCell-found : Found (OnJob j) (bestCell s j zero ninety)
   unfolding bestCell
   bestCell-found =
-      over-found s (OnJob j) (windBest s (j .building) (j .winds) (j .internals) zero ninety) (j .winds .count) 1 (h .someWind)
-      (λ w lw uw. over-found s (OnJob j) _ (j .internals .count) 1 (h .someInternal) (λ i li ui. record { wind = omega arith; wind≤ = omega arith; internal = omega arith; internal≤ = omega arith }))
+      over-found s (OnJob j) (windBest s (j .building) (j .winds) (j .internals) zero ninety) (j .winds .count) 1
+      (h .someWind)
+      (λ w lw uw.
+      over-found s (OnJob j) _ (j .internals .count) 1 (h .someInternal)
+      (λ i li ui. record { wind = omega arith; wind≤ = omega arith; internal = omega arith; internal≤ = omega arith }))
 
   -- the best cell, as a `Top` has it
   pub record IsTop (top : Top) : Type 0 where
-    pub onJob : OnJob j (spot (top .wind) (top .internal))
-    pub best : at (top .total) (spot (top .wind) (top .internal)) ≡ bestCell s j zero ninety
+    pub onJob : OnJob j (cell (top .wind) (top .internal))
+    pub best : at (top .total) (cell (top .wind) (top .internal)) ≡ bestCell s j zero ninety
 
   pub is-top : (top : Top) → topOf top ≡ bestCell s j zero ninety → IsTop top
   is-top top e = go (eqb (top .wind) 0) refl
@@ -61,9 +65,13 @@ module _ (s : Side) (j : Job) (zero ninety : Sums) (h : Ready j) where
       found = subst (Found (OnJob j)) (sym e) bestCell-found
 
       go : (t : Bool) → eqb (top .wind) 0 ≡ t → IsTop top
-      go true z = absurd (subst (λ t. Found (OnJob j) (cond t none (at (top .total) (spot (top .wind) (top .internal))))) z found)
+      go true z =
+          absurd
+          (subst (λ t. Found (OnJob j) (cond t none (at (top .total) (cell (top .wind) (top .internal))))) z found)
       go false z =
           record {
-            onJob = subst (λ t. Found (OnJob j) (cond t none (at (top .total) (spot (top .wind) (top .internal))))) z found;
-            best = sym (ap (λ t. cond t none (at (top .total) (spot (top .wind) (top .internal)))) z) ∙ e;
+            onJob =
+                subst
+                (λ t. Found (OnJob j) (cond t none (at (top .total) (cell (top .wind) (top .internal))))) z found;
+            best = sym (ap (λ t. cond t none (at (top .total) (cell (top .wind) (top .internal)))) z) ∙ e;
           }

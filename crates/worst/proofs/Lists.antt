@@ -1,7 +1,8 @@
 -- Laws of lists that the loops over arrays need.
 use mathlib.Core.Path.{_≡_, refl, sym, ap, _∙_}
 use mathlib.Core.Logic.{⊎-elim}
-use mathlib.Core.List.{List, [], _∷_, map, List·Memᴰ, List·Memᴰ·head, List·Memᴰ·tail, List·Memᴰ·not-nil, List·Memᴰ·cases-cons}
+use mathlib.Core.List.{List, [], _∷_, map, List·Memᴰ, List·Memᴰ·head, List·Memᴰ·tail, List·Memᴰ·not-nil}
+use mathlib.Core.List.{List·Memᴰ·cases-cons}
 use Prim.Native.Nat.{ℕ, zero, suc, _+_, _≤_, _<_}
 use native.Mathlib.Omega.{arith}
 use lib.ListN.{length, getD, length-map}
@@ -56,9 +57,12 @@ unfolding numbers
 member-numbers w zero k b = absurd (omega (arith, b .low, b .high))
 member-numbers w (suc n) k b =
     by-test (eqb w k) (λ e. List·Memᴰ·head (eqb-true w k e))
-    (λ e. List·Memᴰ·tail (member-numbers w n (suc k) (record { low = omega (arith, b .low, eqb-false w k e); high = omega (arith, b .high) })))
+    (λ e.
+    List·Memᴰ·tail
+    (member-numbers w n (suc k) (record { low = omega (arith, b .low, eqb-false w k e); high = omega (arith, b .high) })))
 
-pub member-getD : {X : Type 0} {x : X} (l : List X) (d : X) → List·Memᴰ x l → (i : ℕ) × (i < length l) × (getD l i d ≡ x)
+pub member-getD : {X : Type 0} {x : X} (l : List X) (d : X) → List·Memᴰ x l
+    → (i : ℕ) × (i < length l) × (getD l i d ≡ x)
 member-getD [] d m = absurd (List·Memᴰ·not-nil m)
 member-getD {X} {x} (y ∷ ys) d m =
     ⊎-elim (λ e. (0, omega arith, sym e)) (λ n. later (member-getD ys d n)) (List·Memᴰ·cases-cons m)
@@ -68,7 +72,8 @@ member-getD {X} {x} (y ∷ ys) d m =
 
 -- ---- what holds of every entry, and of what stands past the end
 
-pub getD-all : {X : Type 0} (P : X → Type 0) (l : List X) (d : X) → P d → ((x : X) → List·Memᴰ x l → P x) → (i : ℕ) → P (getD l i d)
+pub getD-all : {X : Type 0} (P : X → Type 0) (l : List X) (d : X) → P d → ((x : X) → List·Memᴰ x l → P x) → (i : ℕ)
+    → P (getD l i d)
 getD-all P [] d p h i = p
 getD-all P (x ∷ xs) d p h zero = h x (List·Memᴰ·head refl)
 getD-all P (x ∷ xs) d p h (suc i) = getD-all P xs d p (λ y m. h y (List·Memᴰ·tail m)) i

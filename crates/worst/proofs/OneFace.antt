@@ -1,4 +1,5 @@
--- One face: the best of its alternatives under a wind and an internal coefficient, from its products of outside coefficient and area.
+-- One face: the best of its alternatives under a wind and an internal coefficient, from its products of outside
+-- coefficient and area.
 use mathlib.Core.Path.{_≡_, refl, sym, ap, _∙_}
 use mathlib.Core.Bool.{Bool, true, false, cond}
 use mathlib.Core.List.{List, [], _∷_}
@@ -60,11 +61,13 @@ module _ (s : Side) (axis : Axis) (p i : ℤ) where
 
   nothing-found : at (pos 0) 1 ≡ foundOf noSurface
   unfolding further which
-  nothing-found = (λ j. at (sym zero-value j) (cond {A = ℕ} (sym (short-self s (pos 0 *ℤ areaOf axis noSurface)) j) 2 1))
+  nothing-found =
+      (λ j. at (sym zero-value j) (cond {A = ℕ} (sym (short-self s (pos 0 *ℤ areaOf axis noSurface)) j) 2 1))
     where
       zero-value : (cond (short s (pos 0 *ℤ areaOf axis noSurface) (pos 0 *ℤ areaOf axis noSurface)) (pos 0 *ℤ areaOf axis noSurface) (pos 0 *ℤ areaOf axis noSurface) -ℤ i *ℤ pos 10 *ℤ areaOf axis noSurface) *ℤ p ≡ pos 0
       zero-value =
-          (λ j. (cond (short-self s (pos 0 *ℤ areaOf axis noSurface) j) (pos 0 *ℤ areaOf axis noSurface) (pos 0 *ℤ no-area axis j) -ℤ i *ℤ pos 10 *ℤ no-area axis j) *ℤ p)
+          (λ j.
+          (cond (short-self s (pos 0 *ℤ areaOf axis noSurface) j) (pos 0 *ℤ areaOf axis noSurface) (pos 0 *ℤ no-area axis j) -ℤ i *ℤ pos 10 *ℤ no-area axis j) *ℤ p)
           ∙ ap (λ z. (pos 0 -ℤ z) *ℤ p) (*ℤ-zero (i *ℤ pos 10))
           ∙ zero-*ℤ p
 
@@ -73,16 +76,21 @@ module _ (s : Side) (axis : Axis) (p i : ℤ) where
     abbrev forceAt : ℤ → ℤ
     forceAt v = net v i *ℤ p *ℤ area axis f
 
-    some-found : (v u : ℤ) → at (further s (forceAt v) (forceAt u)) (which s (forceAt v) (forceAt u)) ≡ foundOf (surfaceWith v u f)
+    some-found : (v u : ℤ)
+        → at (further s (forceAt v) (forceAt u)) (which s (forceAt v) (forceAt u)) ≡ foundOf (surfaceWith v u f)
     some-found v u =
-        (λ j. at (further-scaled s v u (i *ℤ pos 10) (area axis f) p above j) (which-scaled s v u (i *ℤ pos 10) (area axis f) p above j))
-        ∙ ap (λ a. at ((further s (v *ℤ a) (u *ℤ a) -ℤ i *ℤ pos 10 *ℤ a) *ℤ p) (which s (v *ℤ a) (u *ℤ a))) (with-area axis v u f)
+        (λ j.
+        at (further-scaled s v u (i *ℤ pos 10) (area axis f) p above j)
+        (which-scaled s v u (i *ℤ pos 10) (area axis f) p above j))
+        ∙ ap (λ a. at ((further s (v *ℤ a) (u *ℤ a) -ℤ i *ℤ pos 10 *ℤ a) *ℤ p) (which s (v *ℤ a) (u *ℤ a)))
+        (with-area axis v u f)
 
     abbrev bestOf : Bool → List ℤ → Best ℕ
     bestOf t outs =
         best s (λ k. cond t (forceAt (getD outs (k - 1) (pos 0))) (pos 0)) (cond t (numbers (length outs) 1) (1 ∷ []))
 
-    acting : (outs : List ℤ) → OneOrTwo outs → bestOf true outs ≡ foundOf (surfaceWith (getD outs 0 (pos 0)) (getD outs (length outs - 1) (pos 0)) f)
+    acting : (outs : List ℤ) → OneOrTwo outs
+        → bestOf true outs ≡ foundOf (surfaceWith (getD outs 0 (pos 0)) (getD outs (length outs - 1) (pos 0)) f)
     unfolding best better numbers
     acting outs (alone v) = one-best s (forceAt v) ∙ some-found v v
     acting outs (pair v u) = two-best s (forceAt v) (forceAt u) ∙ some-found v u
@@ -91,9 +99,12 @@ module _ (s : Side) (axis : Axis) (p i : ℤ) where
     unfolding best better
     aside outs = nothing-found
 
-    pub face-best : (d : ℤ) (outs : List ℤ) → (acts f d ≡ true → OneOrTwo outs) → bestOf (acts f d) outs ≡ foundOf (surfaceOf outs d f)
+    pub face-best : (d : ℤ) (outs : List ℤ) → (acts f d ≡ true → OneOrTwo outs)
+        → bestOf (acts f d) outs ≡ foundOf (surfaceOf outs d f)
     face-best d outs h = go (acts f d) refl
       where
-        go : (t : Bool) → acts f d ≡ t → bestOf t outs ≡ foundOf (cond t (surfaceWith (getD outs 0 (pos 0)) (getD outs (length outs - 1) (pos 0)) f) noSurface)
+        go : (t : Bool) → acts f d ≡ t
+            → bestOf t outs ≡ foundOf
+            (cond t (surfaceWith (getD outs 0 (pos 0)) (getD outs (length outs - 1) (pos 0)) f) noSurface)
         go true e = acting outs (h e)
         go false e = aside outs

@@ -1,4 +1,5 @@
--- The third demand for accepted jobs: what is shown bounds every case and is reached first where shown; more winds and internal coefficients show no less; faster winds show no less on their side of zero.
+-- The third demand for accepted jobs: what is shown bounds every case and is reached first where shown; more winds
+-- and internal coefficients show no less; faster winds show no less on their side of zero.
 use mathlib.Core.Path.{_≡_, refl, sym, ap, _∙_}
 use mathlib.Core.Bool.{Bool, true, false, cond}
 use mathlib.Core.List.{List, [], _∷_, List·Memᴰ, List·Memᴰ·head}
@@ -12,7 +13,7 @@ use Rattle.job.specs.Carried.{Carried, noWind}
 use Rattle.job.specs.InOrder.{InOrder}
 use Rattle.worst.specs.declared.Side.{Side}
 use Rattle.worst.specs.declared.Axis.{Axis}
-use Rattle.worst.specs.Best.{Within, Best, at, IsBest}
+use Rattle.worst.specs.Best.{NoFurther, Best, at, IsBest}
 use Rattle.worst.specs.Cases.{Case, numbers, cases, caseTotal, worst}
 use Rattle.worst.specs.Forces.{acts, windAt, loads}
 use Rattle.worst.specs.Shown.{shown}
@@ -30,7 +31,8 @@ unfolding numbers
 first-of-some outs (alone v) = List·Memᴰ·head refl
 first-of-some outs (pair v u) = List·Memᴰ·head refl
 
-first-alternative : (t : Bool) (outs : List ℤ) → (t ≡ true → OneOrTwo outs) → List·Memᴰ 1 (cond t (numbers (length outs) 1) (1 ∷ []))
+first-alternative : (t : Bool) (outs : List ℤ) → (t ≡ true → OneOrTwo outs)
+    → List·Memᴰ 1 (cond t (numbers (length outs) 1) (1 ∷ []))
 first-alternative true outs h = first-of-some outs (h refl)
 first-alternative false outs h = List·Memᴰ·head refl
 
@@ -39,31 +41,49 @@ module _ (axis : Axis) (s : Side) (c : Carried) where
   pub record Shows : Type 0 where
     pub case : Case ℕ ℕ ℕ
     pub found : worst s (loads axis (given c)) ≡ at (extreme axis s c .total) case
-    pub best : IsBest s (caseTotal (loads axis (given c))) (cases (loads axis (given c))) (extreme axis s c .total) case
+    pub best : IsBest s (caseTotal (loads axis (given c))) (cases (loads axis (given c)))
+        (extreme axis s c .total) case
     pub named : extreme axis s c ≡ shown (length (c .faces)) (at (extreme axis s c .total) case)
 
   pub extreme-shows : InOrder c → Shows
   unfolding shown
   extreme-shows o =
       let l = loads axis (given c) in
-      let hw = member-numbers 1 (length (c .winds)) 1 (record { low = omega arith; high = omega (arith, o .winds-counted .low) }) in
-      let hi = member-numbers 1 (length (c .internals)) 1 (record { low = omega arith; high = omega (arith, o .internals-counted .low) }) in
+      let hw =
+      member-numbers 1 (length (c .winds)) 1
+      (record { low = omega arith; high = omega (arith, o .winds-counted .low) }) in
+      let hi =
+      member-numbers 1 (length (c .internals)) 1
+      (record { low = omega arith; high = omega (arith, o .internals-counted .low) }) in
       let w = getD-member (c .winds) 0 noWind (omega (arith, o .winds-counted .low)) in
-      let r = worst-found s l 1 1 hw hi (λ f m. (1, first-alternative (acts f (windAt (given c) 1 .direction)) _ (given-sound c o .outside (windAt (given c) 1) f w m))) in
-      let e : extreme axis s c .total ≡ r .0 = ap (λ (b : Best (Case ℕ ℕ ℕ)). shown (length (c .faces)) b .total) (r .2) in
+      let r =
+      worst-found s l 1 1 hw hi
+      (λ f m. (1, first-alternative (acts f (windAt (given c) 1 .direction)) _ (given-sound c o .outside (windAt (given c) 1) f w m))) in
+      let e : extreme axis s c .total ≡ r .0 =
+      ap (λ (b : Best (Case ℕ ℕ ℕ)). shown (length (c .faces)) b .total) (r .2) in
       let f : worst s l ≡ at (extreme axis s c .total) (r .1) = r .2 ∙ ap (λ (v : ℤ). at v (r .1)) (sym e) in
-      record { case = r .1; found = f; best = worst-is s l (extreme axis s c .total) (r .1) f; named = ap (shown (length (c .faces))) f }
+      record {
+        case = r .1;
+        found = f;
+        best = worst-is s l (extreme axis s c .total) (r .1) f;
+        named = ap (shown (length (c .faces))) f;
+      }
 
 -- ---- more, and faster
 
-module _ (c c′ : Carried) (building : c .building ≡ c′ .building) (faces : c .faces ≡ c′ .faces) (o : InOrder c) (o′ : InOrder c′) where
+module _ (c c′ : Carried) (building : c .building ≡ c′ .building) (faces : c .faces ≡ c′ .faces) (o : InOrder c)
+    (o′ : InOrder c′) where
   same-site : SameSite (given c) (given c′)
   same-site =
-      record { density = ap (λ b. b .density) building; outside = ap (λ b. λ direction zone. valuesOf (outsideOf b direction zone)) building; faces = faces }
+      record {
+        density = ap (λ b. b .density) building;
+        outside = ap (λ b. λ direction zone. valuesOf (outsideOf b direction zone)) building;
+        faces = faces;
+      }
 
   -- every wind and internal coefficient of c is one of c′
   pub extreme-more : AllIn _≡_ (c .winds) (c′ .winds) → AllIn _≡_ (c .internals) (c′ .internals)
-      → (axis : Axis) (s : Side) → Within s (extreme axis s c .total) (extreme axis s c′ .total)
+      → (axis : Axis) (s : Side) → NoFurther s (extreme axis s c .total) (extreme axis s c′ .total)
   extreme-more hw hi axis s =
       let f = extreme-shows axis s c o in
       let f′ = extreme-shows axis s c′ o′ in
@@ -71,7 +91,8 @@ module _ (c c′ : Carried) (building : c .building ≡ c′ .building) (faces :
 
   -- every wind of c has one of c′ in its direction that is no slower
   pub extreme-faster : AllIn Faster (c .winds) (c′ .winds) → AllIn _≡_ (c .internals) (c′ .internals)
-      → (axis : Axis) (s : Side) → Within s (pos 0) (extreme axis s c .total) → Within s (extreme axis s c .total) (extreme axis s c′ .total)
+      → (axis : Axis) (s : Side) → NoFurther s (pos 0) (extreme axis s c .total)
+      → NoFurther s (extreme axis s c .total) (extreme axis s c′ .total)
   extreme-faster hw hi axis s =
       let f = extreme-shows axis s c o in
       let f′ = extreme-shows axis s c′ o′ in

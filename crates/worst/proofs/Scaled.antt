@@ -1,4 +1,5 @@
--- A face's forces are its products of outside coefficient and area, less internal coefficient × area, times the pressure number: where that is above 0,
+-- A face's forces are its products of outside coefficient and area, less internal coefficient × area, times the
+-- pressure number: where that is above 0,
 -- neither changes which alternative is further out, and both go out of the sum over faces.
 use mathlib.Core.Path.{_≡_, refl, sym, ap, ap₂, _∙_}
 use mathlib.Core.Bool.{Bool, true, false, cond}
@@ -8,7 +9,8 @@ use native.Mathlib.Nat.{mul-lt-mul-of-pos-right}
 use native.Mathlib.Omega.{arith}
 use lib.IntN.{ℤ, pos, negsuc, negℤ, _+ℤ_, _-ℤ_, _*ℤ_, zero-*ℤ, *ℤ-zero, *ℤ-comm}
 use lib.Signed.{ltZ, _<ℤ_}
-use Rattle.whole.proofs.Parts.{order, add-law, sub-lawℤ, up-neg, down-neg, up-mul, down-mul, up-scale, down-scale, eq-by, lt-at, lt-by}
+use Rattle.whole.proofs.Parts.{order, add-law, sub-lawℤ, up-neg, down-neg, up-mul, down-mul, up-scale, down-scale}
+use Rattle.whole.proofs.Parts.{eq-by, lt-at, lt-by}
 use Rattle.whole.proofs.Order.{lt-true, lt-false, true-lt, false-lt, *ℤ-mono, *ℤ-+ℤ, *ℤ-assoc}
 use Rattle.worst.specs.declared.Side.{Side}
 use Rattle.worst.specs.declared.Side.the-variants.{Greatest, Least}
@@ -28,7 +30,8 @@ ltZ-scale x y (pos n) h = go (ltZ x y) refl
 
     go : (t : Bool) → ltZ x y ≡ t → ltZ (x *ℤ pos n) (y *ℤ pos n) ≡ t
     go true e =
-        true-lt {x = x *ℤ pos n} {y = y *ℤ pos n} (lt-by _ _ (simp (up-scale, down-scale) (omega (arith, mul-lt-mul-of-pos-right (lt-at x y (lt-true x y e)) some))))
+        true-lt {x = x *ℤ pos n} {y = y *ℤ pos n}
+        (lt-by _ _ (simp (up-scale, down-scale) (omega (arith, mul-lt-mul-of-pos-right (lt-at x y (lt-true x y e)) some))))
     go false e = false-lt (*ℤ-mono n (lt-false x y e))
 
 short-scale : (s : Side) (x y p : ℤ) → pos 0 <ℤ p → short s (x *ℤ p) (y *ℤ p) ≡ short s x y
@@ -93,10 +96,12 @@ pair-minus x y u v =
 times-plus : (c x y : ℤ) → c *ℤ x +ℤ c *ℤ y ≡ c *ℤ (x +ℤ y)
 times-plus c x y = ap₂ _+ℤ_ (*ℤ-comm c x) (*ℤ-comm c y) ∙ sym (*ℤ-+ℤ x y c) ∙ *ℤ-comm (x +ℤ y) c
 
-pub sum-scaled : {A : Type 0} (value area : A → ℤ) (c p : ℤ) (l : List A) → sum (λ x. (value x -ℤ c *ℤ area x) *ℤ p) l ≡ (sum value l -ℤ c *ℤ sum area l) *ℤ p
+pub sum-scaled : {A : Type 0} (value area : A → ℤ) (c p : ℤ) (l : List A)
+    → sum (λ x. (value x -ℤ c *ℤ area x) *ℤ p) l ≡ (sum value l -ℤ c *ℤ sum area l) *ℤ p
 unfolding sum
 sum-scaled value area c p [] = sym (ap (λ z. (pos 0 -ℤ z) *ℤ p) (*ℤ-zero c) ∙ zero-*ℤ p)
 sum-scaled value area c p (x ∷ xs) =
     ap (λ z. (value x -ℤ c *ℤ area x) *ℤ p +ℤ z) (sum-scaled value area c p xs)
     ∙ sym (*ℤ-+ℤ (value x -ℤ c *ℤ area x) (sum value xs -ℤ c *ℤ sum area xs) p)
-    ∙ ap (λ z. z *ℤ p) (pair-minus (value x) (sum value xs) (c *ℤ area x) (c *ℤ sum area xs) ∙ ap (λ z. (value x +ℤ sum value xs) -ℤ z) (times-plus c (area x) (sum area xs)))
+    ∙ ap (λ z. z *ℤ p)
+    (pair-minus (value x) (sum value xs) (c *ℤ area x) (c *ℤ sum area xs) ∙ ap (λ z. (value x +ℤ sum value xs) -ℤ z) (times-plus c (area x) (sum area xs)))

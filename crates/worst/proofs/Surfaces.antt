@@ -1,4 +1,5 @@
--- A face that takes part, with the coefficients that were answered, is as its direction meets it; so is nothing, where it does not.
+-- A face that takes part, with the coefficients that were answered, is as its direction meets it; so is nothing,
+-- where it does not.
 use mathlib.Core.Path.{_≡_, sym, ap, _∙_}
 use mathlib.Core.Bool.{true, false, cond}
 use Prim.Native.Nat.{ℕ, _-_}
@@ -25,11 +26,15 @@ module _ (b : Building) (d : ℤ) (f : Face) where
     answered a = outsideOf b d (f .zone) ≡ a
 
     pub surface-one : (v : ℤ) → answered (One v) → surfaceWith v v f ≡ surfaceOn b d f
-    surface-one v q = ap (λ t. cond t (surfaceWith v v f) noSurface) (sym e) ∙ ap (λ a. surfaceOf (valuesOf a) d f) (sym q)
+    surface-one v q =
+        ap (λ t. cond t (surfaceWith v v f) noSurface) (sym e) ∙ ap (λ a. surfaceOf (valuesOf a) d f) (sym q)
 
     pub surface-two : (v u : ℤ) → answered (Two v u) → surfaceWith v u f ≡ surfaceOn b d f
-    surface-two v u q = ap (λ t. cond t (surfaceWith v u f) noSurface) (sym e) ∙ ap (λ a. surfaceOf (valuesOf a) d f) (sym q)
+    surface-two v u q =
+        ap (λ t. cond t (surfaceWith v u f) noSurface) (sym e) ∙ ap (λ a. surfaceOf (valuesOf a) d f) (sym q)
 
-    pub surface-none : (number line : ℕ) → answered (Refused number line) → surfaceWith (pos 0) (pos 0) f ≡ surfaceOn b d f
+    pub surface-none : (number line : ℕ) → answered (Refused number line)
+        → surfaceWith (pos 0) (pos 0) f ≡ surfaceOn b d f
     surface-none number line q =
-        ap (λ t. cond t (surfaceWith (pos 0) (pos 0) f) noSurface) (sym e) ∙ ap (λ a. surfaceOf (valuesOf a) d f) (sym q)
+        ap (λ t. cond t (surfaceWith (pos 0) (pos 0) f) noSurface) (sym e)
+        ∙ ap (λ a. surfaceOf (valuesOf a) d f) (sym q)

@@ -9,4 +9,10 @@ use Rattle.whole.proofs.Size.{Num, num≤, back}
 
 abbrev pub told : (r z : ℤ) {k : ℕ} → r ≡ z → natAbs z ≤ k → T (ltb k (2 ^ 63)) → Num
 told r z {k} e h t =
-    record { has = toZ w64 (ofZ w64 r); is = z; most = k; same = ap (λ (x : ℤ). toZ w64 (ofZ w64 x)) e ∙ back w64 (num≤ z h) t .same; small = h }
+    record {
+      has = toZ w64 (ofZ w64 r);
+      is = z;
+      most = k;
+      same = ap (λ (x : ℤ). toZ w64 (ofZ w64 x)) e ∙ back w64 (num≤ z h) t .same;
+      small = h;
+    }

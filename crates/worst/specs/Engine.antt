@@ -79,7 +79,11 @@ spanOf axis fs =
 
 abbrev pub sumsOf : Axis → List Surface → Sums
 sumsOf axis fs =
-    record { span = spanOf axis fs; high = padded 24 (map (pick Greatest axis) fs); low = padded 24 (map (pick Least axis) fs) }
+    record {
+      span = spanOf axis fs;
+      high = padded 24 (map (pick Greatest axis) fs);
+      low = padded 24 (map (pick Least axis) fs);
+    }
 
 abbrev pub axesOf : List Surface → Axes
 axesOf fs = record { x = sumsOf X fs; y = sumsOf Y fs; z = sumsOf Z fs }
@@ -87,7 +91,16 @@ axesOf fs = record { x = sumsOf X fs; y = sumsOf Y fs; z = sumsOf Z fs }
 -- one face more, at place i
 abbrev pub withFace : Axis → ℕ → Surface → Sums → Sums
 withFace axis i f p =
-    record { span = record { greatest = p .span .greatest +ℤ reach Greatest axis f; least = p .span .least +ℤ reach Least axis f; area = p .span .area +ℤ areaOf axis f }; high = set (p .high) i (pick Greatest axis f); low = set (p .low) i (pick Least axis f) }
+    record {
+      span =
+          record {
+            greatest = p .span .greatest +ℤ reach Greatest axis f;
+            least = p .span .least +ℤ reach Least axis f;
+            area = p .span .area +ℤ areaOf axis f;
+          };
+      high = set (p .high) i (pick Greatest axis f);
+      low = set (p .low) i (pick Least axis f);
+    }
 
 abbrev pub withSurface : ℕ → Surface → Axes → Axes
 withSurface i f p = record { x = withFace X i f (p .x); y = withFace Y i f (p .y); z = withFace Z i f (p .z) }
@@ -111,15 +124,15 @@ abbrev pub cellTotal : Side → Span → ℤ → ℤ → ℤ
 cellTotal s p pressure internal = (sumOf s p -ℤ internal *ℤ pos 10 *ℤ p .area) *ℤ pressure
 
 -- where a cell stands: the numbers of its wind and its internal coefficient
-pub record Spot : Type 0 where
+pub record Cell : Type 0 where
   pub wind : ℕ
   pub internal : ℕ
 
-abbrev pub spot : ℕ → ℕ → Spot
-spot w i = record { wind = w; internal = i }
+abbrev pub cell : ℕ → ℕ → Cell
+cell w i = record { wind = w; internal = i }
 
-abbrev pub topOf : Top → Best Spot
-topOf t = cond (eqb (t .wind) 0) none (at (t .total) (spot (t .wind) (t .internal)))
+abbrev pub topOf : Top → Best Cell
+topOf t = cond (eqb (t .wind) 0) none (at (t .total) (cell (t .wind) (t .internal)))
 
 abbrev pub endOf : Side → Ends → Top
 endOf Greatest e = e .greatest
@@ -133,28 +146,38 @@ abbrev pub internalOf : Internals → ℕ → ℤ
 internalOf is i = getD (is .entry) (i - 1) (pos 0)
 
 -- the best of one cell; of a wind's cells; and of all
-abbrev pub cellBest : Side → Span → ℤ → Internals → ℕ → ℕ → Best Spot
-cellBest s p pressure is w i = at (cellTotal s p pressure (internalOf is i)) (spot w i)
+abbrev pub cellBest : Side → Span → ℤ → Internals → ℕ → ℕ → Best Cell
+cellBest s p pressure is w i = at (cellTotal s p pressure (internalOf is i)) (cell w i)
 
-abbrev pub cellsBest : Side → Span → ℤ → Internals → ℕ → Best Spot
+abbrev pub cellsBest : Side → Span → ℤ → Internals → ℕ → Best Cell
 cellsBest s p pressure is w = over s (cellBest s p pressure is w) (numbers (is .count) 1)
 
-abbrev pub windBest : Side → Building → Winds → Internals → Sums → Sums → ℕ → Best Spot
+abbrev pub windBest : Side → Building → Winds → Internals → Sums → Sums → ℕ → Best Cell
 windBest s b ws is zero ninety w =
     cellsBest s (under (windOf ws w .direction) zero ninety .span) (pressure (b .density) (windOf ws w)) is w
 
-unfoldable pub bestCell : Side → Job → Sums → Sums → Best Spot
-bestCell s j zero ninety = over s (windBest s (j .building) (j .winds) (j .internals) zero ninety) (numbers (j .winds .count) 1)
+unfoldable pub bestCell : Side → Job → Sums → Sums → Best Cell
+bestCell s j zero ninety =
+    over s (windBest s (j .building) (j .winds) (j .internals) zero ninety) (numbers (j .winds .count) 1)
 
 -- a cell as it is shown
-abbrev pub cellShown : Side → Job → Sums → Sums → Best Spot → Extreme
+abbrev pub cellShown : Side → Job → Sums → Sums → Best Cell → Extreme
 cellShown s j zero ninety none = shown (j .faces .count) none
 cellShown s j zero ninety (at v t) =
-    record { total = v; wind = t .wind; internal = t .internal; faces = j .faces .count; alternative = alternativesOf s (under (windOf (j .winds) (t .wind) .direction) zero ninety) }
+    record {
+      total = v;
+      wind = t .wind;
+      internal = t .internal;
+      faces = j .faces .count;
+      alternative = alternativesOf s (under (windOf (j .winds) (t .wind) .direction) zero ninety);
+    }
 
 abbrev pub extremesOf : Job → Sums → Sums → Extremes
 extremesOf j zero ninety =
-    record { greatest = cellShown Greatest j zero ninety (bestCell Greatest j zero ninety); least = cellShown Least j zero ninety (bestCell Least j zero ninety) }
+    record {
+      greatest = cellShown Greatest j zero ninety (bestCell Greatest j zero ninety);
+      least = cellShown Least j zero ninety (bestCell Least j zero ninety);
+    }
 
 -- ---- bounds
 
@@ -201,15 +224,17 @@ pub record Ready (j : Job) : Type 0 where
   pub someInternal : 0 < j .internals .count
   pub internals : LowInternals (j .internals)
   pub faces : j .faces .count ≤ 24
-  pub small : (d : ℤ) → knows (j .building .kind) d ≡ true → FacesSmall (j .building) d (j .faces .count) (j .faces .entry)
+  pub small : (d : ℤ) → knows (j .building .kind) d ≡ true
+      → FacesSmall (j .building) d (j .faces .count) (j .faces .entry)
 
 -- n faces, which are all of them where a wind has the direction
 pub record Meets (j : Job) (direction : ℤ) (n : ℕ) : Type 0 where
   pub most : n ≤ j .faces .count
-  pub all : (k : ℕ) → k < j .winds .count → getD (j .winds .entry) k noWind .direction ≡ direction → n ≡ j .faces .count
+  pub all : (k : ℕ) → k < j .winds .count → getD (j .winds .entry) k noWind .direction ≡ direction
+      → n ≡ j .faces .count
 
 -- a cell of the job
-pub record OnJob (j : Job) (t : Spot) : Type 0 where
+pub record OnJob (j : Job) (t : Cell) : Type 0 where
   pub wind : 0 < t .wind
   pub wind≤ : t .wind ≤ j .winds .count
   pub internal : 0 < t .internal

@@ -1,4 +1,5 @@
--- The force of a face on an axis, formula [3.2.8]: net coefficient × pressure number × projected area. From it, the cases of a job with their totals.
+-- The force of a face on an axis, formula [3.2.8]: net coefficient × pressure number × projected area. From it, the
+-- cases of a job with their totals.
 use mathlib.Core.Bool.{Bool, cond, _||_}
 use mathlib.Core.List.{List, [], _∷_}
 use Prim.Native.Nat.{ℕ, _-_}
@@ -14,7 +15,8 @@ use Rattle.job.specs.Carried.{noWind}
 use Rattle.entry.specs.Says.{both}
 use Rattle.worst.specs.Cases.{Loads, numbers}
 
--- what a job gives: of its building the air density, and the outside coefficients of a zone under a direction, in thousandths
+-- what a job gives: of its building the air density, and the outside coefficients of a zone under a direction, in
+-- thousandths
 pub record Given : Type 0 where
   pub density : ℤ
   pub outside : ℤ → ℕ → List ℤ
@@ -47,7 +49,8 @@ area Z f = f .z
 -- at its alternative k
 abbrev pub force : Axis → Given → Wind → ℤ → Face → ℕ → ℤ
 force axis g w internal f k =
-    cond (acts f (w .direction)) (net (getD (outsides g w f) (k - 1) (pos 0)) internal *ℤ pressure (g .density) w *ℤ area axis f) (pos 0)
+    cond (acts f (w .direction))
+    (net (getD (outsides g w f) (k - 1) (pos 0)) internal *ℤ pressure (g .density) w *ℤ area axis f) (pos 0)
 
 -- ---- all of them
 

@@ -1,11 +1,13 @@
-// Every wind and internal coefficient in order: the total of each cell on one axis, and the best cell kept on either side.
+// Every wind and internal coefficient in order: the total of each cell on one axis, and the best cell kept on either
+// side.
 ghost use mathlib.Core.Path.{_≡_};
 ghost use Prim.Native.Nat.{_≤_, _<_};
 ghost use lib.IntN.{natAbs};
 ghost use Rattle.worst.specs.declared.Side.{Side};
 ghost use Rattle.worst.specs.Best.{at, better};
 ghost use Rattle.worst.specs.Forces.{pressure};
-ghost use Rattle.worst.specs.Engine.{SpanSmall, SumsSmall, Dense, Slow, LowInternals, Ready, spot, topOf, endOf, under, cellTotal, cellsBest, bestCell};
+ghost use Rattle.worst.specs.Engine.{SpanSmall, SumsSmall, Dense, Slow, LowInternals, Ready, cell, topOf};
+ghost use Rattle.worst.specs.Engine.{endOf, under, cellTotal, cellsBest, bestCell};
 use crate::Side;
 use crate::sums::Span;
 use crate::sums::Sums;
@@ -35,7 +37,8 @@ pub(crate) fn sums_under(direction: i64, zero: Sums, ninety: Sums) -> Sums
     zero
 }
 
-// One cell more. The internal coefficient is one for all faces, so it meets the sum of their areas; it is in hundredths.
+// One cell more. The internal coefficient is one for all faces, so it meets the sum of their areas; it is in
+// hundredths.
 fn with_cell(
     ends: Ends,
     span: Span,
@@ -45,7 +48,7 @@ fn with_cell(
     number: usize,
 ) -> Ends
     requires { ⌜ SpanSmall 24 span × (natAbs pressure ≤ 1500000000) × (natAbs internal ≤ 100) × (0 < wind) ⌝ }
-    ensures { λ r. ⌜ ((s : Side) → topOf (endOf s r) ≡ better s (topOf (endOf s ends)) (at (cellTotal s span pressure internal) (spot wind number))) ⌝ }
+    ensures { λ r. ⌜ ((s : Side) → topOf (endOf s r) ≡ better s (topOf (endOf s ends)) (at (cellTotal s span pressure internal) (cell wind number))) ⌝ }
 {
     let inside = internal * 10 * span.area;
     let high = (span.greatest - inside) * pressure;

@@ -1,11 +1,13 @@
-// The six extremes of a job: its faces are added up under each direction, then on each axis the best cells are found and shown.
+// The six extremes of a job: its faces are added up under each direction, then on each axis the best cells are found
+// and shown.
 ghost use mathlib.Core.Path.{_≡_};
 ghost use Prim.Native.Nat.{_<_};
 ghost use Rattle.worst.specs.Best.{at};
 ghost use Rattle.job.specs.Carried.{carried};
 ghost use Rattle.job.specs.InOrder.{InOrder};
 ghost use Rattle.worst.specs.Worst.{sixExtremes};
-ghost use Rattle.worst.specs.Engine.{SumsSmall, Ready, Meets, OnJob, spot, alternativesOf, cellShown, extremesOf};
+ghost use Rattle.worst.specs.Engine.{SumsSmall, Ready, Meets, OnJob, cell, alternativesOf, cellShown};
+ghost use Rattle.worst.specs.Engine.{extremesOf};
 use crate::Extreme;
 use crate::Extremes;
 use crate::Side;
@@ -28,8 +30,8 @@ fn alternatives(side: Side, sums: Sums) -> [u8; 24]
 
 // The case of a cell that was found.
 fn extreme(job: Job, side: Side, zero: Sums, ninety: Sums, top: Top) -> Extreme
-    requires { ⌜ Ready job × OnJob job (spot (top .wind) (top .internal)) ⌝ }
-    ensures { λ r. ⌜ r ≡ cellShown side job zero ninety (at (top .total) (spot (top .wind) (top .internal))) ⌝ }
+    requires { ⌜ Ready job × OnJob job (cell (top .wind) (top .internal)) ⌝ }
+    ensures { λ r. ⌜ r ≡ cellShown side job zero ninety (at (top .total) (cell (top .wind) (top .internal))) ⌝ }
 {
     let winds = job.winds;
     let k = top.wind - 1;

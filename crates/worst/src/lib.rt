@@ -1,4 +1,5 @@
-// The worst cases of a job: on each axis the greatest and the least total over every permitted case, with the first case that reaches it.
+// The worst cases of a job: on each axis the greatest and the least total over every permitted case, with the first
+// case that reaches it.
 ghost use mathlib.Core.Path.{_≡_};
 ghost use Rattle.worst.specs.Worst.{worstOf};
 use job::Job;

@@ -1,10 +1,12 @@
-// The faces of one direction, added up once for all winds and internal coefficients: pressure and internal coefficient are the
+// The faces of one direction, added up once for all winds and internal coefficients: pressure and internal
+// coefficient are the
 // same for every face, so neither changes which of a face's alternatives is further out.
 ghost use mathlib.Core.Path.{_≡_};
 ghost use mathlib.Core.List.{map};
 ghost use Prim.Native.Nat.{_≤_, _<_};
 ghost use lib.ListN.{take};
-ghost use Rattle.worst.specs.Engine.{Small, SumsSmall, AxesSmall, FacesSmall, areaOf, further, which, surfaceOn, withFace, withSurface, axesOf};
+ghost use Rattle.worst.specs.Engine.{Small, SumsSmall, AxesSmall, FacesSmall, areaOf, further, which};
+ghost use Rattle.worst.specs.Engine.{surfaceOn, withFace, withSurface, axesOf};
 use crate::Axis;
 use crate::Side;
 use crate::surface::Surface;

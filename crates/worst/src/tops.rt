@@ -2,7 +2,7 @@
 ghost use mathlib.Core.Path.{_≡_};
 ghost use Prim.Native.Nat.{_<_};
 ghost use Rattle.worst.specs.Best.{short, at, better};
-ghost use Rattle.worst.specs.Engine.{spot, topOf};
+ghost use Rattle.worst.specs.Engine.{cell, topOf};
 use crate::Side;
 
 // Nothing yet, where the wind is 0.
@@ -30,7 +30,7 @@ pub(crate) fn falls_short(side: Side, x: i64, y: i64) -> bool
 // A later cell takes the place of an earlier one only where that falls short of it.
 pub(crate) fn kept(side: Side, top: Top, total: i64, wind: usize, internal: usize) -> Top
     requires { ⌜ 0 < wind ⌝ }
-    ensures { λ r. ⌜ topOf r ≡ better side (topOf top) (at total (spot wind internal)) ⌝ }
+    ensures { λ r. ⌜ topOf r ≡ better side (topOf top) (at total (cell wind internal)) ⌝ }
 {
     let earlier = top.total;
     if top.wind == 0 {

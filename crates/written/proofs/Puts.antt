@@ -8,8 +8,8 @@ use lib.ListN.{length, getD, take}
 use lib.Seq.{take-suc, take-all}
 use Rattle.form.specs.declared.Field.{Field}
 use Rattle.lines.specs.declared.Line.{Line}
-use Rattle.lines.specs.Lines.{textOf}
-use Rattle.lines.specs.Held.{held, lineOf}
+use Rattle.lines.specs.Lines.{textOfLines}
+use Rattle.lines.specs.Held.{held, heldLine}
 use Rattle.page.specs.Writing.{Put}
 use Rattle.lines.proofs.Held.{held-all}
 use Rattle.line.proofs.Texts.{textOf-append}
@@ -31,33 +31,33 @@ module _ (j : Job) where
   entry-six F i = omega arith
 
   pub entry-held : (s : Section) (i : ℕ) (x : Line) → i < length (entriesOf (carried j) s)
-      → x ≡ lineOf 0 (entryOf j s i) → held x ≡ getD (entriesOf (carried j) s) i []
+      → x ≡ heldLine 0 (entryOf j s i) → held x ≡ getD (entriesOf (carried j) s) i []
   entry-held s i x h e = rw e (held-all 0 (entryOf j s i) (entry-six s i) .0 ∙ sym (entry-is j s i h))
 
 -- lines, and then others from where they ended
-pub then-lines : {l m n : List ℕ} {at r r′ : ℕ} (xs ys : List (List Field)) → Put l at (textOf xs) m r
-    → Put m r (textOf ys) n r′ → Put l at (textOf (xs ++ ys)) n r′
+pub then-lines : {l m n : List ℕ} {at r r′ : ℕ} (xs ys : List (List Field)) → Put l at (textOfLines xs) m r
+    → Put m r (textOfLines ys) n r′ → Put l at (textOfLines (xs ++ ys)) n r′
 then-lines xs ys v w = rw textOf-append (then v w)
 
 -- no entry yet, from where the count ended
-pub put-none : {l m : List ℕ} {at r : ℕ} {s : List ℕ} → Put l at s m r → Put m r (textOf []) m r
-unfolding textOf
+pub put-none : {l m : List ℕ} {at r : ℕ} {s : List ℕ} → Put l at s m r → Put m r (textOfLines []) m r
+unfolding textOfLines
 put-none {l} {m} {at} {r} w = put-nothing m r (omega (arith, w .end, put-length w))
 
 -- one entry more
 pub put-entry : {l m n : List ℕ} {at r r′ : ℕ} (es : List (List Field)) (i : ℕ) (x : Line) → i < length es
     → held x ≡ getD es i []
-    → Put l at (textOf (take i es)) m r → Put m r (textOf (held x ∷ [])) n r′
-    → Put l at (textOf (take (i + 1) es)) n r′
+    → Put l at (textOfLines (take i es)) m r → Put m r (textOfLines (held x ∷ [])) n r′
+    → Put l at (textOfLines (take (i + 1) es)) n r′
 put-entry {l} {n = n} {at} {r′ = r′} es i x h e v w =
     let q : take i es ++ (held x ∷ []) ≡ take (i + 1) es = rw (add-one, take-suc es i [], e) in
     rw q at (then-lines (take i es) (held x ∷ []) v w)
 
 -- all of them: the section
 pub put-all : {l m n : List ℕ} {at r r′ : ℕ} (s : Section) (es : List (List Field)) (i : ℕ) (x : Line) → length es ≤ i
-    → x ≡ lineOf 0 (countLine s (length es))
-    → Put l at (textOf (held x ∷ [])) m r → Put m r (textOf (take i es)) n r′
-    → Put l at (textOf (sectionOf s es)) n r′
+    → x ≡ heldLine 0 (countLine s (length es))
+    → Put l at (textOfLines (held x ∷ [])) m r → Put m r (textOfLines (take i es)) n r′
+    → Put l at (textOfLines (sectionOf s es)) n r′
 put-all s es i x h e v w =
     let c : held x ≡ countLine s (length es) = rw e (held-all 0 (countLine s (length es)) (omega arith) .0) in
     then-lines (countLine s (length es) ∷ []) es (rw c at v) (rw (take-all i es h) at w)

@@ -12,7 +12,7 @@ use rules::shape::count_line;
 ghost use mathlib.Core.Path.{_≡_};
 ghost use Prim.Native.Nat.{_≤_};
 ghost use lib.ListN.{length};
-ghost use Rattle.lines.specs.Lines.{textOf};
+ghost use Rattle.lines.specs.Lines.{textOfLines};
 ghost use Rattle.page.specs.Writing.{Put};
 ghost use Rattle.job.specs.Carried.{carried};
 ghost use Rattle.rules.specs.Sections.{about};
@@ -24,7 +24,7 @@ ghost use Rattle.written.specs.Roomed.{Roomed};
 // A section of n entries: its count, and the entries.
 fn put_section(buf: &mut [u8], at: usize, j: Job, sec: Section, n: u32) -> usize
     requires { ⌜ (n ≡ length (entriesOf (carried j) sec)) × (n ≤ about sec .most) ⌝ }
-    ensures { λ r. ⌜ Put (now (buf .entry)) at (textOf (sectionOf sec (entriesOf (carried j) sec)))
+    ensures { λ r. ⌜ Put (now (buf .entry)) at (textOfLines (sectionOf sec (entriesOf (carried j) sec)))
         (now (buf .exit)) r ⌝ }
 {
     let g = j.building;

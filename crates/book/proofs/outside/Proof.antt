@@ -7,7 +7,7 @@ use Rattle.building.specs.declared.Question.{Question}
 use Rattle.building.specs.Question.{askedOf}
 use Rattle.whole.proofs.Size.{said}
 use Rattle.building.proofs.Judged.{Told, told}
-use Rattle.book.specs.Question.{coefficientOf, answer, outsideOf}
+use Rattle.book.specs.Question.{coefficientOf, answerTo, outsideOf}
 use Rattle.book.proofs.outside.Statement.{statement}
 use Rattle.book.proofs.outside.Tie as tie
 
@@ -38,7 +38,7 @@ returns c =
     c .coefficient .ensures
     ∙ ap (λ (n : ℕ). coefficientOf (q .q .given .0 .0) n (a .place))
     (said natAbs (a .direction) (c .before .magnitude .ensures) (s .fits .direction .sfits))
-    ∙ ap (λ (q : Question). answer q (natAbs (a .direction)) (a .place)) (sym (q .q .given .1) ∙ asked d)
+    ∙ ap (λ (q : Question). answerTo q (natAbs (a .direction)) (a .place)) (sym (q .q .given .1) ∙ asked d)
 
 returns-2 : tie.Need-returns-2
 unfolding outsideOf
@@ -46,7 +46,7 @@ returns-2 c =
     let q = c .before in
     let d = q .before .before in
     let a = d .before .args in
-    ap (λ (q : Question). answer q (natAbs (a .direction)) (a .place)) (sym (q .q2 .given .1) ∙ asked d)
+    ap (λ (q : Question). answerTo q (natAbs (a .direction)) (a .place)) (sym (q .q2 .given .1) ∙ asked d)
 
 pub outside-spec : {M : Type 1} → statement M
 outside-spec =

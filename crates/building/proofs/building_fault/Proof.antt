@@ -16,16 +16,19 @@ in-range c = sym (c .before .out-of-range .ensures) ∙ c .if1 .left
 small : (c : tie.After-sizes-of) → Ranged (c .sizes-of .result)
 small c =
     let d = c .before in
-    subst (λ (s : Sizes). Ranged s) (sym (c .sizes-of .ensures)) (ranged (fields (d .before .before .args .g) (in-range d)))
+    subst (λ (s : Sizes). Ranged s) (sym (c .sizes-of .ensures))
+    (ranged (fields (d .before .before .args .g) (in-range d)))
 
 -- the sizes, and the two tests of them
 sized : (c : tie.After-sizes-of) → c .sizes-of .result ≡ sizes (c .before .before .before .args .g)
 sized c = c .sizes-of .ensures
 
-walls : (c : tie.After-out-of-walls) → c .out-of-walls .result ≡ outOfWalls (sizes (c .before .before .before .before .args .g))
+walls : (c : tie.After-out-of-walls)
+    → c .out-of-walls .result ≡ outOfWalls (sizes (c .before .before .before .before .args .g))
 walls c = c .out-of-walls .ensures ∙ ap outOfWalls (sized (c .before))
 
-roof : (c : tie.After-out-of-roof) → c .out-of-roof .result ≡ outOfRoof (sizes (c .before .before .before .before .before .before .args .g))
+roof : (c : tie.After-out-of-roof)
+    → c .out-of-roof .result ≡ outOfRoof (sizes (c .before .before .before .before .before .before .args .g))
 roof c = c .out-of-roof .ensures ∙ ap outOfRoof (sized (c .before .before .before))
 
 returns : tie.Need-returns
@@ -46,23 +49,18 @@ returns-3 : tie.Need-returns-3
 unfolding buildingFault
 returns-3 c =
     let w = c .before .before in
-    rw (in-range (w .before .before .before), sym (walls (w .before)) ∙ w .if2 .left, sym (roof (c .before)) ∙ c .if3 .taken)
+    rw
+    (in-range (w .before .before .before), sym (walls (w .before)) ∙ w .if2 .left, sym (roof (c .before)) ∙ c .if3 .taken)
 
 returns-4 : tie.Need-returns-4
 unfolding buildingFault
 returns-4 c =
     let w = c .before .before in
-    rw (in-range (w .before .before .before), sym (walls (w .before)) ∙ w .if2 .left, sym (roof (c .before)) ∙ c .if3 .left)
+    rw
+    (in-range (w .before .before .before), sym (walls (w .before)) ∙ w .if2 .left, sym (roof (c .before)) ∙ c .if3 .left)
 
 pub building-fault-spec : {M : Type 1} → statement M
 building-fault-spec =
     tie.close
-    (tie.spec
-    (λ c κs. search needs)
-    returns
-    sizes-of-requires
-    (λ c κs. search needs)
-    returns-2
-    out-of-roof-requires
-    returns-3
-    returns-4)
+    (tie.spec (λ c κs. search needs) returns sizes-of-requires (λ c κs. search needs) returns-2 out-of-roof-requires
+    returns-3 returns-4)

@@ -1,12 +1,12 @@
 -- `building_line` meets its contract.
-use Rattle.lines.specs.Held.{lineOf}
+use Rattle.lines.specs.Held.{heldLine}
 use Rattle.fields.proofs.Slots.{slot-is}
 use borrow.Author.Needs.{needs}
 use Rattle.fields.proofs.building_line.Statement.{statement}
 use Rattle.fields.proofs.building_line.Tie as tie
 
 returns : tie.Need-returns
-unfolding lineOf
+unfolding heldLine
 returns c =
     let kind = c .before .before in
     let density = kind .before .before in
@@ -27,11 +27,5 @@ returns c =
 pub building-line-spec : {M : Type 1} → statement M
 building-line-spec =
     tie.close
-    (tie.spec
-    (λ c κs. search needs)
-    (λ c κs. search needs)
-    (λ c κs. search needs)
-    (λ c κs. search needs)
-    (λ c κs. search needs)
-    (λ c κs. search needs)
-    returns)
+    (tie.spec (λ c κs. search needs) (λ c κs. search needs) (λ c κs. search needs) (λ c κs. search needs)
+    (λ c κs. search needs) (λ c κs. search needs) returns)

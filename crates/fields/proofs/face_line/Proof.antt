@@ -1,12 +1,12 @@
 -- `face_line` meets its contract.
-use Rattle.lines.specs.Held.{lineOf}
+use Rattle.lines.specs.Held.{heldLine}
 use Rattle.fields.proofs.Slots.{slot-is, mark-is}
 use borrow.Author.Needs.{needs}
 use Rattle.fields.proofs.face_line.Statement.{statement}
 use Rattle.fields.proofs.face_line.Tie as tie
 
 returns : tie.Need-returns
-unfolding lineOf
+unfolding heldLine
 returns c =
     let z = c .before in
     let y = z .before .before in
@@ -26,11 +26,5 @@ returns c =
 pub face-line-spec : {M : Type 1} → statement M
 face-line-spec =
     tie.close
-    (tie.spec
-    (λ c κs. search needs)
-    (λ c κs. search needs)
-    (λ c κs. search needs)
-    (λ c κs. search needs)
-    (λ c κs. search needs)
-    (λ c κs. search needs)
-    returns)
+    (tie.spec (λ c κs. search needs) (λ c κs. search needs) (λ c κs. search needs) (λ c κs. search needs)
+    (λ c κs. search needs) (λ c κs. search needs) returns)

@@ -1,12 +1,12 @@
 -- `internal_line` meets its contract.
-use Rattle.lines.specs.Held.{lineOf}
+use Rattle.lines.specs.Held.{heldLine}
 use Rattle.fields.proofs.Slots.{slot-is}
 use borrow.Author.Needs.{needs}
 use Rattle.fields.proofs.internal_line.Statement.{statement}
 use Rattle.fields.proofs.internal_line.Tie as tie
 
 returns : tie.Need-returns
-unfolding lineOf
+unfolding heldLine
 returns c =
     let i = c .before .before in
     rw (c .before .slot .ensures, slot-is (i .args .i) (i .fits .i .sfits) (c .number-slot .ensures))
@@ -14,7 +14,4 @@ returns c =
 pub internal-line-spec : {M : Type 1} → statement M
 internal-line-spec =
     tie.close
-    (tie.spec
-    (λ c κs. search needs)
-    (λ c κs. search needs)
-    returns)
+    (tie.spec (λ c κs. search needs) (λ c κs. search needs) returns)

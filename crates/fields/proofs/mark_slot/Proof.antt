@@ -12,7 +12,9 @@ use Rattle.fields.proofs.mark_slot.Tie as tie
 returns : tie.Need-returns
 returns c =
     let s = c .before .before in
-    c .slot .ensures ∙ ap slot (mark-both (s .args .z) (bits-same both (s .args .z) (omega arith) (s .fits .z .sfits) (c .before .if1 .taken)))
+    c .slot .ensures
+    ∙ ap slot
+    (mark-both (s .args .z) (bits-same both (s .args .z) (omega arith) (s .fits .z .sfits) (c .before .if1 .taken)))
 
 returns-2 : tie.Need-returns-2
 returns-2 c =

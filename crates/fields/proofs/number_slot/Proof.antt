@@ -20,7 +20,8 @@ returns c =
     let t = c .before .before in
     let s = t .before in
     c .slot .ensures
-    ∙ ap slot (number-long (s .args .z) (sym (said tooLong (s .args .z) (t .too-long .ensures) (s .fits .z .sfits)) ∙ c .before .if1 .taken))
+    ∙ ap slot
+    (number-long (s .args .z) (sym (said tooLong (s .args .z) (t .too-long .ensures) (s .fits .z .sfits)) ∙ c .before .if1 .taken))
 
 -- behind the test of its length
 module _ (c : tie.After-magnitude) where
@@ -45,24 +46,18 @@ module _ (c : tie.After-magnitude) where
 returns-2 : tie.Need-returns-2
 returns-2 c =
     let m = c .before .before in
-    c .slot2 .ensures ∙ ap slot (signed-below (z m) (size m) (sign m _ (c .before .if2 .taken)) ∙ number-short (z m) (short m))
+    c .slot2 .ensures
+    ∙ ap slot (signed-below (z m) (size m) (sign m _ (c .before .if2 .taken)) ∙ number-short (z m) (short m))
 
 returns-3 : tie.Need-returns-3
 returns-3 c =
     let m = c .before .before in
-    c .slot3 .ensures ∙ ap slot (signed-above (z m) (size m) (sign m _ (c .before .if2 .left)) ∙ number-short (z m) (short m))
+    c .slot3 .ensures
+    ∙ ap slot (signed-above (z m) (size m) (sign m _ (c .before .if2 .left)) ∙ number-short (z m) (short m))
 
 pub number-slot-spec : {M : Type 1} → statement M
 number-slot-spec =
     tie.close
-    (tie.spec
-    (λ c κs. search needs)
-    (λ c κs. search needs)
-    returns
-    (λ c κs. search needs)
-    (λ c. omega (arith, small (c .before)))
-    (λ c κs. search needs)
-    returns-2
-    (λ c. omega (arith, small (c .before)))
-    (λ c κs. search needs)
-    returns-3)
+    (tie.spec (λ c κs. search needs) (λ c κs. search needs) returns (λ c κs. search needs)
+    (λ c. omega (arith, small (c .before))) (λ c κs. search needs) returns-2 (λ c. omega (arith, small (c .before)))
+    (λ c κs. search needs) returns-3)

@@ -1,12 +1,12 @@
 -- `wind_line` meets its contract.
-use Rattle.lines.specs.Held.{lineOf}
+use Rattle.lines.specs.Held.{heldLine}
 use Rattle.fields.proofs.Slots.{slot-is}
 use borrow.Author.Needs.{needs}
 use Rattle.fields.proofs.wind_line.Statement.{statement}
 use Rattle.fields.proofs.wind_line.Tie as tie
 
 returns : tie.Need-returns
-unfolding lineOf
+unfolding heldLine
 returns c =
     let d = c .before .before in
     let w = d .before .before .before .args .w in
@@ -20,8 +20,4 @@ returns c =
 pub wind-line-spec : {M : Type 1} → statement M
 wind-line-spec =
     tie.close
-    (tie.spec
-    (λ c κs. search needs)
-    (λ c κs. search needs)
-    (λ c κs. search needs)
-    returns)
+    (tie.spec (λ c κs. search needs) (λ c κs. search needs) (λ c κs. search needs) returns)

@@ -1,12 +1,12 @@
 -- `put_line` meets its contract.
 use borrow.Author.Needs.{needs}
-use Rattle.lines.specs.Lines.{textOf}
+use Rattle.lines.specs.Lines.{textOfLines}
 use Rattle.page.proofs.Put.{then}
 use Rattle.line.proofs.put_line.Statement.{statement}
 use Rattle.line.proofs.put_line.Tie as tie
 
 returns : tie.Need-returns
-unfolding textOf
+unfolding textOfLines
 returns c =
     let p = c .before .before in
     then (p .before .before .before .before .put-fields .ensures) (p .put-byte .ensures)

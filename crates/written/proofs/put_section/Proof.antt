@@ -6,8 +6,8 @@ use native.Mathlib.Omega.{arith}
 use lib.IntN.{ℤ}
 use lib.ListN.{length, take}
 use mir.Facts.{toZ-ofZ}
-use Rattle.lines.specs.Lines.{textOf}
-use Rattle.lines.specs.Held.{lineOf}
+use Rattle.lines.specs.Lines.{textOfLines}
+use Rattle.lines.specs.Held.{heldLine}
 use Rattle.page.specs.Writing.{Put}
 use Rattle.page.proofs.Put.{put-length}
 use Rattle.rules.specs.declared.Section.{Section}
@@ -27,7 +27,7 @@ use Rattle.written.proofs.put_section.Tie as tie
 abbrev Inv-loop : tie.InvT-loop
 Inv-loop buf₀ at sec n g winds internals faces next₀ i₀ buf next i =
     (i ≤ n) × Put buf₀ next₀
-    (textOf (take i (entriesOf (carried (record { building = g; winds = winds; internals = internals; faces = faces })) sec))) buf next
+    (textOfLines (take i (entriesOf (carried (record { building = g; winds = winds; internals = internals; faces = faces })) sec))) buf next
 
 abbrev μ-loop : tie.MeasureT-loop
 μ-loop buf₀ at sec n g winds internals faces next₀ i₀ buf next i = n - i
@@ -78,17 +78,17 @@ module _ (c : tie.At-match-came Inv-loop μ-loop) where
   abbrev section : Section
   section = start (c .before) .args .sec
 
-  made : c .match .x ≡ lineOf 0 (entryOf job section (i (c .before)))
+  made : c .match .x ≡ heldLine 0 (entryOf job section (i (c .before)))
   made =
       ⊎-elim (λ w. w .3 ∙ w .2 .ensures ∙ told (w .1 .given .1))
       (⊎-elim (λ w. w .4 ∙ w .3 .ensures ∙ told (w .1 .given .1))
-      (⊎-elim (λ w. w .4 ∙ w .3 .ensures ∙ ap (λ (z : ℤ). lineOf 0 (internalFields z)) (toZ-ofZ (sfits-of (w .2 .given))) ∙ told (w .1 .given .1))
+      (⊎-elim (λ w. w .4 ∙ w .3 .ensures ∙ ap (λ (z : ℤ). heldLine 0 (internalFields z)) (toZ-ofZ (sfits-of (w .2 .given))) ∙ told (w .1 .given .1))
       (λ w. w .4 ∙ w .3 .ensures ∙ told (w .1 .given .1))))
       (c .match .came)
     where
       told : {t : Section} → section ≡ t
-          → lineOf 0 (entryOf job t (i (c .before))) ≡ lineOf 0 (entryOf job section (i (c .before)))
-      told e = ap (λ (t : Section). lineOf 0 (entryOf job t (i (c .before)))) (sym e)
+          → heldLine 0 (entryOf job t (i (c .before))) ≡ heldLine 0 (entryOf job section (i (c .before)))
+      told e = ap (λ (t : Section). heldLine 0 (entryOf job t (i (c .before)))) (sym e)
 
 add-i : tie.Need-add-i Inv-loop μ-loop
 add-i c = record { fits = omega (arith, below-24 (c .before .before .before .before .before)) }
@@ -118,7 +118,7 @@ returns c =
     let es = entriesOf (carried (s .args .j)) (s .args .sec) in
     put-all (s .args .sec) es (c .before .loop .i) (n .count-line .result)
     (omega (arith, c .loop-test .left, s .pre .0))
-    (n .count-line .ensures ∙ ap (λ (k : ℕ). lineOf 0 (countLine (s .args .sec) k)) (s .pre .0))
+    (n .count-line .ensures ∙ ap (λ (k : ℕ). heldLine 0 (countLine (s .args .sec) k)) (s .pre .0))
     (p .put-line .ensures) (c .before .loop .inv .1)
 
 pub put-section-spec : {M : Type 1} → statement M

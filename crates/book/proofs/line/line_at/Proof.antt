@@ -8,7 +8,7 @@ use mir.Syntax.{w16, w32, w64}
 use borrow.Author.Needs.{needs}
 use Rattle.whole.specs.Round.{roundAway}
 use Rattle.whole.proofs.Size.{Num, fit, param≤, nat, num, back, bound, _⊕_, _⊗_}
-use Rattle.book.specs.Line.{lineAt}
+use Rattle.book.specs.Line.{onStraight}
 use Rattle.book.proofs.Between.{line-small}
 use Rattle.book.proofs.line.line_at.Statement.{statement}
 use Rattle.book.proofs.line.line_at.Tie as tie
@@ -54,9 +54,9 @@ round-away-requires : tie.Need-round-away-requires
 round-away-requires c κs = (omega (arith, bound (back w64 (tenfold c) tt)), omega arith, omega arith)
 
 value : (c : tie.After-round-away)
-    → c .round-away .result ≡ lineAt (c .before .args .v) (c .before .args .w) (c .before .args .part)
+    → c .round-away .result ≡ onStraight (c .before .args .v) (c .before .args .w) (c .before .args .part)
     (c .before .args .whole)
-unfolding lineAt
+unfolding onStraight
 value c =
     c .round-away .ensures
     ∙ ap (λ (z : ℤ). roundAway z (c .before .args .whole)) (back w64 (tenfold (c .before)) tt .same)

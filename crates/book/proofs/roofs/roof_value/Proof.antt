@@ -9,7 +9,7 @@ use mir.Syntax.{w16, w32}
 use mir.Val.{toZ, ofZ}
 use Rattle.whole.proofs.Size.{returned}
 use Rattle.book.specs.declared.line.Spot.{Spot}
-use Rattle.book.specs.Line.{lineAt, cellIn, valueAt}
+use Rattle.book.specs.Line.{onStraight, cellIn, valueAt}
 use Rattle.book.specs.Roofs.{partAts, roofCells, partOf, spotIn, roofValue}
 use Rattle.book.proofs.Spot.{Good}
 use Rattle.book.proofs.Tables.{roof-small}
@@ -70,7 +70,7 @@ returns c =
     let d = c .before .before .before in
     returned w32 (c .line-at .result) (c .line-at .ok) .same
     ∙ c .line-at .ensures
-    ∙ ap₂ (λ (v w : ℤ). lineAt v w (d .spot-in .result .part) (d .spot-in .result .whole)) (from (c .before .before))
+    ∙ ap₂ (λ (v w : ℤ). onStraight v w (d .spot-in .result .part) (d .spot-in .result .whole)) (from (c .before .before))
     (to (c .before))
     ∙ ap (λ (r : Spot). valueAt roofCells (d .before .before .args .col) r) (spot-is d)
 

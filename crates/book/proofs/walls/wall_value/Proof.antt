@@ -8,7 +8,7 @@ use lib.IntN.{ℤ, natAbs}
 use mir.Syntax.{w16, w32}
 use mir.Val.{toZ, ofZ}
 use Rattle.whole.proofs.Size.{returned}
-use Rattle.book.specs.Line.{lineAt, cellIn}
+use Rattle.book.specs.Line.{onStraight, cellIn}
 use Rattle.book.specs.Walls.{wallRow, wallCells}
 use Rattle.book.proofs.Rows.{wallRow-below}
 use Rattle.book.proofs.Tables.{wall-small}
@@ -45,7 +45,7 @@ returns : tie.Need-returns
 returns c =
     returned w32 (c .line-at .result) (c .line-at .ok) .same
     ∙ c .line-at .ensures
-    ∙ ap (λ (z : ℤ). lineAt z z 0 1) (cell (c .before))
+    ∙ ap (λ (z : ℤ). onStraight z z 0 1) (cell (c .before))
 
 pub wall-value-spec : {M : Type 1} → statement M
 wall-value-spec = tie.close (tie.spec (λ c κs. search needs) wall-cell-requires line-at-requires returns)

@@ -32,15 +32,10 @@ returns c =
     let l = g .before .before .before in
     let s = l .before .args .s in
     c .either .ensures
-    ∙ ap₂ (λ (least greatest : ℕ). ltb (s .along) (least * s .across) || ltb (greatest * s .across) (s .along)) (l .least .ensures) (g .greatest .ensures)
+    ∙ ap₂ (λ (least greatest : ℕ). ltb (s .along) (least * s .across) || ltb (greatest * s .across) (s .along))
+    (l .least .ensures) (g .greatest .ensures)
 
 pub out-of-roof-spec : {M : Type 1} → statement M
 out-of-roof-spec =
     tie.close
-    (tie.spec
-    (λ c κs. search needs)
-    mul-either
-    (λ c κs. search needs)
-    mul-either-2
-    (λ c κs. search needs)
-    returns)
+    (tie.spec (λ c κs. search needs) mul-either (λ c κs. search needs) mul-either-2 (λ c κs. search needs) returns)

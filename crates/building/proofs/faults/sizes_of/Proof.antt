@@ -1,4 +1,5 @@
--- `faults::sizes_of`: each field is read back as it is, and its size taken; a number in its range is small enough for the rest.
+-- `faults::sizes_of`: each field is read back as it is, and its size taken; a number in its range is small enough for
+-- the rest.
 use mathlib.Core.Path.{_≡_, ap₂, _∙_}
 use Prim.Native.Nat.{ℕ, _^_, _≤_, _<_}
 use native.Mathlib.Omega.{arith}
@@ -19,13 +20,17 @@ abbrev building : tie.After-magnitude5 → Building
 building c = c .before .before .before .before .before .before .before .before .before .before .args .g
 
 -- the sizes, said of the building
-h : (c : tie.After-magnitude5) → c .before .before .before .before .before .before .before .before .magnitude .result ≡ natAbs (building c .h)
+h : (c : tie.After-magnitude5)
+    → c .before .before .before .before .before .before .before .before .magnitude .result ≡ natAbs (building c .h)
 h c =
-    said natAbs (building c .h) (c .before .before .before .before .before .before .before .before .magnitude .ensures) (c .before .struct-told5 .given .0 .1)
+    said natAbs (building c .h)
+    (c .before .before .before .before .before .before .before .before .magnitude .ensures)
+    (c .before .struct-told5 .given .0 .1)
 
 kind : (c : tie.After-magnitude5) → c .before .before .before .before .magnitude3 .result ≡ natAbs (building c .kind)
 kind c =
-    said natAbs (building c .kind) (c .before .before .before .before .magnitude3 .ensures) (c .before .struct-told5 .given .1 .1 .1 .1 .0 .1)
+    said natAbs (building c .kind) (c .before .before .before .before .magnitude3 .ensures)
+    (c .before .struct-told5 .given .1 .1 .1 .1 .0 .1)
 
 x : (c : tie.After-magnitude5) → c .magnitude5 .result ≡ natAbs (building c .x)
 x c = said natAbs (building c .x) (c .magnitude5 .ensures) (c .before .struct-told5 .given .1 .1 .1 .1 .1 .0 .1)
@@ -67,7 +72,8 @@ across-requires c κs =
 abbrev six : ℕ → ℕ → ℕ → ℕ → ℕ → ℕ → Sizes
 six h a b kind along across = record { h = h; a = a; b = b; kind = kind; along = along; across = across }
 
-same : {h h' a a' b b' kind kind' along along' across across' : ℕ} → h ≡ h' → a ≡ a' → b ≡ b' → kind ≡ kind' → along ≡ along' → across ≡ across' → six h a b kind along across ≡ six h' a' b' kind' along' across'
+same : {h h' a a' b b' kind kind' along along' across across' : ℕ} → h ≡ h' → a ≡ a' → b ≡ b' → kind ≡ kind'
+    → along ≡ along' → across ≡ across' → six h a b kind along across ≡ six h' a' b' kind' along' across'
 same p q r s t u = cc
 
 returns : tie.Need-returns
@@ -85,15 +91,5 @@ returns c =
 pub sizes-of-spec : {M : Type 1} → statement M
 sizes-of-spec =
     tie.close
-    (tie.spec
-    (λ c κs. search needs)
-    (λ c κs. search needs)
-    (λ c κs. search needs)
-    cast-t5
-    (λ c κs. search needs)
-    cast-t7
-    cast-t8
-    (λ c κs. search needs)
-    along-requires
-    across-requires
-    returns)
+    (tie.spec (λ c κs. search needs) (λ c κs. search needs) (λ c κs. search needs) cast-t5 (λ c κs. search needs)
+    cast-t7 cast-t8 (λ c κs. search needs) along-requires across-requires returns)

@@ -9,7 +9,8 @@ use Rattle.building.proofs.kinds.flat.Statement.{statement}
 use Rattle.building.proofs.kinds.flat.Tie as tie
 
 returns : tie.Need-returns
-returns c = ap not (said (beyond (pos 2) (pos 5)) (c .before .args .kind) (c .beyond .ensures) (c .before .fits .kind .sfits))
+returns c =
+    ap not (said (beyond (pos 2) (pos 5)) (c .before .args .kind) (c .beyond .ensures) (c .before .fits .kind .sfits))
 
 pub flat-spec : {M : Type 1} → statement M
 flat-spec = tie.close (tie.spec (λ c κs. search needs) returns)

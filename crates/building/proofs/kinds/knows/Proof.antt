@@ -13,7 +13,9 @@ returns c =
     let s = c .before .before .before in
     let z = s .args .direction in
     let f = s .fits .direction .sfits in
-    c .either .ensures ∙ ap₂ _||_ (said (is (pos 0)) z (c .before .before .is .ensures) f) (said (is (pos 90)) z (c .before .is2 .ensures) f)
+    c .either .ensures
+    ∙ ap₂ _||_ (said (is (pos 0)) z (c .before .before .is .ensures) f)
+    (said (is (pos 90)) z (c .before .is2 .ensures) f)
 
 pub knows-spec : {M : Type 1} → statement M
 knows-spec = tie.close (tie.spec (λ c κs. search needs) (λ c κs. search needs) (λ c κs. search needs) returns)

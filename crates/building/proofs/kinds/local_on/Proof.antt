@@ -16,14 +16,10 @@ returns c =
     c .either2 .ensures
     ∙ ap (λ (t : Bool). eqb (s .args .place) wallLocal || t)
     (c .before .both .ensures
-    ∙ ap₂ _&&_ (said flat (s .args .kind) (f .flat .ensures) (s .fits .kind .sfits)) (c .before .before .either .ensures))
+    ∙ ap₂ _&&_ (said flat (s .args .kind) (f .flat .ensures) (s .fits .kind .sfits))
+    (c .before .before .either .ensures))
 
 pub local-on-spec : {M : Type 1} → statement M
 local-on-spec =
     tie.close
-    (tie.spec
-    (λ c κs. search needs)
-    (λ c κs. search needs)
-    (λ c κs. search needs)
-    (λ c κs. search needs)
-    returns)
+    (tie.spec (λ c κs. search needs) (λ c κs. search needs) (λ c κs. search needs) (λ c κs. search needs) returns)

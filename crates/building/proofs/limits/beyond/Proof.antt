@@ -14,7 +14,9 @@ unfolding beyond
 returns c =
     let s = c .before in
     let e = returned w64 (s .args .z) (s .fits .z .sfits) .same in
-    c .either .ensures ∙ ap₂ _||_ (ap₂ ltZ e (returned w64 (s .args .least) (s .fits .least .sfits) .same)) (ap₂ ltZ (returned w64 (s .args .greatest) (s .fits .greatest .sfits) .same) e)
+    c .either .ensures
+    ∙ ap₂ _||_ (ap₂ ltZ e (returned w64 (s .args .least) (s .fits .least .sfits) .same))
+    (ap₂ ltZ (returned w64 (s .args .greatest) (s .fits .greatest .sfits) .same) e)
 
 pub beyond-spec : {M : Type 1} → statement M
 beyond-spec = tie.close (tie.spec (λ c κs. search needs) returns)

@@ -11,16 +11,6 @@ slice-aggregate-print-2 c = simp length-take (omega arith)
 pub print-number-spec : {M : Type 1} → statement M
 print-number-spec =
     tie.close
-    (tie.spec
-    (λ c. search needs)
-    (λ c κs. search needs)
-    (λ c. search needs)
-    (λ c. search needs)
-    (λ c. search needs)
-    (λ c. search needs)
-    (λ c κs. search needs)
-    (λ c. search needs)
-    slice-aggregate-print-2
-    (λ c κs. search needs)
-    (λ c. search needs)
-    (λ c. search needs))
+    (tie.spec (λ c. search needs) (λ c κs. search needs) (λ c. search needs) (λ c. search needs) (λ c. search needs)
+    (λ c. search needs) (λ c κs. search needs) (λ c. search needs) slice-aggregate-print-2 (λ c κs. search needs)
+    (λ c. search needs) (λ c. search needs))

@@ -8,7 +8,5 @@ use Rattle.entry.proofs.says.letter_at.Tie as tie
 pub letter-at-spec : {M : Type 1} → statement M
 letter-at-spec =
     tie.close
-    (tie.spec
-    (λ c κs. search needs)
-    (λ c κs. search needs)
+    (tie.spec (λ c κs. search needs) (λ c κs. search needs)
     (λ c. c .letter-of .ensures ∙ ap letter (c .before .field-at .ensures)))

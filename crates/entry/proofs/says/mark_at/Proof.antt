@@ -10,7 +10,5 @@ use Rattle.entry.proofs.says.mark_at.Tie as tie
 pub mark-at-spec : {M : Type 1} → statement M
 mark-at-spec =
     tie.close
-    (tie.spec
-    (λ c κs. search needs)
-    (λ c κs. search needs)
+    (tie.spec (λ c κs. search needs) (λ c κs. search needs)
     (λ c. returned w64 _ (c .mark-of .ok) .same ∙ c .mark-of .ensures ∙ ap mark (c .before .field-at .ensures)))

@@ -10,7 +10,5 @@ use Rattle.entry.proofs.says.number_at.Tie as tie
 pub number-at-spec : {M : Type 1} → statement M
 number-at-spec =
     tie.close
-    (tie.spec
-    (λ c κs. search needs)
-    (λ c κs. search needs)
+    (tie.spec (λ c κs. search needs) (λ c κs. search needs)
     (λ c. returned w64 _ (c .number-of .ok) .same ∙ c .number-of .ensures ∙ ap number (c .before .field-at .ensures)))

@@ -20,14 +20,11 @@ returns c g =
     let l = c .before in
     let a = l .before .args in
     c .count-fault .ensures
-    ∙ ap₂ (λ (b : ℕ) (z : ℤ). first (countFaults (a .s) b z)) (l .limits-of .ensures .0) (nat w64 {n = a .n} 4294967295 (omega arith) tt .same)
+    ∙ ap₂ (λ (b : ℕ) (z : ℤ). first (countFaults (a .s) b z)) (l .limits-of .ensures .0)
+    (nat w64 {n = a .n} 4294967295 (omega arith) tt .same)
     ∙ sym (fault-in (Count (a .s)) g (countLine (a .s) (a .n)) (formed-in (more letter (more count none))))
 
 pub count-fault-spec : {M : Type 1} → statement M
 count-fault-spec =
     tie.close
-    (tie.spec
-    (λ c κs. search needs)
-    (λ c. search needs)
-    (λ c κs. search needs)
-    returns)
+    (tie.spec (λ c κs. search needs) (λ c. search needs) (λ c κs. search needs) returns)

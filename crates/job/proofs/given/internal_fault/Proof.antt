@@ -25,8 +25,4 @@ returns c g =
 pub internal-fault-spec : {M : Type 1} → statement M
 internal-fault-spec =
     tie.close
-    (tie.spec
-    (λ c κs. search needs)
-    (λ c κs. search needs)
-    (λ c κs. search needs)
-    returns)
+    (tie.spec (λ c κs. search needs) (λ c κs. search needs) (λ c κs. search needs) returns)

@@ -17,15 +17,11 @@ returns c =
     let q = v .before .struct-told2 .given in
     let no = refl {a = false} in
     long-by (said tooLong (a .w .direction) (d .too-long .ensures) (q .0 .1))
-    (said tooLong (a .w .speed) (v .too-long2 .ensures) (q .1 .0 .1)) no no (n .wind-fault .ensures) (c .in-form .ensures)
+    (said tooLong (a .w .speed) (v .too-long2 .ensures) (q .1 .0 .1)) no no (n .wind-fault .ensures)
+    (c .in-form .ensures)
     ∙ sym (wind-given (a .g) (a .w))
 
 pub wind-fault-spec : {M : Type 1} → statement M
 wind-fault-spec =
     tie.close
-    (tie.spec
-    (λ c κs. search needs)
-    (λ c κs. search needs)
-    (λ c κs. search needs)
-    (λ c κs. search needs)
-    returns)
+    (tie.spec (λ c κs. search needs) (λ c κs. search needs) (λ c κs. search needs) (λ c κs. search needs) returns)

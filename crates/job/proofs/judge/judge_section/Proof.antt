@@ -19,7 +19,8 @@ use Rattle.fields.specs.Fields.{internalFields}
 use Rattle.job.specs.Lines.{entriesOf}
 use Rattle.job.proofs.Walk.{EntriesInOrder}
 use Rattle.job.proofs.Sections.{Counted, countLine}
-use Rattle.job.proofs.Alone.{entryOf, entry-is, most-24, alone-count, alone-counted, alone-entry, alone-next, alone-passed}
+use Rattle.job.proofs.Alone.{entryOf, entry-is, most-24, alone-count, alone-counted, alone-entry, alone-next}
+use Rattle.job.proofs.Alone.{alone-passed}
 use Rattle.job.proofs.Written.{building-given}
 use borrow.Author.Needs.{needs, sfits-of}
 use Rattle.job.proofs.judge.judge_section.Statement.{statement}
@@ -27,7 +28,8 @@ use Rattle.job.proofs.judge.judge_section.Tie as tie
 
 abbrev Inv-loop : tie.InvT-loop
 Inv-loop s line g n number winds internals faces i₀ i =
-    (i ≤ n) × EntriesInOrder s g (take i (entriesOf (carried (record { building = g; winds = winds; internals = internals; faces = faces })) s))
+    (i ≤ n) × EntriesInOrder s g
+    (take i (entriesOf (carried (record { building = g; winds = winds; internals = internals; faces = faces })) s))
 
 abbrev μ-loop : tie.MeasureT-loop
 μ-loop s line g n number winds internals faces i₀ i = n - i
@@ -56,7 +58,8 @@ returns c =
     let f = c .before in
     alone-count (section f) (carried (job f)) _ (lines f) _ (count-judged f) (c .if1 .taken)
 
-counted : (c : tie.After-faces Inv-loop μ-loop) → Counted (section (c .before .before .before .before)) (length (lines (c .before .before .before .before)))
+counted : (c : tie.After-faces Inv-loop μ-loop)
+    → Counted (section (c .before .before .before .before)) (length (lines (c .before .before .before .before)))
 unfolding carried
 counted c =
     let t = c .before .before .before in
@@ -91,7 +94,9 @@ module _ (c : tie.At-match-came Inv-loop μ-loop) where
   abbrev g : Building
   g = job start .building
 
-  judged-as : (t : Section) → section start ≡ t → lineFault (Entry t) g (entryOf (job start) t i) ≡ lineFault (Entry (section start)) g (getD (lines start) i [])
+  judged-as : (t : Section) → section start ≡ t
+      → lineFault (Entry t) g (entryOf (job start) t i) ≡ lineFault (Entry (section start)) g
+      (getD (lines start) i [])
   judged-as t e =
       ap (λ (u : Section). lineFault (Entry u) g (entryOf (job start) u i)) (sym e)
       ∙ ap (lineFault (Entry (section start)) g) (sym (entry-is (job start) (section start) i (within (c .before))))
@@ -110,52 +115,38 @@ returns-2 c =
     let m = c .before in
     let l = m .before .before in
     let b = start m in
-    alone-entry (section b) (carried (job b)) _ (lines b) (counted (l .before)) (i m) _ (within (m .before)) (l .loop .inv .1) (fault m) (c .if2 .taken)
+    alone-entry (section b) (carried (job b)) _ (lines b) (counted (l .before)) (i m) _ (within (m .before))
+    (l .loop .inv .1) (fault m) (c .if2 .taken)
 
 loop-again : tie.Need-loop-again Inv-loop μ-loop
 unfolding carried
 loop-again c =
     let m = c .before in
     let l = m .before .before in
-    let b = start m in
-    (omega arith, alone-next (section b) (carried (job b)) 0 (lines b) (counted (l .before)) (i m) _ (within (m .before)) (l .loop .inv .1) (fault m) (c .if2 .left))
+    let b = start m in (
+      omega arith,
+      alone-next (section b) (carried (job b)) 0 (lines b) (counted (l .before)) (i m) _ (within (m .before))
+          (l .loop .inv .1) (fault m) (c .if2 .left),
+    )
 
 returns-3 : tie.Need-returns-3 Inv-loop μ-loop
 unfolding carried
 returns-3 c =
     let l = c .before in
     let b = l .before .before .before .before .before in
-    alone-passed (section b) (carried (job b)) _ (lines b) (counted (l .before)) (l .loop .i) (omega (arith, many b)) (l .loop .inv .1)
+    alone-passed (section b) (carried (job b)) _ (lines b) (counted (l .before)) (l .loop .i) (omega (arith, many b))
+    (l .loop .inv .1)
 
 pub judge-section-spec : {M : Type 1} → statement M
 judge-section-spec =
     tie.close
-    (tie.spec
-    Inv-loop
-    μ-loop
-    (λ c κs. search needs)
-    (λ c κs. search needs)
-    returns
-    loop-holds
-    (λ c. search needs)
-    (λ c. search needs)
-    (λ c κs. search needs)
-    (λ c. search needs)
+    (tie.spec Inv-loop μ-loop (λ c κs. search needs) (λ c κs. search needs) returns loop-holds (λ c. search needs)
+    (λ c. search needs) (λ c κs. search needs) (λ c. search needs)
     (λ c. omega (arith, room (c .before .before) W (c .enum-told2 .given .1)))
-    (λ c. room (c .before .before) W (c .enum-told2 .given .1))
-    (λ c κs. search needs)
-    (λ c. search needs)
+    (λ c. room (c .before .before) W (c .enum-told2 .given .1)) (λ c κs. search needs) (λ c. search needs)
     (λ c. omega (arith, room (c .before .before) I (c .enum-told3 .given .1)))
-    (λ c. room (c .before .before) I (c .enum-told3 .given .1))
-    (λ c κs. search needs)
-    (λ c. search needs)
+    (λ c. room (c .before .before) I (c .enum-told3 .given .1)) (λ c κs. search needs) (λ c. search needs)
     (λ c. omega (arith, room (c .before .before) F (c .enum-told4 .given .1)))
-    (λ c. room (c .before .before) F (c .enum-told4 .given .1))
-    (λ c κs. search needs)
-    (λ c. search needs)
-    (λ c. omega (arith, small (c .before .before)))
-    returns-2
-    (λ c. search needs)
-    (λ c. search needs)
-    loop-again
+    (λ c. room (c .before .before) F (c .enum-told4 .given .1)) (λ c κs. search needs) (λ c. search needs)
+    (λ c. omega (arith, small (c .before .before))) returns-2 (λ c. search needs) (λ c. search needs) loop-again
     returns-3)

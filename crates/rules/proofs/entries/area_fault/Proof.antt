@@ -12,7 +12,8 @@ returns : tie.Need-returns
 returns c =
     let s = c .before .before in
     c .fault .ensures
-    ∙ ap (λ (t : Bool). cond t 3 (s .args .next)) (said (beyond (negℤ (pos 100000)) (pos 100000)) (s .args .z) (c .before .beyond .ensures) (s .fits .z .sfits))
+    ∙ ap (λ (t : Bool). cond t 3 (s .args .next))
+    (said (beyond (negℤ (pos 100000)) (pos 100000)) (s .args .z) (c .before .beyond .ensures) (s .fits .z .sfits))
 
 pub area-fault-spec : {M : Type 1} → statement M
 area-fault-spec = tie.close (tie.spec (λ c κs. search needs) (λ c κs. search needs) returns)

@@ -23,16 +23,11 @@ returns c =
     let most = nat w64 {n = l .limits-of .result .most} 4294967295 (omega arith) tt .same ∙ ap pos (q .2) in
     let n = returned w64 (s .args .n) (s .fits .n .sfits) .same in
     found-or 1 (ap (λ (l : ℕ). not (eqb (s .args .letter) l)) (q .0))
-    (found-or 2 (b .beyond .ensures ∙ (λ i. beyond (least i) (most i) (n i))) refl (c .before .fault .ensures)) (c .fault2 .ensures)
+    (found-or 2 (b .beyond .ensures ∙ (λ i. beyond (least i) (most i) (n i))) refl (c .before .fault .ensures))
+    (c .fault2 .ensures)
 
 pub count-fault-spec : {M : Type 1} → statement M
 count-fault-spec =
     tie.close
-    (tie.spec
-    (λ c κs. search needs)
-    (λ c. search needs)
-    (λ c. search needs)
-    (λ c κs. search needs)
-    (λ c κs. search needs)
-    (λ c κs. search needs)
-    returns)
+    (tie.spec (λ c κs. search needs) (λ c. search needs) (λ c. search needs) (λ c κs. search needs)
+    (λ c κs. search needs) (λ c κs. search needs) returns)

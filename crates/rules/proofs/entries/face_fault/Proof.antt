@@ -32,7 +32,8 @@ returns c =
     (found-or 3 (ap not marked)
     (said-or areaFault 3 (f .x) (q .1 .0 .1)
     (said-or areaFault 3 (f .y) (q .1 .1 .0 .1)
-    (said-or areaFault 3 (f .z) (q .1 .1 .1 .0 .1) (found-or 6 (ap not on) refl (p .fault .ensures)) (z .area-fault .ensures))
+    (said-or areaFault 3 (f .z) (q .1 .1 .1 .0 .1) (found-or 6 (ap not on) refl (p .fault .ensures))
+    (z .area-fault .ensures))
     (y .area-fault2 .ensures))
     (x .area-fault3 .ensures))
     (c .before .fault2 .ensures))
@@ -41,14 +42,6 @@ returns c =
 pub face-fault-spec : {M : Type 1} → statement M
 face-fault-spec =
     tie.close
-    (tie.spec
-    (λ c κs. search needs)
-    (λ c κs. search needs)
-    (λ c κs. search needs)
-    (λ c κs. search needs)
-    (λ c κs. search needs)
-    (λ c κs. search needs)
-    (λ c κs. search needs)
-    (λ c κs. search needs)
-    (λ c κs. search needs)
+    (tie.spec (λ c κs. search needs) (λ c κs. search needs) (λ c κs. search needs) (λ c κs. search needs)
+    (λ c κs. search needs) (λ c κs. search needs) (λ c κs. search needs) (λ c κs. search needs) (λ c κs. search needs)
     returns)

@@ -16,16 +16,12 @@ returns c g =
     let n = c .before in
     let l = n .before .before in
     c .count-fault .ensures
-    ∙ ap₂ (λ (b : ℕ) (z : ℤ). first (countFaults (l .before .before .args .s) b z)) (l .letter-of .ensures ∙ ap letter (l .before .field-at .ensures))
+    ∙ ap₂ (λ (b : ℕ) (z : ℤ). first (countFaults (l .before .before .args .s) b z))
+    (l .letter-of .ensures ∙ ap letter (l .before .field-at .ensures))
     (returned w64 _ (n .number-of .ok) .same ∙ n .number-of .ensures ∙ ap number (n .before .field-at2 .ensures))
 
 pub count-fault-spec : {M : Type 1} → statement M
 count-fault-spec =
     tie.close
-    (tie.spec
-    (λ c κs. search needs)
-    (λ c κs. search needs)
-    (λ c κs. search needs)
-    (λ c κs. search needs)
-    (λ c κs. search needs)
-    returns)
+    (tie.spec (λ c κs. search needs) (λ c κs. search needs) (λ c κs. search needs) (λ c κs. search needs)
+    (λ c κs. search needs) returns)

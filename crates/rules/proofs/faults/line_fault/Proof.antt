@@ -45,7 +45,8 @@ module _ (c : tie.After-known-told2) where
   args = begun .before .before
 
   as-entry : (s : Section) → c .before .k2 .given .0 .0 ≡ s
-      → first (faultsOf (Entry s) (args .args .g) (held (args .args .x))) ≡ lineFault (args .args .k) (args .args .g) (held (args .args .x))
+      → first (faultsOf (Entry s) (args .args .g) (held (args .args .x))) ≡ lineFault (args .args .k) (args .args .g)
+      (held (args .args .x))
   as-entry s e = as-kind begun (Entry s) (c .before .k2 .given .1 ∙ ap Entry e)
 
 returns-2 : tie.Need-returns-2
@@ -85,26 +86,7 @@ returns-6 c =
 pub line-fault-spec : {M : Type 1} → statement M
 line-fault-spec =
     tie.close
-    (tie.spec
-    (λ c κs. search needs)
-    returns
-    (λ c. search needs)
-    (λ c κs. search needs)
-    (λ c. search needs)
-    (λ c. search needs)
-    (λ c κs. search needs)
-    (λ c κs. search needs)
-    (λ c. search needs)
-    (λ c κs. search needs)
-    (λ c κs. search needs)
-    (λ c. search needs)
-    (λ c κs. search needs)
-    (λ c κs. search needs)
-    (λ c. search needs)
-    (λ c κs. search needs)
-    (λ c κs. search needs)
-    returns-2
-    returns-3
-    returns-4
-    returns-5
-    returns-6)
+    (tie.spec (λ c κs. search needs) returns (λ c. search needs) (λ c κs. search needs) (λ c. search needs)
+    (λ c. search needs) (λ c κs. search needs) (λ c κs. search needs) (λ c. search needs) (λ c κs. search needs)
+    (λ c κs. search needs) (λ c. search needs) (λ c κs. search needs) (λ c κs. search needs) (λ c. search needs)
+    (λ c κs. search needs) (λ c κs. search needs) returns-2 returns-3 returns-4 returns-5 returns-6)

@@ -11,39 +11,31 @@ index c = c .before .before .before .args .i
 
 -- of a building, a wind, an internal coefficient
 returns-6 : tie.Need-returns-6
-returns-6 c = rw (c .before .before .before .k .given .1, c .enum-told2 .given .1) (numbers-at 6 (index (c .before .before)))
+returns-6 c =
+    rw (c .before .before .before .k .given .1, c .enum-told2 .given .1) (numbers-at 6 (index (c .before .before)))
 
 returns-7 : tie.Need-returns-7
-returns-7 c = rw (c .before .before .before .k .given .1, c .enum-told3 .given .1) (numbers-at 2 (index (c .before .before)))
+returns-7 c =
+    rw (c .before .before .before .k .given .1, c .enum-told3 .given .1) (numbers-at 2 (index (c .before .before)))
 
 returns-8 : tie.Need-returns-8
-returns-8 c = rw (c .before .before .before .k .given .1, c .enum-told4 .given .1) (numbers-at 1 (index (c .before .before)))
+returns-8 c =
+    rw (c .before .before .before .k .given .1, c .enum-told4 .given .1) (numbers-at 1 (index (c .before .before)))
 
 returns-5 : tie.Need-returns-5
 returns-5 c =
-    rw (c .before .before .enum-told .given .1) (numbers-behind Capital Count 0 _ (c .before .if1 .left) (c .if2 .left))
+    rw (c .before .before .enum-told .given .1)
+    (numbers-behind Capital Count 0 _ (c .before .if1 .left) (c .if2 .left))
 
 returns-9 : tie.Need-returns-9
 returns-9 c =
     let t = c .before .before in
-    rw (t .before .before .before .k .given .1, t .enum-told5 .given .1) (numbers-behind Capital Mark 3 _ (c .before .if3 .left) (c .if4 .left))
+    rw (t .before .before .before .k .given .1, t .enum-told5 .given .1)
+    (numbers-behind Capital Mark 3 _ (c .before .if3 .left) (c .if4 .left))
 
 pub form-at-spec : {M : Type 1} → statement M
 form-at-spec =
     tie.close
-    (tie.spec
-    (λ c. search needs)
-    (λ c. search needs)
-    (λ c. search needs)
-    (λ c. search needs)
-    (λ c. search needs)
-    (λ c. search needs)
-    (λ c. search needs)
-    (λ c. search needs)
-    (λ c. search needs)
-    (λ c. search needs)
-    returns-5
-    returns-6
-    returns-7
-    returns-8
-    returns-9)
+    (tie.spec (λ c. search needs) (λ c. search needs) (λ c. search needs) (λ c. search needs) (λ c. search needs)
+    (λ c. search needs) (λ c. search needs) (λ c. search needs) (λ c. search needs) (λ c. search needs) returns-5
+    returns-6 returns-7 returns-8 returns-9)

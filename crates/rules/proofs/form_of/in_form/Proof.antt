@@ -26,7 +26,8 @@ returns : tie.Need-returns Inv-loop μ-loop
 returns c =
     let h = c .before in
     let a = h .before .before .args in
-    sym (uneven-out (forms (a .k)) (held (a .x)) (λ e. c .if1 .taken (h .held-count .ensures ∙ e ∙ sym (h .before .count-of .ensures))))
+    sym
+    (uneven-out (forms (a .k)) (held (a .x)) (λ e. c .if1 .taken (h .held-count .ensures ∙ e ∙ sym (h .before .count-of .ensures))))
 
 -- as many fields as forms
 module _ (c : tie.Else1 Inv-loop μ-loop) where
@@ -49,14 +50,17 @@ module _ (c : tie.After-has-form Inv-loop μ-loop) where
 
   -- the fields behind it
   abbrev rest : Bool
-  rest = inForm (drop (suc (loop .loop .i)) (forms (args .args .k))) (drop (suc (loop .loop .i)) (held (args .args .x)))
+  rest =
+      inForm (drop (suc (loop .loop .i)) (forms (args .args .k))) (drop (suc (loop .loop .i)) (held (args .args .x)))
 
   on : (t : Bool) → c .has-form .result ≡ t → inForm (forms (args .args .k)) (held (args .args .x)) ≡ t && rest
   on t e =
       let a = args .args in
       sym (loop .loop .inv .1)
-      ∙ form-on (forms (a .k)) (held (a .x)) (loop .loop .i) (omega (arith, forms-there (loop .before))) (omega (arith, fields-there (loop .before)))
-      ∙ ap (λ (t : Bool). t && rest) (sym (c .has-form .ensures ∙ ap₂ hasForm (c .before .before .form-at .ensures) (c .before .field-at .ensures)) ∙ e)
+      ∙ form-on (forms (a .k)) (held (a .x)) (loop .loop .i) (omega (arith, forms-there (loop .before)))
+      (omega (arith, fields-there (loop .before)))
+      ∙ ap (λ (t : Bool). t && rest)
+      (sym (c .has-form .ensures ∙ ap₂ hasForm (c .before .before .form-at .ensures) (c .before .field-at .ensures)) ∙ e)
 
 returns-2 : tie.Need-returns-2 Inv-loop μ-loop
 returns-2 c = sym (on (c .before) false (not-true _ (c .if2 .taken)))
@@ -77,18 +81,6 @@ returns-3 c =
 pub in-form-spec : {M : Type 1} → statement M
 in-form-spec =
     tie.close
-    (tie.spec
-    Inv-loop
-    μ-loop
-    (λ c κs. search needs)
-    (λ c κs. search needs)
-    returns
-    (λ c. search needs)
-    (λ c κs. search needs)
-    (λ c κs. search needs)
-    (λ c κs. search needs)
-    returns-2
-    (λ c. search needs)
-    (λ c. omega arith)
-    loop-again
-    returns-3)
+    (tie.spec Inv-loop μ-loop (λ c κs. search needs) (λ c κs. search needs) returns (λ c. search needs)
+    (λ c κs. search needs) (λ c κs. search needs) (λ c κs. search needs) returns-2 (λ c. search needs)
+    (λ c. omega arith) loop-again returns-3)

@@ -6,14 +6,6 @@ use Rattle.rules.proofs.form_of.is_number.Tie as tie
 pub is-number-spec : {M : Type 1} → statement M
 is-number-spec =
     tie.close
-    (tie.spec
-    (λ c. search needs)
-    (λ c. search needs)
-    (λ c. search needs)
-    (λ c. search needs)
-    (λ c. search needs)
-    (λ c. search needs)
-    (λ c. rw (c .before .f .given .1))
-    (λ c. search needs)
-    (λ c. search needs)
+    (tie.spec (λ c. search needs) (λ c. search needs) (λ c. search needs) (λ c. search needs) (λ c. search needs)
+    (λ c. search needs) (λ c. rw (c .before .f .given .1)) (λ c. search needs) (λ c. search needs)
     (λ c. search needs))

@@ -18,9 +18,5 @@ returns c =
 pub is-short-spec : {M : Type 1} → statement M
 is-short-spec =
     tie.close
-    (tie.spec
-    (λ c κs. search needs)
-    (λ c κs. search needs)
-    (λ c κs. search needs)
-    returns
+    (tie.spec (λ c κs. search needs) (λ c κs. search needs) (λ c κs. search needs) returns
     (λ c. rw (sym (c .before .is-number .ensures) ∙ c .if1 .left)))

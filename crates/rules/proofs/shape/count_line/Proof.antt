@@ -1,11 +1,11 @@
 -- `count_line` meets its contract.
-use Rattle.lines.specs.Held.{lineOf}
+use Rattle.lines.specs.Held.{heldLine}
 use borrow.Author.Needs.{needs}
 use Rattle.rules.proofs.shape.count_line.Statement.{statement}
 use Rattle.rules.proofs.shape.count_line.Tie as tie
 
 returns : tie.Need-returns
-unfolding lineOf
+unfolding heldLine
 returns c = rw (c .limits-of .ensures .0)
 
 pub count-line-spec : {M : Type 1} → statement M

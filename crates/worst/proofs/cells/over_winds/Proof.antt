@@ -47,7 +47,8 @@ pressure-of-requires c κs = (start c .pre .0 .density, slow c)
 abbrev force : tie.After-pressure-of Inv-loop μ-loop → Num
 force c =
     let a = start (c .before) in
-    told (c .pressure-of .result) (pressure (a .args .job .building .density) (blowing (c .before))) (c .pressure-of .ensures)
+    told (c .pressure-of .result) (pressure (a .args .job .building .density) (blowing (c .before)))
+    (c .pressure-of .ensures)
     (pressure-small (a .args .job .building .density) (blowing (c .before)) (a .pre .0 .density) (slow (c .before))) tt
 
 -- the sums under its direction
@@ -55,7 +56,8 @@ summed : (c : tie.After-sums-under Inv-loop μ-loop) → let w = c .before .befo
     c .sums-under .result ≡ under (blowing w .direction) (start w .args .zero) (start w .args .ninety)
 summed c =
     let w = c .before .before .before in
-    said (λ (d : ℤ). under d (start w .args .zero) (start w .args .ninety)) (blowing w .direction) (c .sums-under .ensures)
+    said (λ (d : ℤ). under d (start w .args .zero) (start w .args .ninety)) (blowing w .direction)
+    (c .sums-under .ensures)
     (c .before .struct-told .given .0 .1)
 
 over-internals-requires : tie.Need-over-internals-requires Inv-loop μ-loop
@@ -79,7 +81,9 @@ loop-again c =
       run-step _ _ _ (l .best) (c .over-internals .result) (l .w) (omega (arith, a .pre .0 .someWind)) (l .inv .1)
           (λ s. c .over-internals .ensures s
           ∙ (λ k. better s (topOf (endOf s (l .best))) (cellsBest s (summed u k .span) (force (u .before .before) .same k) (j .internals) (l .w + 1)))
-          ∙ ap (λ (w : Wind). better s (topOf (endOf s (l .best))) (cellsBest s (under (w .direction) (a .args .zero) (a .args .ninety) .span) (pressure (j .building .density) w) (j .internals) (l .w + 1))) (at-next (λ k. getD (j .winds .entry) k noWind) (l .w))),
+          ∙ ap
+          (λ (w : Wind). better s (topOf (endOf s (l .best))) (cellsBest s (under (w .direction) (a .args .zero) (a .args .ninety) .span) (pressure (j .building .density) w) (j .internals) (l .w + 1)))
+          (at-next (λ k. getD (j .winds .entry) k noWind) (l .w))),
     )
 
 -- every wind has been gone through
@@ -93,17 +97,6 @@ returns c =
 pub over-winds-spec : {M : Type 1} → statement M
 over-winds-spec =
     tie.close
-    (tie.spec
-    Inv-loop
-    μ-loop
-    (λ c. search needs)
-    loop-holds
-    (λ c. search needs)
-    (λ c. search needs)
-    pressure-of-requires
-    (λ c κs. search needs)
-    (λ c. search needs)
-    over-internals-requires
-    (λ c. search needs)
-    loop-again
-    returns)
+    (tie.spec Inv-loop μ-loop (λ c. search needs) loop-holds (λ c. search needs) (λ c. search needs)
+    pressure-of-requires (λ c κs. search needs) (λ c. search needs) over-internals-requires (λ c. search needs)
+    loop-again returns)

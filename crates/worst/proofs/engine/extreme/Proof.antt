@@ -19,7 +19,9 @@ returns c =
     let t = d .before .before in
     let a = t .before .before .before .before in
     let w = getD (a .args .job .winds .entry) (a .args .top .wind - 1) noWind in
-    let summed = said (λ (z : ℤ). under z (a .args .zero) (a .args .ninety)) (w .direction) (d .before .sums-under .ensures) (t .struct-told .given .0 .1) in
+    let summed =
+    said (λ (z : ℤ). under z (a .args .zero) (a .args .ninety)) (w .direction) (d .before .sums-under .ensures)
+    (t .struct-told .given .0 .1) in
     let f : SFits w64 (a .args .top .total) = search needs in
     λ j. record {
       total = toZ-ofZ w64 (a .args .top .total) f j;
@@ -32,12 +34,5 @@ returns c =
 pub extreme-spec : {M : Type 1} → statement M
 extreme-spec =
     tie.close
-    (tie.spec
-    (λ c. search needs)
-    (λ c. search needs)
-    (λ c. search needs)
-    (λ c κs. search needs)
-    (λ c κs. search needs)
-    (λ c. search needs)
-    (λ c. search needs)
-    returns)
+    (tie.spec (λ c. search needs) (λ c. search needs) (λ c. search needs) (λ c κs. search needs)
+    (λ c κs. search needs) (λ c. search needs) (λ c. search needs) returns)

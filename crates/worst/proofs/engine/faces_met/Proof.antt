@@ -38,7 +38,9 @@ loop-again c =
     let a = c .before .before .before .before .before .before .before in
     let winds = a .args .job .winds in (
       omega arith,
-      λ k h e. by-test (eqb k (l .i)) (λ q. c .if1 .left (ap (ofZ w64) (ap (λ m. getD (winds .entry) m noWind .direction) (sym (eqb-true k (l .i) q)) ∙ e ∙ direction-is a))) (λ q. l .inv .1 k (omega (arith, eqb-false k (l .i) q)) e),
+      λ k h e. by-test (eqb k (l .i))
+          (λ q. c .if1 .left (ap (ofZ w64) (ap (λ m. getD (winds .entry) m noWind .direction) (sym (eqb-true k (l .i) q)) ∙ e ∙ direction-is a)))
+          (λ q. l .inv .1 k (omega (arith, eqb-false k (l .i) q)) e),
     )
 
 returns-2 : tie.Need-returns-2 Inv-loop μ-loop
@@ -51,16 +53,5 @@ returns-2 c =
 pub faces-met-spec : {M : Type 1} → statement M
 faces-met-spec =
     tie.close
-    (tie.spec
-    Inv-loop
-    μ-loop
-    (λ c. search needs)
-    loop-holds
-    (λ c. search needs)
-    (λ c. search needs)
-    (λ c. search needs)
-    returns
-    (λ c. search needs)
-    (λ c. search needs)
-    loop-again
-    returns-2)
+    (tie.spec Inv-loop μ-loop (λ c. search needs) loop-holds (λ c. search needs) (λ c. search needs)
+    (λ c. search needs) returns (λ c. search needs) (λ c. search needs) loop-again returns-2)

@@ -1,4 +1,5 @@
--- `engine::six_of` meets its contract: the best cells from the sums under either direction are the worst of all cases.
+-- `engine::six_of` meets its contract: the best cells from the sums under either direction are the worst of all
+-- cases.
 use mathlib.Core.Path.{_≡_, refl, _∙_}
 use Prim.Native.Nat.{_≤_}
 use native.Mathlib.Omega.{arith}
@@ -47,11 +48,13 @@ module _ (c : tie.After-added2) where
 
   zero-small : AxesSmall 24 (c .before .added .result)
   zero-small =
-      met-small (a .args .job) (a .pre) (pos 0) (m .faces-met .result) refl (m .faces-met .ensures) (c .before .added .result) (c .before .added .ensures)
+      met-small (a .args .job) (a .pre) (pos 0) (m .faces-met .result) refl (m .faces-met .ensures)
+      (c .before .added .result) (c .before .added .ensures)
 
   ninety-small : AxesSmall 24 (c .added2 .result)
   ninety-small =
-      met-small (a .args .job) (a .pre) (pos 90) (n .faces-met2 .result) refl (n .faces-met2 .ensures) (c .added2 .result) (c .added2 .ensures)
+      met-small (a .args .job) (a .pre) (pos 90) (n .faces-met2 .result) refl (n .faces-met2 .ensures)
+      (c .added2 .result) (c .added2 .ensures)
 
   -- so those of any axis are
   ready : Ready (a .args .job) × AxesSmall 24 (c .before .added .result) × AxesSmall 24 (c .added2 .result)
@@ -69,18 +72,18 @@ extremes-requires-3 c κs = let r = ready (c .before .before) in search needs
 returns : tie.Need-returns
 returns c =
     let d = c .before .before .before in
-    (λ k. record { x = c .before .before .extremes .ensures k; y = c .before .extremes2 .ensures k; z = c .extremes3 .ensures k })
-    ∙ six-are (a d .args .job) (a d .pre) (room (a d)) (m d .faces-met .result) (n d .faces-met2 .result) (m d .faces-met .ensures) (n d .faces-met2 .ensures) (d .before .added .result) (d .added2 .result) (d .before .added .ensures) (d .added2 .ensures)
+    (λ k.
+    record {
+      x = c .before .before .extremes .ensures k;
+      y = c .before .extremes2 .ensures k;
+      z = c .extremes3 .ensures k;
+    })
+    ∙ six-are (a d .args .job) (a d .pre) (room (a d)) (m d .faces-met .result) (n d .faces-met2 .result)
+    (m d .faces-met .ensures) (n d .faces-met2 .ensures) (d .before .added .result) (d .added2 .result)
+    (d .before .added .ensures) (d .added2 .ensures)
 
 pub six-of-spec : {M : Type 1} → statement M
 six-of-spec =
     tie.close
-    (tie.spec
-    faces-met-requires
-    faces-met-requires-2
-    added-requires
-    added-requires-2
-    extremes-requires
-    extremes-requires-2
-    extremes-requires-3
-    returns)
+    (tie.spec faces-met-requires faces-met-requires-2 added-requires added-requires-2 extremes-requires
+    extremes-requires-2 extremes-requires-3 returns)

@@ -48,7 +48,8 @@ with-surface-requires c κs =
     let l = c .before .before .before .loop in
     let t = c .before .before .loop-test .taken in (
       omega (arith, a .pre .0),
-      subst (AxesSmall 23) (sym (l .inv .1)) (axes-small (surfaceOn (a .args .b) (met a)) (a .args .t2 .entry) noFace (l .i) (λ k h. small a k (omega arith)) 23 (omega (arith, a .pre .0))),
+      subst (AxesSmall 23) (sym (l .inv .1))
+          (axes-small (surfaceOn (a .args .b) (met a)) (a .args .t2 .entry) noFace (l .i) (λ k h. small a k (omega arith)) 23 (omega (arith, a .pre .0))),
       subst Small (sym (c .surface-on .ensures)) (small a (l .i) t),
     )
 
@@ -60,7 +61,8 @@ loop-again c =
       omega arith,
       c .with-surface .ensures
           ∙ (λ j. withSurface (l .i) (c .before .surface-on .ensures j) (l .inv .1 j))
-          ∙ axes-step (surfaceOn (a .args .b) (met a)) (a .args .t2 .entry) (l .i) noFace (omega (arith, a .pre .0)) (omega (arith, a .pre .0, long a)),
+          ∙ axes-step (surfaceOn (a .args .b) (met a)) (a .args .t2 .entry) (l .i) noFace (omega (arith, a .pre .0))
+          (omega (arith, a .pre .0, long a)),
     )
 
 returns : tie.Need-returns Inv-loop μ-loop
@@ -75,15 +77,5 @@ returns c =
 pub added-spec : {M : Type 1} → statement M
 added-spec =
     tie.close
-    (tie.spec
-    Inv-loop
-    μ-loop
-    loop-holds
-    (λ c. search needs)
-    (λ c. search needs)
-    (λ c κs. search needs)
-    with-surface-requires
-    (λ c. search needs)
-    (λ c. search needs)
-    loop-again
-    returns)
+    (tie.spec Inv-loop μ-loop loop-holds (λ c. search needs) (λ c. search needs) (λ c κs. search needs)
+    with-surface-requires (λ c. search needs) (λ c. search needs) loop-again returns)

@@ -25,4 +25,5 @@ returns-3 c =
     simp (toZ-ofZ w64 (a .args .f .z) f, c .before .enum-told3 .given .1)
 
 pub area-spec : {M : Type 1} → statement M
-area-spec = tie.close (tie.spec (λ c. search needs) (λ c. search needs) (λ c. search needs) returns returns-2 returns-3)
+area-spec =
+    tie.close (tie.spec (λ c. search needs) (λ c. search needs) (λ c. search needs) returns returns-2 returns-3)

@@ -9,8 +9,10 @@ use Rattle.worst.proofs.Kept.{short-read}
 use Rattle.worst.proofs.sums.the_further.Statement.{statement}
 use Rattle.worst.proofs.sums.the_further.Tie as tie
 
-tested : (c : tie.After-falls-short) → c .falls-short .result ≡ short (c .before .args .side) (c .before .args .first) (c .before .args .second)
-tested c = c .falls-short .ensures ∙ short-read (c .before .args .side) (c .before .fits .first) (c .before .fits .second)
+tested : (c : tie.After-falls-short)
+    → c .falls-short .result ≡ short (c .before .args .side) (c .before .args .first) (c .before .args .second)
+tested c =
+    c .falls-short .ensures ∙ short-read (c .before .args .side) (c .before .fits .first) (c .before .fits .second)
 
 returns : tie.Need-returns
 unfolding further

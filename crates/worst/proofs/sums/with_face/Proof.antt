@@ -20,7 +20,8 @@ module _ (d : tie.After-area) where
 
   abbrev size : Num
   size =
-      told (d .area .result) (areaOf (a .args .axis) (a .args .f)) (d .area .ensures) (area-small (a .args .axis) (a .args .f) (a .pre .2)) tt
+      told (d .area .result) (areaOf (a .args .axis) (a .args .f)) (d .area .ensures)
+      (area-small (a .args .axis) (a .args .f) (a .pre .2)) tt
 
   abbrev first : Num
   first = back w64 (num≤ (a .args .f .first) (a .pre .2 .first)) tt ⊗ size
@@ -29,16 +30,20 @@ module _ (d : tie.After-area) where
   second = back w64 (num≤ (a .args .f .second) (a .pre .2 .second)) tt ⊗ size
 
   -- what a call of `the_further` or of `alternative` gave
-  gained : (s : Side) (r : ℤ) → r ≡ further s (back w64 first tt .has) (back w64 second tt .has) → r ≡ reach s (a .args .axis) (a .args .f)
+  gained : (s : Side) (r : ℤ) → r ≡ further s (back w64 first tt .has) (back w64 second tt .has)
+      → r ≡ reach s (a .args .axis) (a .args .f)
   gained s r e = e ∙ (λ j. further s (back w64 first tt .same j) (back w64 second tt .same j))
 
-  noted : (s : Side) (k : ℕ) → k ≡ which s (back w64 first tt .has) (back w64 second tt .has) → k ≡ pick s (a .args .axis) (a .args .f)
+  noted : (s : Side) (k : ℕ) → k ≡ which s (back w64 first tt .has) (back w64 second tt .has)
+      → k ≡ pick s (a .args .axis) (a .args .f)
   noted s k e = e ∙ (λ j. which s (back w64 first tt .same j) (back w64 second tt .same j))
 
   -- a sum with what a face adds to it
-  abbrev grown : (s : Side) (z r : ℤ) → natAbs z ≤ 23 * 120000000 → r ≡ further s (back w64 first tt .has) (back w64 second tt .has) → Num
+  abbrev grown : (s : Side) (z r : ℤ) → natAbs z ≤ 23 * 120000000
+      → r ≡ further s (back w64 first tt .has) (back w64 second tt .has) → Num
   grown s z r h e =
-      back w64 (num≤ z h) tt ⊕ told r (reach s (a .args .axis) (a .args .f)) (gained s r e) (reach-small s (a .args .axis) (a .args .f) (a .pre .2)) tt
+      back w64 (num≤ z h) tt ⊕ told r (reach s (a .args .axis) (a .args .f)) (gained s r e)
+      (reach-small s (a .args .axis) (a .args .f) (a .pre .2)) tt
 
   abbrev wider : Num
   wider = back w64 (num≤ (a .args .sums .span .area) (a .pre .1 .area)) tt ⊕ size
@@ -52,7 +57,8 @@ mul-second c = fit {w = w64} (second (c .before .before .before .before)) tt
 abbrev greatest : tie.After-the-further → Num
 greatest c =
     let d = c .before .before .before .before .before in
-    grown d Greatest (a d .args .sums .span .greatest) (c .the-further .result) (a d .pre .1 .greatest) (c .the-further .ensures)
+    grown d Greatest (a d .args .sums .span .greatest) (c .the-further .result) (a d .pre .1 .greatest)
+    (c .the-further .ensures)
 
 add-t13 : tie.Need-add-t13
 add-t13 c = fit {w = w64} (greatest (c .before .before)) tt
@@ -60,7 +66,8 @@ add-t13 c = fit {w = w64} (greatest (c .before .before)) tt
 abbrev least : tie.After-the-further2 → Num
 least c =
     let d = c .before .before .before .before .before .before .before .before in
-    grown d Least (a d .args .sums .span .least) (c .the-further2 .result) (a d .pre .1 .least) (c .the-further2 .ensures)
+    grown d Least (a d .args .sums .span .least) (c .the-further2 .result) (a d .pre .1 .least)
+    (c .the-further2 .ensures)
 
 add-t16 : tie.Need-add-t16
 add-t16 c = fit {w = w64} (least (c .before .before)) tt
@@ -91,7 +98,12 @@ returns c =
     let h = c .before .before in
     let d = met h in
     λ j. record {
-      span = record { greatest = back w64 (greatest (raised h)) tt .same j; least = back w64 (least (lowered h)) tt .same j; area = back w64 (wider d) tt .same j };
+      span =
+          record {
+            greatest = back w64 (greatest (raised h)) tt .same j;
+            least = back w64 (least (lowered h)) tt .same j;
+            area = back w64 (wider d) tt .same j;
+          };
       high = ap (set (a d .args .sums .high) (a d .args .i)) (noted d Greatest _ (h .alternative .ensures)) j;
       low = ap (set (a d .args .sums .low) (a d .args .i)) (noted d Least _ (c .alternative2 .ensures)) j;
     }
@@ -99,17 +111,5 @@ returns c =
 pub with-face-spec : {M : Type 1} → statement M
 with-face-spec =
     tie.close
-    (tie.spec
-    (λ c κs. search needs)
-    mul-first
-    mul-second
-    (λ c κs. search needs)
-    add-t13
-    (λ c κs. search needs)
-    add-t16
-    add-t17
-    (λ c κs. search needs)
-    array-write-high
-    (λ c κs. search needs)
-    array-write-low
-    returns)
+    (tie.spec (λ c κs. search needs) mul-first mul-second (λ c κs. search needs) add-t13 (λ c κs. search needs)
+    add-t16 add-t17 (λ c κs. search needs) array-write-high (λ c κs. search needs) array-write-low returns)

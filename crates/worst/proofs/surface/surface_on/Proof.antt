@@ -15,13 +15,15 @@ looked-up-requires c κs = sym (c .before .takes-part .ensures) ∙ c .if1 .take
 returns : tie.Need-returns
 returns c =
     let a = c .before .before .before in
-    said (λ (d : ℤ). surfaceOn (a .args .b) d (a .args .f)) (a .args .direction) (c .looked-up .ensures) (a .fits .direction .sfits)
+    said (λ (d : ℤ). surfaceOn (a .args .b) d (a .args .f)) (a .args .direction) (c .looked-up .ensures)
+    (a .fits .direction .sfits)
 
 returns-2 : tie.Need-returns-2
 returns-2 c =
     let a = c .before .before in
     surface-aside (a .args .b) (a .args .direction) (a .args .f)
-    (sym (said (acts (a .args .f)) (a .args .direction) (c .before .takes-part .ensures) (a .fits .direction .sfits)) ∙ c .if1 .left)
+    (sym
+    (said (acts (a .args .f)) (a .args .direction) (c .before .takes-part .ensures) (a .fits .direction .sfits)) ∙ c .if1 .left)
 
 pub surface-on-spec : {M : Type 1} → statement M
 surface-on-spec = tie.close (tie.spec (λ c κs. search needs) looked-up-requires returns returns-2)
