@@ -1,24 +1,29 @@
--- The laws: of sides, of the best of a list, of cases, and of the quick way that the engine goes.
-pub mod Sides
-pub mod Better
-pub mod Meaning
-pub mod Members
-pub mod Scale
-pub mod Growth
-pub mod Quick
-pub mod Lists
-pub mod Scaled
-pub mod Padded
-pub mod Added
-pub mod Told
-pub mod Kept
-pub mod Runs
-pub mod Found
-pub mod OneFace
-pub mod AllCells
-pub mod Demand
-pub mod Ranges
-pub mod Surfaces
-pub mod Accepted
-pub mod Promises
-pub mod Reckoned
+-- The laws, from the best of a list up to what was promised of a job.
+-- ---- the best of a list, for either side
+pub mod Sides  -- of two values, which falls short
+pub mod Better  -- the better of two bests, and of a list of lists
+pub mod Meaning  -- what the best is, and that it is one
+-- ---- cases
+pub mod Members  -- which cases there are
+pub mod Scale  -- the pressure number as a factor of a sum
+pub mod Growth  -- more winds, more internal coefficients, faster winds
+pub mod Quick  -- the quick way finds the worst of all cases
+-- ---- numbers and lists as the code has them
+pub mod Lists  -- lists that loops go over
+pub mod Padded  -- arrays filled from their start
+pub mod Told  -- a signed result read back
+pub mod Kept  -- the better of an earlier and a later cell
+pub mod Runs  -- the best of cells, gone through by number
+-- ---- from one face to all cells
+pub mod Scaled  -- the forces of one face
+pub mod OneFace  -- the best of its alternatives
+pub mod Added  -- faces added up
+pub mod Surfaces  -- a face as its direction meets it
+pub mod Found  -- a job has a best cell
+pub mod AllCells  -- which is the worst of all its cases
+-- ---- jobs
+pub mod Demand  -- the third demand, for what a job gives
+pub mod Ranges  -- how large every number can be
+pub mod Accepted  -- what an accepted job gives
+pub mod Promises  -- the third demand, for accepted jobs
+pub mod Reckoned  -- refused, or accepted as what it carries

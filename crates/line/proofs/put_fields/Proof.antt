@@ -15,11 +15,12 @@ use borrow.Author.Needs.{needs}
 use Rattle.line.proofs.put_fields.Statement.{statement}
 use Rattle.line.proofs.put_fields.Tie as tie
 
--- the loop starts behind the first field, so it says of what stood there before it what stands there now
+-- the loop begins with the second field: whatever the first was put into, the first i fields now stand there
 abbrev Inv-loop : tie.InvT-loop
 Inv-loop buf₀ at x n next₀ i₀ buf next i =
     (n ≡ length (held x)) × (1 ≤ i)
-    × ((l : List ℕ) (a : ℕ) → Put l a (lineText (take 1 (held x))) buf₀ next₀ → Put l a (lineText (take i (held x))) buf next)
+    × ((l : List ℕ) (a : ℕ) → Put l a (lineText (take 1 (held x))) buf₀ next₀
+    → Put l a (lineText (take i (held x))) buf next)
 
 abbrev μ-loop : tie.MeasureT-loop
 μ-loop buf₀ at x n next₀ i₀ buf next i = n - i
