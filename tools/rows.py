@@ -1,11 +1,11 @@
 #!/usr/bin/env python3
-"""rows: writes what crates/rows must print, worked out from the printed tables alone.
+"""rows: writes what crates/printed_rows must print, worked out from the printed tables alone.
 
 The tables below were typed from paper 01 and held against ROM 0.4-95 (document 000). Every value is reckoned with exact fractions
 by the book's words: the row whose limits hold the ratio, the straight line between rows, one rounding to a thousandth with a
 half away from zero. Nothing here is taken from, or run with, the proved code.
 
-    tools/rows.py > crates/rows/stdout
+    tools/rows.py > crates/printed_rows/stdout
 """
 from fractions import Fraction as Q
 

@@ -36,7 +36,7 @@ pub extern "C" fn aral_rewrite(sheet: &[u8], out: &mut [u8]) -> answers::Text
     if read.number != 0 {
         return answers::no_text(read.number, read.line);
     }
-    answers::text_of(written::write_sheet(read.job, out))
+    answers::text_of(sheet_written::write_sheet(read.job, out))
 }
 
 // Its report.
@@ -126,7 +126,7 @@ pub extern "C" fn aral_digits(number: i64, out: &mut [u8]) -> answers::Text
     ensures { λ r. ⌜ (r ≡ hostText (writing (decimal number) (now (out .entry))))
         × (now (out .exit) ≡ bufferAfter (decimal number) (now (out .entry))) ⌝ }
 {
-    answers::text_of(text::write_decimal(number, out))
+    answers::text_of(digits::write_decimal(number, out))
 }
 
 // The doubles of a total.

@@ -15,7 +15,7 @@ fn print(s: &[u8]) {
 
 fn print_number(z: i64) {
     let mut digits = [0u8; 20];
-    let written = text::write_decimal(z, &mut digits);
+    let written = digits::write_decimal(z, &mut digits);
     let Writing::Length(n) = written else {
         return;
     };

@@ -9,7 +9,7 @@ use denote.Ref.{now}
 use lib.Dec.{eqb, lit≤}
 use lib.IntN.{ℤ, pos, negsuc}
 use borrow.Author.Tests.{ne-eqb}
-use Rattle.form.specs.declared.Field.{Field}
+use Rattle.field.specs.declared.Field.{Field}
 use Rattle.lines.specs.Lines.{linesIn}
 use Rattle.page.specs.declared.Writing.the-variants as written
 use Rattle.page.specs.Writing.{writing}

@@ -5,7 +5,7 @@ use mathlib.Core.Logic.{_⊎_, inl, inr}
 use mathlib.Core.List.{List}
 use Prim.Native.Nat.{ℕ, _+_}
 use native.Mathlib.Omega.{arith}
-use Rattle.form.specs.declared.Field.{Field}
+use Rattle.field.specs.declared.Field.{Field}
 use Rattle.lines.specs.Lines.{linesIn}
 use Rattle.job.specs.declared.Job.{Job}
 use Rattle.job.specs.Carried.{Carried, nothing, carried}

@@ -10,7 +10,7 @@ use Rattle.whole.specs.Lists.{Every}
 use Rattle.whole.specs.Round.{halfUp, roundAway, roundDown, leftOver}
 use Rattle.whole.specs.Newton.{newtons, remainder}
 use Rattle.whole.specs.Digits.{allDigits, valueAfter, value}
-use Rattle.form.specs.Field.{digitsInForm, unsigned, negative, number, field}
+use Rattle.field.specs.Field.{digitsInForm, unsigned, negative, number, field}
 use Rattle.lines.specs.Lines.{split, fieldsOf, linesFrom, linesIn}
 use Rattle.building.specs.declared.Building.{Building}
 use Rattle.building.specs.Test.{beyond, tooLong}

@@ -3,7 +3,7 @@
 use mathlib.Core.Path.{_≡_}
 use mathlib.Core.List.{List}
 use Prim.Native.Nat.{ℕ, _+_}
-use Rattle.form.specs.declared.Field.{Field}
+use Rattle.field.specs.declared.Field.{Field}
 use Rattle.job.specs.Carried.{nothing}
 use Rattle.job.specs.Walk.{sheet}
 use Rattle.job.specs.FirstFault.{FirstFault, NoFault}

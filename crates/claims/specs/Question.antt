@@ -12,7 +12,7 @@ use Rattle.building.specs.Places.{zoneOn, localOn, knows}
 use Rattle.rules.specs.declared.Section.the-variants.{B}
 use Rattle.rules.specs.declared.Kind.the-variants.{Entry}
 use Rattle.rules.specs.Sections.{lineFault}
-use Rattle.fields.specs.Fields.{buildingFields}
+use Rattle.entry_written.specs.Fields.{buildingFields}
 use Rattle.book.specs.declared.Answer as book
 use Rattle.book.specs.declared.Answer.the-variants.{Refused}
 use Rattle.book.specs.Answer.{numberOf, lineOf, valuesOf}

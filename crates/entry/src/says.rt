@@ -3,7 +3,7 @@ use crate::BOTH;
 use crate::Face;
 use crate::Wind;
 use building::Building;
-use form::Field;
+use field::Field;
 use lines::Line;
 ghost use mathlib.Core.Path.{_≡_};
 ghost use Rattle.lines.specs.Held.{held};

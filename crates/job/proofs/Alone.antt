@@ -8,7 +8,7 @@ use lib.ListN.{length, getD, take, length-map}
 use lib.Seq.{take-all}
 use Rattle.whole.specs.Lists.{firstOf}
 use Rattle.whole.proofs.Lists.{every-take, getD-map, firstOf-length, firstOf-getD}
-use Rattle.form.specs.declared.Field.{Field}
+use Rattle.field.specs.declared.Field.{Field}
 use Rattle.rules.specs.declared.Section.{Section}
 use Rattle.rules.specs.declared.Section.the-variants.{B, W, I, F}
 use Rattle.rules.specs.declared.Kind.the-variants.{Count, Entry}
@@ -16,7 +16,7 @@ use Rattle.job.specs.declared.Job.{Job}
 use Rattle.job.specs.declared.Verdict.{Verdict}
 use Rattle.job.specs.Carried.{Carried, noWind, noFace, carried}
 use Rattle.rules.specs.Sections.{about, lineFault}
-use Rattle.fields.specs.Fields.{buildingFields, windFields, internalFields, faceFields}
+use Rattle.entry_written.specs.Fields.{buildingFields, windFields, internalFields, faceFields}
 use Rattle.job.specs.Lines.{entriesOf, sectionOf}
 use Rattle.job.specs.Walk.{verdict, walk}
 use Rattle.job.proofs.Walk.{EntriesInOrder}

@@ -9,8 +9,8 @@ use lib.ListN.{length}
 use borrow.Author.Tests.{not-false}
 use Rattle.whole.specs.Lists.{Every}
 use Rattle.whole.proofs.Lists.{every-by}
-use Rattle.form.specs.declared.Field.{Field}
-use Rattle.form.specs.declared.Field.the-variants.{Bad, Plus, Minus, Letter, Dash}
+use Rattle.field.specs.declared.Field.{Field}
+use Rattle.field.specs.declared.Field.the-variants.{Bad, Plus, Minus, Letter, Dash}
 use Rattle.lines.specs.Lines.{NotBad, InForm, LinesInForm}
 use Rattle.building.specs.declared.Building.{Building}
 use Rattle.building.specs.Places.{A, H}

@@ -11,7 +11,7 @@ use borrow.Author.Tests.{le-leb, not-false}
 use Rattle.whole.specs.Lists.{Every}
 use Rattle.whole.proofs.Lists.{every-by, map-every, every-at}
 use Rattle.whole.proofs.Tests.{by-test, or-true}
-use Rattle.form.specs.declared.Field.{Field}
+use Rattle.field.specs.declared.Field.{Field}
 use Rattle.building.specs.declared.Building.{Building}
 use Rattle.building.specs.Test.{is, tooLong}
 use Rattle.building.specs.Fault.{Fault}
@@ -32,7 +32,7 @@ use Rattle.rules.specs.Faults.{windFaults, faceFaults}
 use Rattle.rules.specs.Sections.{about, lineFault}
 use Rattle.rules.proofs.Rising.{found-none}
 use Rattle.rules.proofs.Line.{in-order}
-use Rattle.fields.specs.Fields.{buildingFields, windFields, internalFields, faceFields}
+use Rattle.entry_written.specs.Fields.{buildingFields, windFields, internalFields, faceFields}
 use Rattle.job.specs.Lines.{entriesOf, linesOf}
 use Rattle.job.specs.Walk.{Accepted, readLines}
 use Rattle.job.specs.InOrder.{Within, WindInOrder, InternalInOrder, FaceInOrder, InOrder}

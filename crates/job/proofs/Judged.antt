@@ -6,7 +6,7 @@ use lib.ListN.{length}
 use lib.Dec.{eqb}
 use borrow.Author.Tests.{eqb-true, eqb-false}
 use Rattle.whole.proofs.Tests.{by-test}
-use Rattle.form.specs.declared.Field.{Field}
+use Rattle.field.specs.declared.Field.{Field}
 use Rattle.building.specs.declared.Building.{Building}
 use Rattle.rules.specs.declared.Section.{Section}
 use Rattle.rules.specs.declared.Section.the-variants.{B, F}

@@ -9,8 +9,8 @@ use lib.IntN.{ℤ, pos, negsuc, negℤ, natAbs}
 use borrow.Author.Tests.{ne-eqb, le-ltb}
 use Rattle.whole.specs.Lists.{Every}
 use Rattle.whole.proofs.Tests.{by-test}
-use Rattle.form.specs.declared.Field.{Field}
-use Rattle.form.specs.declared.Field.the-variants.{Plus, Minus}
+use Rattle.field.specs.declared.Field.{Field}
+use Rattle.field.specs.declared.Field.the-variants.{Plus, Minus}
 use Rattle.lines.specs.Lines.{NotBad}
 use Rattle.building.specs.declared.Building.{Building}
 use Rattle.building.specs.Test.{is, tooLong}
@@ -23,8 +23,8 @@ use Rattle.entry.specs.declared.Wind.{Wind}
 use Rattle.entry.specs.declared.Face.{Face}
 use Rattle.entry.specs.Says.{number, mark, both, buildingOf, windOf, internalOf, faceOf}
 use Rattle.rules.specs.Sections.{forms}
-use Rattle.fields.specs.Fields.{signed, numberField, markField, buildingFields, windFields, internalFields}
-use Rattle.fields.specs.Fields.{faceFields}
+use Rattle.entry_written.specs.Fields.{signed, numberField, markField, buildingFields, windFields, internalFields}
+use Rattle.entry_written.specs.Fields.{faceFields}
 use Rattle.rules.proofs.Form as form
 use Rattle.rules.proofs.Form.{Formed, AllFormed, none, more}
 

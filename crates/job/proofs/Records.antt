@@ -7,7 +7,7 @@ use lib.ListN.{length}
 use lib.IntN.{pos}
 use Rattle.whole.specs.Lists.{firstOf}
 use Rattle.whole.proofs.Lists.{firstOf-fewer, firstOf-all}
-use Rattle.form.specs.declared.Field.{Field}
+use Rattle.field.specs.declared.Field.{Field}
 use Rattle.job.specs.declared.Job.{Job}
 use Rattle.job.specs.Carried.{Carried, noWind, noFace, carried, recorded, SameJob}
 use Rattle.job.specs.Lines.{linesOf}

@@ -5,7 +5,7 @@ use native.Mathlib.Omega.{arith}
 use lib.ListN.{length}
 use Rattle.whole.specs.Lists.{Every}
 use Rattle.whole.proofs.Lists.{every-by, every-map, every-at, map-back, only-one}
-use Rattle.form.specs.declared.Field.{Field}
+use Rattle.field.specs.declared.Field.{Field}
 use Rattle.rules.specs.declared.Section.{Section}
 use Rattle.rules.specs.declared.Section.the-variants.{B, W, I, F}
 use Rattle.rules.specs.declared.Kind.the-variants.{Entry}
@@ -13,7 +13,7 @@ use Rattle.job.specs.declared.Job.{Job}
 use Rattle.job.specs.Carried.{Carried, carried}
 use Rattle.entry.specs.Says.{windOf, internalOf, faceOf}
 use Rattle.rules.specs.Sections.{forms}
-use Rattle.fields.specs.Fields.{windFields, internalFields, faceFields}
+use Rattle.entry_written.specs.Fields.{windFields, internalFields, faceFields}
 use Rattle.job.specs.Lines.{entriesOf, sheetOf, linesOf}
 use Rattle.job.specs.Walk.{Accepted, readLines, judged}
 use Rattle.rules.proofs.Form.{AllFormed}

@@ -10,8 +10,8 @@ use lib.Signed.{_≤ℤ_}
 use lib.ListN.{length, getD, take}
 use borrow.Author.Tests.{eq-eqb, eqb-true, not-false}
 use Rattle.whole.proofs.Parts.{le-by}
-use Rattle.form.specs.declared.Field.{Field}
-use Rattle.form.specs.declared.Field.the-variants.{Plus, Letter}
+use Rattle.field.specs.declared.Field.{Field}
+use Rattle.field.specs.declared.Field.the-variants.{Plus, Letter}
 use Rattle.building.specs.declared.Building.{Building}
 use Rattle.building.specs.Test.{beyond}
 use Rattle.building.proofs.Accepted.{within}

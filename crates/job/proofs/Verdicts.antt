@@ -3,7 +3,7 @@ use Prim.Native.Nat.{ℕ}
 use mathlib.Core.Path.{_≡_, refl, ap, _∙_}
 use mathlib.Core.List.{List}
 use native.Mathlib.Omega.{arith}
-use Rattle.form.specs.declared.Field.{Field}
+use Rattle.field.specs.declared.Field.{Field}
 use Rattle.rules.specs.declared.Kind.{Kind}
 use Rattle.job.specs.declared.Job.{Job}
 use Rattle.job.specs.declared.Verdict.{Verdict}

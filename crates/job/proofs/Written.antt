@@ -8,8 +8,8 @@ use lib.IntN.{ℤ, pos, negsuc}
 use native.Mathlib.Omega.{arith}
 use borrow.Author.Tests.{ne-eqb}
 use Rattle.whole.proofs.Tests.{by-test}
-use Rattle.form.specs.declared.Field.{Field}
-use Rattle.form.specs.declared.Field.the-variants.{Letter}
+use Rattle.field.specs.declared.Field.{Field}
+use Rattle.field.specs.declared.Field.the-variants.{Letter}
 use Rattle.building.specs.declared.Building.{Building}
 use Rattle.building.specs.Test.{is, tooLong}
 use Rattle.building.specs.Fault.{first}
@@ -24,8 +24,8 @@ use Rattle.entry.specs.Says.{both}
 use Rattle.rules.specs.Form.{isNumber, hasForm, inForm}
 use Rattle.rules.specs.Faults.{windFaults, internalFaults, faceFaults}
 use Rattle.rules.specs.Sections.{forms, faultsOf, lineFault}
-use Rattle.fields.specs.Fields.{signed, numberField, markField, buildingFields, windFields, internalFields}
-use Rattle.fields.specs.Fields.{faceFields}
+use Rattle.entry_written.specs.Fields.{signed, numberField, markField, buildingFields, windFields, internalFields}
+use Rattle.entry_written.specs.Fields.{faceFields}
 use Rattle.rules.proofs.Form.{in-formed}
 use Rattle.rules.proofs.Line.{fault-out, fault-in}
 use Rattle.job.proofs.Lines.{signed-back, building-back, wind-back, internal-back, face-back}

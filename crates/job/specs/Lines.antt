@@ -1,12 +1,12 @@
 -- The lines of fields of what a sheet carries: sections B, W, I, F in that order, each after its count.
 use mathlib.Core.List.{List, [], _∷_, _++_, map}
 use lib.ListN.{length}
-use Rattle.form.specs.declared.Field.{Field}
-use Rattle.form.specs.declared.Field.the-variants.{Plus, Letter}
+use Rattle.field.specs.declared.Field.{Field}
+use Rattle.field.specs.declared.Field.the-variants.{Plus, Letter}
 use Rattle.rules.specs.declared.Section.{Section}
 use Rattle.rules.specs.declared.Section.the-variants.{B, W, I, F}
 use Rattle.job.specs.Carried.{Carried}
-use Rattle.fields.specs.Fields.{buildingFields, windFields, internalFields, faceFields}
+use Rattle.entry_written.specs.Fields.{buildingFields, windFields, internalFields, faceFields}
 use Rattle.rules.specs.Sections.{about}
 
 -- the sections of a sheet, in order

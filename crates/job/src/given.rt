@@ -5,7 +5,7 @@ use building::limits::too_long;
 use entry::BOTH;
 use entry::Face;
 use entry::Wind;
-use form::Field;
+use field::Field;
 use rules::Kind;
 use rules::Section;
 use rules::entries;
@@ -16,7 +16,7 @@ ghost use mathlib.Core.List.{[], _∷_};
 ghost use Rattle.building.specs.Test.{is, tooLong};
 ghost use Rattle.entry.specs.Says.{both};
 ghost use Rattle.rules.specs.Sections.{about, lineFault};
-ghost use Rattle.fields.specs.Fields.{windFields, internalFields, faceFields};
+ghost use Rattle.entry_written.specs.Fields.{windFields, internalFields, faceFields};
 
 pub(crate) fn count_fault(s: Section, n: u32) -> u32
     ensures { λ r. ⌜ ((g : Building) → r ≡ lineFault (Kind.Count s) g (Field.Letter (about s .letter) ∷ Field.Plus n ∷ [])) ⌝ }

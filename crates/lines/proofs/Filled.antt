@@ -11,10 +11,10 @@ use lib.ListN.{length, getD, take, drop, set, length-drop, length-append, take-a
 use lib.Seq.{sets, drop-cons, drop-drop, length-take-le, getD-drop}
 use borrow.Author.Tests.{le-leb, lt-leb, ltb-true, ltb-false}
 use Rattle.whole.proofs.Tests.{by-test}
-use Rattle.form.specs.declared.Field.{Field}
+use Rattle.field.specs.declared.Field.{Field}
 use Rattle.lines.specs.declared.Slot.{Slot}
 use Rattle.lines.specs.declared.Line.{Line}
-use Rattle.form.specs.Field.{field}
+use Rattle.field.specs.Field.{field}
 use Rattle.lines.specs.Lines.{split, fieldsOf}
 use Rattle.lines.specs.Held.{slot, blank, noLine, heldLine, firstLine, lineAt, until, fieldLength}
 use Rattle.lines.proofs.Lines.{Free, until-at, until-take, split-until, split-last, split-seam, split-past}

@@ -8,8 +8,8 @@ use lib.ListN.{length, getD, take, drop, length-drop, length-map, length-take, L
 use lib.Seq.{sets-eq, drop-drop, take-at, length-take-le, getD-take}
 use borrow.Author.Tests.{le-leb, lt-leb, ltb-true, ltb-false, leb-true, leb-false}
 use Rattle.whole.proofs.Tests.{by-test}
-use Rattle.form.specs.declared.Field.{Field}
-use Rattle.form.specs.declared.Field.the-variants.{Bad}
+use Rattle.field.specs.declared.Field.{Field}
+use Rattle.field.specs.declared.Field.the-variants.{Bad}
 use Rattle.lines.specs.declared.Slot.{Slot}
 use Rattle.lines.specs.declared.Line.{Line}
 use Rattle.lines.specs.Lines.{fieldsOf, linesIn}

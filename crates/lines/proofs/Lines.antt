@@ -12,8 +12,8 @@ use lib.ListN.{length, getD, take, drop, drop-of-length-le, length-append, lengt
 use lib.Seq.{drop-cons, take-all, take-append-seam, drop-append-add}
 use borrow.Author.Tests.{lt-ltb, le-ltb, eq-eqb, ne-eqb, eqb-true, eqb-false, ltb-true, ltb-false}
 use Rattle.whole.proofs.Tests.{by-test, or-true, or-false}
-use Rattle.form.specs.declared.Field.{Field}
-use Rattle.form.specs.declared.Field.the-variants.{Bad}
+use Rattle.field.specs.declared.Field.{Field}
+use Rattle.field.specs.declared.Field.the-variants.{Bad}
 use Rattle.lines.specs.Lines.{onto, split, fieldsOf, linesFrom, linesIn}
 use Rattle.lines.specs.Held.{until, fieldLength}
 

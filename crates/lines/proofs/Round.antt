@@ -9,16 +9,16 @@ use lib.Dec.{ltb, leb, eqb, lit<}
 use lib.ListN.{length, drop, length-append}
 use borrow.Author.Tests.{eqb-true, leb-true, ltb-true}
 use Rattle.whole.proofs.Tests.{by-test, and-true}
-use Rattle.form.specs.declared.Field.{Field}
-use Rattle.form.specs.declared.Field.the-variants.{Bad, Plus, Minus, Letter, Dash}
+use Rattle.field.specs.declared.Field.{Field}
+use Rattle.field.specs.declared.Field.the-variants.{Bad, Plus, Minus, Letter, Dash}
 use Rattle.whole.specs.Digits.{digits, isDigit, allDigits, valueAfter, value}
-use Rattle.form.specs.Field.{first, digitsInForm, unsigned, negative, number, field, isDash, isCapital}
+use Rattle.field.specs.Field.{first, digitsInForm, unsigned, negative, number, field, isDash, isCapital}
 use Rattle.whole.specs.Lists.{Every}
 use Rattle.lines.specs.Lines.{split, fieldsOf, linesFrom, linesIn, fieldText, lineText, textOfLines, InForm, LinesInForm}
 use Rattle.lines.specs.Lines.{NotBad}
 use Rattle.whole.proofs.Digits.{by-tens, digits-small, digits-more, digits-length}
 use Rattle.whole.proofs.AreDigits.{digits-back}
-use Rattle.form.proofs.Fields.{form-parts, field-digits, field-minus, field-dash, field-letter, value-grows}
+use Rattle.field.proofs.Fields.{form-parts, field-digits, field-minus, field-dash, field-letter, value-grows}
 use Rattle.lines.specs.Held.{until}
 use Rattle.lines.proofs.Lines.{Free, free-append, free-one, split-until, split-seam, split-one, joined}
 use Rattle.lines.proofs.Lines.{split-joined, rows-none, rows-seam}

@@ -1,9 +1,9 @@
 -- Lines of the paper's kind, worked out by the definitions.
 use mathlib.Core.Path.{_≡_, refl}
 use mathlib.Core.List.{[], _∷_}
-use Rattle.form.specs.declared.Field.the-variants.{Bad, Plus, Minus, Letter, Dash}
+use Rattle.field.specs.declared.Field.the-variants.{Bad, Plus, Minus, Letter, Dash}
 use Rattle.whole.specs.Digits.{allDigits, valueAfter, value, digits}
-use Rattle.form.specs.Field.{digitsInForm, unsigned, number, field}
+use Rattle.field.specs.Field.{digitsInForm, unsigned, number, field}
 use Rattle.lines.specs.Lines.{split, fieldsOf, linesFrom, linesIn, lineText, textOfLines}
 
 -- `B 1` with its LF, then `-` with none

@@ -1,11 +1,11 @@
 // A line of a text, read into its fields.
-use form::Field;
+use field::Field;
 ghost use mathlib.Core.Path.{_≡_};
 ghost use mathlib.Core.Bool.{_||_};
 ghost use Prim.Native.Nat.{_+_, _-_, _≤_};
 ghost use lib.Dec.{eqb};
 ghost use lib.ListN.{length, take, drop, getD};
-ghost use Rattle.form.specs.Field.{field};
+ghost use Rattle.field.specs.Field.{field};
 ghost use Rattle.lines.specs.Held.{slot, noLine, lineAt, held, fieldLength};
 
 pub struct Slot {
@@ -62,7 +62,7 @@ fn slot_of(l: &[u8], at: usize, e: usize) -> Slot
     requires { ⌜ (at ≤ e) × (e ≤ length (now l)) ⌝ }
     ensures { λ r. ⌜ r ≡ slot (field (take (e - at) (drop at (now (l .entry))))) ⌝ }
 {
-    let f = form::field_of(&l[at..e]);
+    let f = field::field_of(&l[at..e]);
     Slot { field: f }
 }
 

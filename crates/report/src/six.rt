@@ -19,7 +19,7 @@ pub(crate) fn put_spaced(buf: &mut [u8], at: usize, n: u32) -> usize
     ensures { λ r. ⌜ Put (now (buf .entry)) at (spaced (n ∷ [])) (now (buf .exit)) r ⌝ }
 {
     let next = page::put_byte(buf, at, b' ');
-    text::put_natural(buf, next, n as u64)
+    digits::put_natural(buf, next, n as u64)
 }
 
 // Each number after a space.
@@ -64,7 +64,7 @@ fn put_line(buf: &mut [u8], at: usize, axis: u8, word: &[u8; 5], e: Extreme) -> 
 {
     let named = page::put_byte(buf, at, axis);
     let worded = page::put_bytes(buf, named, word);
-    let totalled = text::put_decimal(buf, worded, e.total);
+    let totalled = digits::put_decimal(buf, worded, e.total);
     let told = put_case(buf, totalled, e);
     page::put_byte(buf, told, b'\n')
 }

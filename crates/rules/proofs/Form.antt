@@ -12,8 +12,8 @@ use lib.Seq.{drop-cons}
 use borrow.Author.Tests.{ne-eqb, eqb-false, le-ltb, ltb-false, not-true}
 use Rattle.whole.proofs.Size.{natAbs-neg}
 use Rattle.whole.proofs.Tests.{and-true, or-true}
-use Rattle.form.specs.declared.Field.{Field}
-use Rattle.form.specs.declared.Field.the-variants.{Bad, Plus, Minus, Letter, Dash}
+use Rattle.field.specs.declared.Field.{Field}
+use Rattle.field.specs.declared.Field.the-variants.{Bad, Plus, Minus, Letter, Dash}
 use Rattle.building.specs.Test.{tooLong}
 use Rattle.entry.specs.Says.{number, at}
 use Rattle.rules.specs.declared.FieldForm.{FieldForm}

@@ -7,7 +7,7 @@ use native.Mathlib.Omega.{arith}
 use lib.Dec.{T}
 use Rattle.whole.specs.Lists.{Every}
 use Rattle.whole.proofs.Tests.{by-test}
-use Rattle.form.specs.declared.Field.{Field}
+use Rattle.field.specs.declared.Field.{Field}
 use Rattle.building.specs.declared.Building.{Building}
 use Rattle.building.specs.Fault.{Fault, first}
 use Rattle.rules.specs.declared.Section.the-variants.{B, W, I, F}

@@ -5,7 +5,7 @@ use crate::Section;
 use building::limits::too_long;
 use entry::says::is_dash;
 use entry::says::number_of;
-use form::Field;
+use field::Field;
 use lines::Line;
 use lines::field_at;
 use lines::held_count;

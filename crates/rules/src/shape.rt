@@ -1,6 +1,6 @@
 // The sections of the sheet as data, and the line before the entries of each.
 use crate::Section;
-use form::Field;
+use field::Field;
 use lines::Line;
 use lines::Slot;
 ghost use mathlib.Core.Path.{_≡_};

@@ -11,8 +11,8 @@ use lib.ListN.{length}
 use Rattle.whole.proofs.Size.{natAbs-neg}
 use Rattle.whole.proofs.Tests.{by-test}
 use Rattle.whole.proofs.Table.{all-at}
-use Rattle.form.specs.declared.Field.{Field}
-use Rattle.form.specs.declared.Field.the-variants.{Plus}
+use Rattle.field.specs.declared.Field.{Field}
+use Rattle.field.specs.declared.Field.the-variants.{Plus}
 use Rattle.lines.specs.Lines.{fieldText}
 use Rattle.whole.proofs.Digits.{digits-length}
 use Rattle.building.specs.declared.Building.{Building}

@@ -7,9 +7,9 @@ use native.Mathlib.Omega.{arith}
 use lib.Dec.{eqb}
 use lib.ListN.{length, getD, length-map}
 use Rattle.whole.proofs.Tests.{by-test}
-use Rattle.form.specs.declared.Field.{Field}
-use Rattle.form.specs.declared.Field.the-variants.{Bad, Plus, Minus, Letter, Dash}
-use Rattle.form.specs.Field.{field}
+use Rattle.field.specs.declared.Field.{Field}
+use Rattle.field.specs.declared.Field.the-variants.{Bad, Plus, Minus, Letter, Dash}
+use Rattle.field.specs.Field.{field}
 use Rattle.whole.specs.Lists.{Every}
 use Rattle.lines.specs.Lines.{onto, split, fieldsOf, fieldText, NotBad}
 use Rattle.lines.proofs.Round.{field-back, field-form, field-length}

@@ -11,7 +11,7 @@ use lib.IntN.{ℤ, pos}
 use lib.ListN.{length}
 use borrow.Author.Tests.{ltb-true, ltb-false}
 use Rattle.whole.proofs.Tests.{by-test}
-use Rattle.form.specs.declared.Field.{Field}
+use Rattle.field.specs.declared.Field.{Field}
 use Rattle.whole.specs.Digits.{digitsWithin, digits}
 use Rattle.lines.specs.Lines.{fieldsOf, fieldText}
 use Rattle.whole.proofs.Digits.{by-tens, length-small, length-more}

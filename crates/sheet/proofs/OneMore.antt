@@ -8,7 +8,7 @@ use lib.IntN.{pos}
 use lib.ListN.{length, drop, getD, set, length-append}
 use Rattle.whole.specs.Lists.{Every}
 use Rattle.whole.proofs.Lists.{firstOf-more}
-use Rattle.form.specs.declared.Field.{Field}
+use Rattle.field.specs.declared.Field.{Field}
 use Rattle.entry.specs.Says.{buildingOf, windOf, internalOf, faceOf}
 use Rattle.rules.specs.declared.Section.{Section}
 use Rattle.rules.specs.declared.Section.the-variants.{B, W, I, F}

@@ -7,8 +7,8 @@ use native.Mathlib.Omega.{arith}
 use lib.ListN.{length}
 use Rattle.whole.proofs.Lists.{every-at}
 use Rattle.whole.proofs.Tests.{by-test}
-use Rattle.form.specs.declared.Field.{Field}
-use Rattle.form.specs.declared.Field.the-variants.{Bad}
+use Rattle.field.specs.declared.Field.{Field}
+use Rattle.field.specs.declared.Field.the-variants.{Bad}
 use Rattle.lines.specs.Lines.{fieldsOf, NotBad}
 use Rattle.building.specs.declared.Building.{Building}
 use Rattle.rules.specs.declared.Section.the-variants.{B, W, I, F}

@@ -4,8 +4,8 @@ use mathlib.Core.Path.{_≡_, ap, _∙_, sym}
 use mathlib.Core.List.{List, [], _∷_, _++_}
 use native.Mathlib.Omega.{arith}
 use lib.ListN.{drop}
-use Rattle.form.specs.declared.Field.{Field}
-use Rattle.form.specs.declared.Field.the-variants.{Bad}
+use Rattle.field.specs.declared.Field.{Field}
+use Rattle.field.specs.declared.Field.the-variants.{Bad}
 use Rattle.lines.specs.declared.Line.{Line}
 use Rattle.lines.specs.Lines.{linesIn}
 use Rattle.lines.specs.Held.{held, lineAt}

@@ -6,7 +6,7 @@ use mathlib.Core.Path.{_≡_, refl}
 use mathlib.Core.List.{List, [], _∷_, map}
 use lib.ListN.{length}
 use Rattle.whole.specs.Digits.{allDigits, valueAfter, value}
-use Rattle.form.specs.Field.{digitsInForm, unsigned, negative, number, field}
+use Rattle.field.specs.Field.{digitsInForm, unsigned, negative, number, field}
 use Rattle.lines.specs.Lines.{split, fieldsOf, linesFrom, linesIn}
 use Rattle.building.specs.Building.{outOfRange, outOfWalls, outOfRoof}
 use Rattle.building.specs.Roof.{roofOf}

@@ -7,7 +7,7 @@ use native.Mathlib.Omega.{arith}
 use lib.IntN.{ℤ}
 use lib.ListN.{length, getD, take}
 use mir.Facts.{toZ-ofZ}
-use Rattle.form.specs.declared.Field.{Field}
+use Rattle.field.specs.declared.Field.{Field}
 use Rattle.building.specs.declared.Building.{Building}
 use Rattle.rules.specs.declared.Section.{Section}
 use Rattle.rules.specs.declared.Section.the-variants.{B, W, I, F}
@@ -15,7 +15,7 @@ use Rattle.rules.specs.declared.Kind.the-variants.{Count, Entry}
 use Rattle.job.specs.declared.Job.{Job}
 use Rattle.job.specs.Carried.{carried}
 use Rattle.rules.specs.Sections.{about, lineFault}
-use Rattle.fields.specs.Fields.{internalFields}
+use Rattle.entry_written.specs.Fields.{internalFields}
 use Rattle.job.specs.Lines.{entriesOf}
 use Rattle.job.proofs.Walk.{EntriesInOrder}
 use Rattle.job.proofs.Sections.{Counted, countLine}

@@ -1,0 +1,52 @@
+-- Laws of a job that is written: refused as it is judged, and else its text is what it carries and fits a page of 827
+-- bytes.
+use Prim.Native.Nat.{ℕ}
+use mathlib.Core.Path.{_≡_, refl}
+use mathlib.Core.List.{List}
+use native.Mathlib.Omega.{arith}
+use lib.ListN.{length, take}
+use Rattle.page.specs.declared.Writing.{Writing}
+use Rattle.page.specs.declared.Writing.the-variants as written
+use Rattle.page.specs.Writing.{Put, writing, bufferAfter}
+use Rattle.page.proofs.Put.{emitted}
+use Rattle.job.specs.declared.Job.{Job}
+use Rattle.job.specs.declared.Verdict.{Verdict}
+use Rattle.job.specs.Carried.{carried}
+use Rattle.job.specs.Lines.{linesOf}
+use Rattle.job.specs.Walk.{Accepted, verdict, judged}
+use Rattle.job.proofs.InOrder.{accepted-in-order}
+use Rattle.job.proofs.Verdicts.{judged-refused, judged-accepted}
+use Rattle.sheet.specs.Sheet.{sheetText, jobWriting, jobBuffer}
+use Rattle.sheet_written.specs.Roomed.{Roomed}
+use Rattle.sheet.proofs.Part.{longest-sheet}
+use Rattle.sheet.proofs.RoundTrip.{written-read}
+
+module _ (j : Job) (v : Verdict) (e : v ≡ verdict (judged j)) where
+  pub job-refused : (v .number ≡ 0 → ⊥) → (buf : List ℕ)
+      → (written.Refused (v .number) (v .line) ≡ jobWriting sheetText (judged j) buf)
+      × (buf ≡ jobBuffer sheetText (judged j) buf)
+  job-refused h buf =
+      rw (judged-refused j v e h) (refl, refl)
+
+  module _ (z : v .number ≡ 0) where
+    judged-is : judged j ≡ Accepted (carried j)
+    judged-is = judged-accepted j v e z
+
+    pub job-roomed : Roomed (carried j)
+    unfolding judged
+    job-roomed =
+        let o = accepted-in-order (linesOf (carried j)) (carried j) judged-is in
+        record {
+          winds = o .winds-counted .high;
+          internals = o .internals-counted .high;
+          faces = o .faces-counted .high;
+        }
+
+    -- the text on a page that has room for the longest, put into a buffer
+    module _ {l page : List ℕ} {n : ℕ} (w : Put l 0 (sheetText (carried j)) page n) (room : length l ≡ 827) where
+      pub job-written : {o : Writing} {after : List ℕ} (buf : List ℕ)
+          → (o ≡ writing (take n page) buf) × (after ≡ bufferAfter (take n page) buf)
+          → (o ≡ jobWriting sheetText (judged j) buf) × (after ≡ jobBuffer sheetText (judged j) buf)
+      job-written buf e =
+          rw judged-is
+          (emitted w (omega (arith, longest-sheet (sheetText (carried j)) (carried j) (written-read j (carried j) judged-is))) buf e)

@@ -1,0 +1,130 @@
+-- `put_section` meets its contract: the count is written, and so are the first i entries.
+use Prim.Native.Nat.{ℕ, _≤_, _<_, _-_}
+use mathlib.Core.Path.{_≡_, sym, _∙_, ap, subst}
+use mathlib.Core.Logic.{⊎-elim}
+use native.Mathlib.Omega.{arith}
+use lib.IntN.{ℤ}
+use lib.ListN.{length, take}
+use mir.Facts.{toZ-ofZ}
+use Rattle.lines.specs.Lines.{textOfLines}
+use Rattle.lines.specs.Held.{heldLine}
+use Rattle.page.specs.Writing.{Put}
+use Rattle.page.proofs.Put.{put-length}
+use Rattle.rules.specs.declared.Section.{Section}
+use Rattle.rules.specs.declared.Section.the-variants.{W, I, F}
+use Rattle.job.specs.declared.Job.{Job}
+use Rattle.job.specs.Carried.{carried}
+use Rattle.rules.specs.Sections.{about}
+use Rattle.entry_written.specs.Fields.{internalFields}
+use Rattle.job.specs.Lines.{entriesOf}
+use Rattle.job.proofs.Sections.{countLine}
+use Rattle.job.proofs.Alone.{entryOf, most-24}
+use Rattle.sheet_written.proofs.Puts.{entry-held, put-none, put-entry, put-all}
+use borrow.Author.Needs.{needs, sfits-of}
+use Rattle.sheet_written.proofs.put_section.Statement.{statement}
+use Rattle.sheet_written.proofs.put_section.Tie as tie
+
+abbrev Inv-loop : tie.InvT-loop
+Inv-loop buf₀ at sec n g winds internals faces next₀ i₀ buf next i =
+    (i ≤ n) × Put buf₀ next₀
+    (textOfLines (take i (entriesOf (carried (record { building = g; winds = winds; internals = internals; faces = faces })) sec))) buf next
+
+abbrev μ-loop : tie.MeasureT-loop
+μ-loop buf₀ at sec n g winds internals faces next₀ i₀ buf next i = n - i
+
+-- entry i is one of the section, which has room for it
+module _ (c : tie.In-loop Inv-loop μ-loop) where
+  abbrev start : tie.Start Inv-loop μ-loop
+  start = c .before .before .before .before .before .before .before .before .before .before .before .before
+
+  abbrev i : ℕ
+  i = c .before .loop .i
+
+  below : (t : Section) → start .args .sec ≡ t → i < about t .most
+  below t e = subst (λ (u : Section). i < about u .most) e (omega (arith, c .loop-test .taken, start .pre .1))
+
+  below-24 : i < 24
+  below-24 = omega (arith, c .loop-test .taken, start .pre .1, most-24 (start .args .sec))
+
+loop-holds : tie.Need-loop-holds Inv-loop μ-loop
+loop-holds c = (search needs, put-none (c .before .before .put-line .ensures))
+
+cast-k : tie.Need-cast-k Inv-loop μ-loop
+cast-k c = record { fits = omega (arith, below-24 c) }
+
+mul-w : tie.Need-mul-w Inv-loop μ-loop
+mul-w c = record { fits = omega (arith, below-24 (c .before .before)) }
+
+element-copy-out-w : tie.Need-element-copy-out-w Inv-loop μ-loop
+element-copy-out-w c = below (c .before .before) W (c .enum-told2 .given .1)
+
+mul-z : tie.Need-mul-z Inv-loop μ-loop
+mul-z c = record { fits = omega (arith, below-24 (c .before .before)) }
+
+element-copy-out-z : tie.Need-element-copy-out-z Inv-loop μ-loop
+element-copy-out-z c = below (c .before .before) I (c .enum-told3 .given .1)
+
+mul-f : tie.Need-mul-f Inv-loop μ-loop
+mul-f c = record { fits = omega (arith, below-24 (c .before .before)) }
+
+element-copy-out-f : tie.Need-element-copy-out-f Inv-loop μ-loop
+element-copy-out-f c = below (c .before .before) F (c .enum-told4 .given .1)
+
+-- the line that was made is entry i
+module _ (c : tie.At-match-came Inv-loop μ-loop) where
+  abbrev job : Job
+  job = start (c .before) .args .j
+
+  abbrev section : Section
+  section = start (c .before) .args .sec
+
+  made : c .match .x ≡ heldLine 0 (entryOf job section (i (c .before)))
+  made =
+      ⊎-elim (λ w. w .3 ∙ w .2 .ensures ∙ told (w .1 .given .1))
+      (⊎-elim (λ w. w .4 ∙ w .3 .ensures ∙ told (w .1 .given .1))
+      (⊎-elim (λ w. w .4 ∙ w .3 .ensures ∙ ap (λ (z : ℤ). heldLine 0 (internalFields z)) (toZ-ofZ (sfits-of (w .2 .given))) ∙ told (w .1 .given .1))
+      (λ w. w .4 ∙ w .3 .ensures ∙ told (w .1 .given .1))))
+      (c .match .came)
+    where
+      told : {t : Section} → section ≡ t
+          → heldLine 0 (entryOf job t (i (c .before))) ≡ heldLine 0 (entryOf job section (i (c .before)))
+      told e = ap (λ (t : Section). heldLine 0 (entryOf job t (i (c .before)))) (sym e)
+
+add-i : tie.Need-add-i Inv-loop μ-loop
+add-i c = record { fits = omega (arith, below-24 (c .before .before .before .before .before)) }
+
+loop-again : tie.Need-loop-again Inv-loop μ-loop
+loop-again c =
+    let p = c .before .before in
+    let m = p .before .before in
+    let t = m .before in
+    let h : i t < length (entriesOf (carried (job m)) (section m)) =
+    omega (arith, t .loop-test .taken, start t .pre .0) in (
+      omega arith,
+      put-entry (entriesOf (carried (job m)) (section m)) (i t) (m .match .x) h
+          (entry-held (job m) (section m) (i t) (m .match .x) h (made m)) (t .before .loop .inv .1) (p .put-line2 .ensures),
+    )
+
+same-length : tie.Need-same-length Inv-loop μ-loop
+same-length c =
+    let p = c .before .before .before .before in
+    put-length (c .before .loop .inv .1) ∙ put-length (p .put-line .ensures)
+
+returns : tie.Need-returns Inv-loop μ-loop
+returns c =
+    let p = c .before .before .before .before in
+    let n = p .before in
+    let s = n .before .before .before .before .before .before .before in
+    let es = entriesOf (carried (s .args .j)) (s .args .sec) in
+    put-all (s .args .sec) es (c .before .loop .i) (n .count-line .result)
+    (omega (arith, c .loop-test .left, s .pre .0))
+    (n .count-line .ensures ∙ ap (λ (k : ℕ). heldLine 0 (countLine (s .args .sec) k)) (s .pre .0))
+    (p .put-line .ensures) (c .before .loop .inv .1)
+
+pub put-section-spec : {M : Type 1} → statement M
+put-section-spec =
+    tie.close
+    (tie.spec Inv-loop μ-loop (λ c κs. search needs) (λ c κs. search needs) loop-holds cast-k (λ c. search needs)
+    (λ c κs. search needs) (λ c. search needs) mul-w element-copy-out-w (λ c κs. search needs) (λ c. search needs)
+    mul-z element-copy-out-z (λ c κs. search needs) (λ c. search needs) mul-f element-copy-out-f
+    (λ c κs. search needs) (λ c κs. search needs) add-i (λ c. search needs) loop-again same-length returns)

@@ -1,0 +1,81 @@
+// A job written: its own refusal first, and then its text put into the lent buffer.
+use entry_written::building_line;
+use entry_written::face_line;
+use entry_written::internal_line;
+use entry_written::wind_line;
+use job::Job;
+use job::judge::judge;
+use lines_written::put_line;
+use page::Writing;
+use rules::Section;
+use rules::shape::count_line;
+ghost use mathlib.Core.Path.{_≡_};
+ghost use Prim.Native.Nat.{_≤_};
+ghost use lib.ListN.{length};
+ghost use Rattle.lines.specs.Lines.{textOfLines};
+ghost use Rattle.page.specs.Writing.{Put};
+ghost use Rattle.job.specs.Carried.{carried};
+ghost use Rattle.rules.specs.Sections.{about};
+ghost use Rattle.job.specs.Lines.{sectionOf, entriesOf};
+ghost use Rattle.job.specs.Walk.{judged};
+ghost use Rattle.sheet.specs.Sheet.{sheetText, jobWriting, jobBuffer};
+ghost use Rattle.sheet_written.specs.Roomed.{Roomed};
+
+// A section of n entries: its count, and the entries.
+fn put_section(buf: &mut [u8], at: usize, j: Job, sec: Section, n: u32) -> usize
+    requires { ⌜ (n ≡ length (entriesOf (carried j) sec)) × (n ≤ about sec .most) ⌝ }
+    ensures { λ r. ⌜ Put (now (buf .entry)) at (textOfLines (sectionOf sec (entriesOf (carried j) sec)))
+        (now (buf .exit)) r ⌝ }
+{
+    let g = j.building;
+    let winds = j.winds;
+    let internals = j.internals;
+    let faces = j.faces;
+    let mut next = put_line(buf, at, count_line(sec, n));
+    let mut i: u32 = 0;
+    while i < n {
+        let k = i as usize;
+        let x = match sec {
+            Section::B => building_line(g),
+            Section::W => {
+                let w = winds.entry[k];
+                wind_line(w)
+            }
+            Section::I => {
+                let z = internals.entry[k];
+                internal_line(z)
+            }
+            Section::F => {
+                let f = faces.entry[k];
+                face_line(f)
+            }
+        };
+        next = put_line(buf, next, x);
+        i += 1;
+    }
+    next
+}
+
+fn put_sheet(buf: &mut [u8], j: Job) -> usize
+    requires { ⌜ Roomed (carried j) ⌝ }
+    ensures { λ r. ⌜ Put (now (buf .entry)) 0 (sheetText (carried j)) (now (buf .exit)) r ⌝ }
+{
+    let b = put_section(buf, 0, j, Section::B, 1);
+    let w = put_section(buf, b, j, Section::W, j.winds.count);
+    let i = put_section(buf, w, j, Section::I, j.internals.count);
+    put_section(buf, i, j, Section::F, j.faces.count)
+}
+
+// The text of j at the start of `buf`; no accepted job has one of more than 827 bytes.
+pub fn write_sheet(j: Job, buf: &mut [u8]) -> Writing
+    ensures { λ r. ⌜ (r ≡ jobWriting sheetText (judged j) (now (buf .entry)))
+        × (now (buf .exit) ≡ jobBuffer sheetText (judged j) (now (buf .entry))) ⌝ }
+{
+    let v = judge(j);
+    if v.number != 0 {
+        return Writing::Refused(v.number, v.line);
+    }
+    let mut page = [0u8; 827];
+    let n = put_sheet(&mut page, j);
+    page::emit(&page, n, buf)
+}
