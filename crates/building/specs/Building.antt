@@ -13,31 +13,31 @@ use Rattle.building.specs.Roof.{roofOf, alongOf, acrossOf}
 
 -- ---- 3: each number by itself
 
-pub record Field : Type 0 where
+pub record Range : Type 0 where
   pub number : ℤ
   pub least : ℕ
   pub greatest : ℕ
 
-abbrev pub field : ℤ → ℕ → ℕ → Field
-field number least greatest = record { number = number; least = least; greatest = greatest }
+abbrev pub range : ℤ → ℕ → ℕ → Range
+range number least greatest = record { number = number; least = least; greatest = greatest }
 
 -- the line's numbers and their ranges
-abbrev pub fields : Building → List Field
-fields g =
-    field (g .h) 100 30000
-    ∷ field (g .a) 100 30000
-    ∷ field (g .b) 100 30000
-    ∷ field (g .density) 1000 1500
-    ∷ field (g .kind) 0 5
-    ∷ field (g .x) 0 30000
+abbrev pub ranges : Building → List Range
+ranges g =
+    range (g .h) 100 30000
+    ∷ range (g .a) 100 30000
+    ∷ range (g .b) 100 30000
+    ∷ range (g .density) 1000 1500
+    ∷ range (g .kind) 0 5
+    ∷ range (g .x) 0 30000
     ∷ []
 
-abbrev pub some : (Field → Bool) → List Field → Bool
+abbrev pub some : (Range → Bool) → List Range → Bool
 some f [] = false
 some f (r ∷ rs) = f r || some f rs
 
 unfoldable pub outOfRange : Building → Bool
-outOfRange g = some (λ r. beyond (pos (r .least)) (pos (r .greatest)) (r .number)) (fields g)
+outOfRange g = some (λ r. beyond (pos (r .least)) (pos (r .greatest)) (r .number)) (ranges g)
 
 -- ---- 4 and 5: the numbers together, once each is in its range
 
@@ -79,7 +79,7 @@ buildingFault g = first (faults g)
 
 -- some number is too long
 unfoldable pub outOfForm : Building → Bool
-outOfForm g = some (λ r. tooLong (r .number)) (fields g)
+outOfForm g = some (λ r. tooLong (r .number)) (ranges g)
 
 -- the number that its line would get
 unfoldable pub givenFault : Building → ℕ

@@ -1,16 +1,16 @@
 -- The printed cases of paper 01, P1 to P12 and the two sheets under them: one table, and one claim about the
 -- definitions.
-use Prim.Native.Char.{code}
-use Prim.Native.String.{String, [] as none, _∷_ as _then_}
+use Prim.Native.String.{String}
 use Prim.Native.Nat.{ℕ}
 use mathlib.Core.Path.{_≡_, refl}
 use mathlib.Core.List.{List, [], _∷_}
 use lib.IntN.{ℤ, pos, negℤ}
+use Rattle.whole.proofs.Quoted.{bytes}
 use Rattle.whole.specs.Lists.{Every}
 use Rattle.whole.specs.Round.{halfUp, roundAway, roundDown, leftOver}
 use Rattle.whole.specs.Newton.{newtons, remainder}
 use Rattle.whole.specs.Digits.{allDigits, valueAfter, value}
-use Rattle.field.specs.Field.{digitsInForm, unsigned, negative, number, field}
+use Rattle.field.specs.Field.{digitsInForm, unsigned, negative, numeral, fieldFrom}
 use Rattle.lines.specs.Lines.{split, fieldsOf, linesFrom, linesIn}
 use Rattle.building.specs.declared.Building.{Building}
 use Rattle.building.specs.Test.{beyond, tooLong}
@@ -49,11 +49,6 @@ alone density speed net area =
     (record { density = pos density; outside = λ direction zone. net ∷ []; winds = []; internals = []; faces = [] })
     (record { direction = pos 0; speed = pos speed }) (pos 0)
     (record { zone = 65; mark = both; x = area; y = pos 0; z = pos 0 }) 1
-
--- the bytes of a quoted text
-abbrev pub bytes : String → List ℕ
-bytes none = []
-bytes (c then s) = code c ∷ bytes s
 
 abbrev pub Holds : Row → Type 0
 Holds (gives g direction place values) = valuesOf (outsideOf g (pos direction) place) ≡ values
@@ -110,7 +105,7 @@ pub printed-hold : Every Holds printed
 unfolding outsideOf askedOf givenFault buildingFault outOfForm outOfRange outOfWalls outOfRoof tooLong beyond zoneOn
     localOn roofOf coefficientOf wallColumn gableColumn flatColumn wallRow wallCells blockOf roofValue roofCells
     spotIn partAts firstRow spotFrom onStraight halfUp roundAway roundDown leftOver reading linesIn linesFrom split fieldsOf
-    field number unsigned negative digitsInForm allDigits valueAfter value readLines walk lineFault inForm hasForm
+    fieldFrom numeral unsigned negative digitsInForm allDigits valueAfter value readLines walk lineFault inForm hasForm
 printed-hold =
     refl and refl and refl and refl  -- P1 to P4
     and refl and refl and refl and refl and refl  -- P5 to P7

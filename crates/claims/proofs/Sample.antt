@@ -1,13 +1,13 @@
 -- The worked sheet of paper 01 and the six lines that `totals` writes for it, from bytes to bytes: the definitions
 -- compute them over every case.
 use Prim.Native.Nat.{ℕ}
-use Prim.Native.Char.{code}
-use Prim.Native.String.{String, [] as none, _∷_ as _then_, _++_ as _&_}
+use Prim.Native.String.{String, _++_ as _&_}
 use mathlib.Core.Path.{_≡_, refl}
 use mathlib.Core.List.{List, [], _∷_}
+use Rattle.whole.proofs.Quoted.{bytes}
 use Rattle.whole.specs.Round.{halfUp, roundAway}
 use Rattle.whole.specs.Digits.{digitsWithin, digits, decimal, allDigits, valueAfter, value}
-use Rattle.field.specs.Field.{digitsInForm, unsigned, negative, number, field}
+use Rattle.field.specs.Field.{digitsInForm, unsigned, negative, numeral, fieldFrom}
 use Rattle.lines.specs.Lines.{split, fieldsOf, linesFrom, linesIn}
 use Rattle.book.specs.Line.{spotFrom, onStraight}
 use Rattle.book.specs.Walls.{wallRow, wallCells}
@@ -30,11 +30,6 @@ use Rattle.worst.specs.Worst.{sixExtremes}
 use Rattle.report.specs.Lines.{spaced, extremeText, axisText, sixText}
 use Rattle.report.specs.Report.{reportText, totalsText}
 
--- the bytes of a quoted text
-abbrev bytes : String → List ℕ
-bytes none = []
-bytes (c then s) = code c ∷ bytes s
-
 abbrev sheet : String
 sheet = "B 1\n500 1200 1000 1250 2 0\nW 1\n0 400\nI 2\n20\n-30\nF 3\nA 0 1000 0 0\nB - -1000 0 0\nF 0 0 0 -2000\n"
 
@@ -49,7 +44,7 @@ lines =
 
 pub sample : totalsText (reading (bytes sheet)) ≡ bytes lines
 unfolding halfUp roundAway digitsWithin digits decimal allDigits valueAfter value digitsInForm unsigned negative
-    number field split fieldsOf linesFrom linesIn spotFrom onStraight wallRow wallCells blockOf outOfRoof roofOf roofCells
+    numeral fieldFrom split fieldsOf linesFrom linesIn spotFrom onStraight wallRow wallCells blockOf outOfRoof roofOf roofCells
     partAts firstRow spotIn roofValue givenFault buildingFault outOfForm outOfRange outOfWalls tooLong zoneOn
     localOn wallColumn gableColumn flatColumn coefficientOf outsideOf askedOf beyond hasForm inForm lineFault walk
     readLines reading better best numbers each choices total cases caseTotal worst padded shown sixExtremes spaced

@@ -16,7 +16,7 @@ use Rattle.whole.proofs.Tests.{by-test, and-true}
 use Rattle.field.specs.declared.Field.{Field}
 use Rattle.field.specs.declared.Field.the-variants.{Bad, Plus, Minus, Letter, Dash}
 use Rattle.whole.specs.Digits.{digits, decimal, isDigit, allDigits, leadingZero, valueAfter, value}
-use Rattle.field.specs.Field.{first, digitsInForm, unsigned, negative, number, field}
+use Rattle.field.specs.Field.{firstByte, digitsInForm, unsigned, negative, numeral, fieldFrom}
 use Rattle.whole.proofs.Digits.{Begins, digits-all, digits-begin, digits-lead, digits-length, digits-read}
 
 -- ---- digit by digit, from a place on
@@ -89,15 +89,15 @@ module _ (ds : List ℕ) where
     unfolding digitsInForm
     form-is = rw (le-leb 1 (length ds) (omega arith), le-leb (length ds) 7 short)
 
-    pub form-led : 1 < length ds → first ds ≡ 48 → digitsInForm ds ≡ false
-    form-led h z = form-is ∙ rw (lt-ltb 1 (length ds) h, eq-eqb (first ds) 48 z)
+    pub form-led : 1 < length ds → firstByte ds ≡ 48 → digitsInForm ds ≡ false
+    form-led h z = form-is ∙ rw (lt-ltb 1 (length ds) h, eq-eqb (firstByte ds) 48 z)
 
-    pub form-plain : (first ds ≡ 48 → ⊥) → digitsInForm ds ≡ allDigits ds
-    form-plain z = form-is ∙ by-test (ltb 1 (length ds)) (λ t. rw (t, ne-eqb (first ds) 48 z)) (λ t. rw t)
+    pub form-plain : (firstByte ds ≡ 48 → ⊥) → digitsInForm ds ≡ allDigits ds
+    form-plain z = form-is ∙ by-test (ltb 1 (length ds)) (λ t. rw (t, ne-eqb (firstByte ds) 48 z)) (λ t. rw t)
 
 -- ---- a number, and a field, as the code tells them apart
 
-pub unsigned-zero : (s : List ℕ) → (length s ≡ 0 → ⊥) → length s ≤ 1 → first s ≡ 48 → Plus 0 ≡ unsigned s
+pub unsigned-zero : (s : List ℕ) → (length s ≡ 0 → ⊥) → length s ≤ 1 → firstByte s ≡ 48 → Plus 0 ≡ unsigned s
 unfolding unsigned digitsInForm allDigits value valueAfter
 unsigned-zero [] some short z = absurd (some refl)
 unsigned-zero (d ∷ []) some short z = rw z
@@ -119,7 +119,7 @@ module _ (s : List ℕ) where
       (λ t. (t, cc (unsigned-yes t)))
       (λ t. let z : _≡_ {A = ℕ} 0 1 = cc (unsigned-no t) in absurd (omega arith))
 
-  pub unsigned-plain : (length s ≡ 0 → ⊥) → length s ≤ 7 → (first s ≡ 48 → ⊥)
+  pub unsigned-plain : (length s ≡ 0 → ⊥) → length s ≤ 7 → (firstByte s ≡ 48 → ⊥)
       → cond (allDigits s) (Plus (value s)) Bad ≡ unsigned s
   unfolding unsigned
   unsigned-plain some short z = rw (form-plain s some short z)
@@ -136,47 +136,47 @@ module _ (s : List ℕ) where
   unfolding negative
   negative-no t = rw t
 
-  pub number-minus : first s ≡ 45 → negative (drop 1 s) ≡ number s
-  unfolding number
-  number-minus h = rw (eq-eqb (first s) 45 h)
+  pub number-minus : firstByte s ≡ 45 → negative (drop 1 s) ≡ numeral s
+  unfolding numeral
+  number-minus h = rw (eq-eqb (firstByte s) 45 h)
 
-  pub number-plus : (first s ≡ 45 → ⊥) → unsigned s ≡ number s
-  unfolding number
-  number-plus h = rw (ne-eqb (first s) 45 h)
+  pub number-plus : (firstByte s ≡ 45 → ⊥) → unsigned s ≡ numeral s
+  unfolding numeral
+  number-plus h = rw (ne-eqb (firstByte s) 45 h)
 
-  pub number-none : length s ≡ 0 → Bad ≡ number s
+  pub number-none : length s ≡ 0 → Bad ≡ numeral s
   number-none h =
       let z : length s ≤ 0 = omega arith in
       unsigned-no (form-none s h) ∙ number-plus (λ e. omega (arith, List·getD-eq-default s 0 z))
 
-  pub field-many : (length s ≡ 1 → ⊥) → number s ≡ field s
-  unfolding field
+  pub field-many : (length s ≡ 1 → ⊥) → numeral s ≡ fieldFrom s
+  unfolding fieldFrom
   field-many h = rw (ne-eqb (length s) 1 h)
 
   module _ (h : length s ≡ 1) where
-    pub field-dash : first s ≡ 45 → Dash ≡ field s
-    unfolding field
-    field-dash d = rw (eq-eqb (length s) 1 h, eq-eqb (first s) 45 d)
+    pub field-dash : firstByte s ≡ 45 → Dash ≡ fieldFrom s
+    unfolding fieldFrom
+    field-dash d = rw (eq-eqb (length s) 1 h, eq-eqb (firstByte s) 45 d)
 
-    pub field-low : (first s ≡ 45 → ⊥) → first s < 65 → number s ≡ field s
-    unfolding field
-    field-low d k = rw (eq-eqb (length s) 1 h, ne-eqb (first s) 45 d, lt-leb 65 (first s) k)
+    pub field-low : (firstByte s ≡ 45 → ⊥) → firstByte s < 65 → numeral s ≡ fieldFrom s
+    unfolding fieldFrom
+    field-low d k = rw (eq-eqb (length s) 1 h, ne-eqb (firstByte s) 45 d, lt-leb 65 (firstByte s) k)
 
-    pub field-high : (first s ≡ 45 → ⊥) → 65 ≤ first s → 90 < first s → number s ≡ field s
-    unfolding field
-    field-high d k m = rw (eq-eqb (length s) 1 h, ne-eqb (first s) 45 d, le-leb 65 (first s) k, lt-leb (first s) 90 m)
+    pub field-high : (firstByte s ≡ 45 → ⊥) → 65 ≤ firstByte s → 90 < firstByte s → numeral s ≡ fieldFrom s
+    unfolding fieldFrom
+    field-high d k m = rw (eq-eqb (length s) 1 h, ne-eqb (firstByte s) 45 d, le-leb 65 (firstByte s) k, lt-leb (firstByte s) 90 m)
 
-    pub field-letter : (first s ≡ 45 → ⊥) → 65 ≤ first s → first s ≤ 90 → Letter (first s) ≡ field s
-    unfolding field
+    pub field-letter : (firstByte s ≡ 45 → ⊥) → 65 ≤ firstByte s → firstByte s ≤ 90 → Letter (firstByte s) ≡ fieldFrom s
+    unfolding fieldFrom
     field-letter d k m =
-        rw (eq-eqb (length s) 1 h, ne-eqb (first s) 45 d, le-leb 65 (first s) k, le-leb (first s) 90 m)
+        rw (eq-eqb (length s) 1 h, ne-eqb (firstByte s) 45 d, le-leb 65 (firstByte s) k, le-leb (firstByte s) 90 m)
 
 -- ---- written, then read
 
 begins-some : (l : List ℕ) (low : ℕ) → Begins l low → 1 ≤ length l
 begins-some l low b = omega (arith, ap length (b .is))
 
-begins-first : (l : List ℕ) (low : ℕ) → Begins l low → (low ≤ first l) × (first l ≤ 57)
+begins-first : (l : List ℕ) (low : ℕ) → Begins l low → (low ≤ firstByte l) × (firstByte l ≤ 57)
 begins-first l low b = rw (b .is) (b .least, b .most)
 
 digits-form : (n : ℕ) → n < 10 ^ 7 → digitsInForm (digits n) ≡ true
@@ -189,7 +189,7 @@ digits-form (suc k) h =
     (λ e. omega (arith, begins-first (digits (suc k)) 49 b .0))
     ∙ digits-all (suc k)
 
-pub field-digits : (n : ℕ) → n < 10 ^ 7 → field (digits n) ≡ Plus n
+pub field-digits : (n : ℕ) → n < 10 ^ 7 → fieldFrom (digits n) ≡ Plus n
 field-digits n h =
     let b = begins-first (digits n) 48 (digits-begin n) in
     sym (as-number (b .0) (b .1))
@@ -197,13 +197,13 @@ field-digits n h =
     ∙ sym (unsigned-yes (digits n) (digits-form n h))
     ∙ ap Plus (digits-read n)
   where
-    as-number : 48 ≤ first (digits n) → first (digits n) ≤ 57 → number (digits n) ≡ field (digits n)
+    as-number : 48 ≤ firstByte (digits n) → firstByte (digits n) ≤ 57 → numeral (digits n) ≡ fieldFrom (digits n)
     as-number lo hi =
         by-test (eqb (length (digits n)) 1)
         (λ e. field-low (digits n) (eqb-true _ _ e) (λ q. omega arith) (omega arith))
         (λ e. field-many (digits n) (eqb-false _ _ e))
 
-pub field-minus : (n : ℕ) → 0 < n → n < 10 ^ 7 → field (45 ∷ digits n) ≡ Minus n
+pub field-minus : (n : ℕ) → 0 < n → n < 10 ^ 7 → fieldFrom (45 ∷ digits n) ≡ Minus n
 field-minus n p h =
     let some = begins-some (digits n) 48 (digits-begin n) in
     let v = digits-read n in
@@ -211,10 +211,10 @@ field-minus n p h =
     ∙ sym (negative-yes (digits n) (digits-form n h) (λ e. omega arith)) ∙ ap Minus v
 
 -- a signed number of at most 7 digits, written, is read as itself
-pub field-decimal-plus : (n : ℕ) → n < 10 ^ 7 → field (decimal (pos n)) ≡ Plus n
+pub field-decimal-plus : (n : ℕ) → n < 10 ^ 7 → fieldFrom (decimal (pos n)) ≡ Plus n
 unfolding decimal
 field-decimal-plus n h = field-digits n h
 
-pub field-decimal-minus : (n : ℕ) → suc n < 10 ^ 7 → field (decimal (negsuc n)) ≡ Minus (suc n)
+pub field-decimal-minus : (n : ℕ) → suc n < 10 ^ 7 → fieldFrom (decimal (negsuc n)) ≡ Minus (suc n)
 unfolding decimal
 field-decimal-minus n h = field-minus (suc n) (omega arith) h

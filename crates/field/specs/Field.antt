@@ -9,8 +9,8 @@ use Rattle.field.specs.declared.Field.{Field}
 use Rattle.field.specs.declared.Field.the-variants.{Bad, Plus, Minus, Letter, Dash}
 use Rattle.whole.specs.Digits.{allDigits, leadingZero, value}
 
-abbrev pub first : List ℕ → ℕ
-first f = getD f 0 0
+abbrev pub firstByte : List ℕ → ℕ
+firstByte f = getD f 0 0
 
 -- the digits of a number: some, at most 7, no leading zero, and no other byte
 unfoldable pub digitsInForm : List ℕ → Bool
@@ -24,15 +24,15 @@ unfoldable pub negative : List ℕ → Field
 negative ds = cond (digitsInForm ds && ltb 0 (value ds)) (Minus (value ds)) Bad
 
 -- a minus sign and digits, or digits alone
-unfoldable pub number : List ℕ → Field
-number f = cond (eqb (first f) 45) (negative (drop 1 f)) (unsigned f)
+unfoldable pub numeral : List ℕ → Field
+numeral f = cond (eqb (firstByte f) 45) (negative (drop 1 f)) (unsigned f)
 
-abbrev pub isDash : List ℕ → Bool
-isDash f = eqb (length f) 1 && eqb (first f) 45
+abbrev pub loneDash : List ℕ → Bool
+loneDash f = eqb (length f) 1 && eqb (firstByte f) 45
 
-abbrev pub isCapital : List ℕ → Bool
-isCapital f = eqb (length f) 1 && (leb 65 (first f) && leb (first f) 90)
+abbrev pub loneCapital : List ℕ → Bool
+loneCapital f = eqb (length f) 1 && (leb 65 (firstByte f) && leb (firstByte f) 90)
 
 -- a dash alone, a capital letter alone, or else a number
-unfoldable pub field : List ℕ → Field
-field f = cond (isDash f) Dash (cond (isCapital f) (Letter (first f)) (number f))
+unfoldable pub fieldFrom : List ℕ → Field
+fieldFrom f = cond (loneDash f) Dash (cond (loneCapital f) (Letter (firstByte f)) (numeral f))

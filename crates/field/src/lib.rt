@@ -4,7 +4,7 @@ ghost use mathlib.Core.Bool.{cond};
 ghost use Prim.Native.Nat.{_≤_};
 ghost use lib.ListN.{length};
 ghost use Rattle.whole.specs.Digits.{allDigits, value};
-ghost use Rattle.field.specs.Field.{unsigned, negative, number, field};
+ghost use Rattle.field.specs.Field.{unsigned, negative, numeral, fieldFrom};
 
 // What a field says. Minus holds no 0. Bad is out of form.
 pub enum Field {
@@ -70,7 +70,7 @@ fn negative_of(s: &[u8]) -> Field
 }
 
 fn number_of(s: &[u8]) -> Field
-    ensures { λ r. ⌜ r ≡ number (now (s .entry)) ⌝ }
+    ensures { λ r. ⌜ r ≡ numeral (now (s .entry)) ⌝ }
 {
     if s.len() == 0 {
         return Field::Bad;
@@ -83,7 +83,7 @@ fn number_of(s: &[u8]) -> Field
 
 // The field that the whole of s is.
 pub fn field_of(s: &[u8]) -> Field
-    ensures { λ r. ⌜ r ≡ field (now (s .entry)) ⌝ }
+    ensures { λ r. ⌜ r ≡ fieldFrom (now (s .entry)) ⌝ }
 {
     if s.len() != 1 {
         return number_of(s);

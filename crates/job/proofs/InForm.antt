@@ -24,7 +24,7 @@ use Rattle.rules.specs.declared.Kind.the-variants.{Count, Entry}
 use Rattle.job.specs.Carried.{Carried, nothing}
 use Rattle.entry.specs.Says as say
 use Rattle.entry.specs.Says.{at}
-use Rattle.rules.specs.Form.{numbers}
+use Rattle.rules.specs.Form.{numberForms}
 use Rattle.rules.specs.Sections.{about, forms, lineFault}
 use Rattle.job.specs.Walk.{calls, learn, Accepted, walk, sheet, readLines}
 use Rattle.rules.proofs.Form.{Formed, letter, plus, minus, dash, mark, AllFormed, none, more}
@@ -41,7 +41,7 @@ number-form : {f : Field} → Formed Number f → InForm f
 number-form (plus h) = omega arith
 number-form (minus p h) = (p, omega arith)
 
-numbers-form : (n : ℕ) {fs : List Field} → AllFormed (numbers n) fs → Every InForm fs
+numbers-form : (n : ℕ) {fs : List Field} → AllFormed (numberForms n) fs → Every InForm fs
 numbers-form zero none = tt
 numbers-form (suc n) (more h a) = (number-form h, numbers-form n a)
 
@@ -55,7 +55,7 @@ face-form (more (letter {b = b}) (more m a)) e =
     let t = among-yes A H b (not-false _ e) in
     (omega arith, ((t .0, omega (arith, t .1)), (mark-form m, numbers-form 3 a)))
 
-some-number : (n : ℕ) {fs : List Field} → AllFormed (numbers (suc n)) fs → LineInForm fs
+some-number : (n : ℕ) {fs : List Field} → AllFormed (numberForms (suc n)) fs → LineInForm fs
 some-number n (more h a) = (omega arith, numbers-form (suc n) (more h a))
 
 letter-form : (s : Section) → InForm (Letter (about s .letter))

@@ -14,7 +14,7 @@ use Rattle.whole.proofs.Tests.{by-test}
 use Rattle.field.specs.declared.Field.{Field}
 use Rattle.lines.specs.declared.Slot.{Slot}
 use Rattle.lines.specs.declared.Line.{Line}
-use Rattle.field.specs.Field.{field}
+use Rattle.field.specs.Field.{fieldFrom}
 use Rattle.lines.specs.Lines.{split, fieldsOf}
 use Rattle.lines.specs.Held.{slot, blank, noLine, heldLine, firstLine, lineAt, until, fieldLength}
 use Rattle.lines.proofs.Lines.{Free, until-at, until-take, split-until, split-last, split-seam, split-past}
@@ -109,7 +109,7 @@ module _ (s : List ℕ) (at e : ℕ) (he : e ≡ at + fieldLength (drop at s)) (
         by-test (ltb x y) (λ t. byte-at 32 (omega (arith, ltb-true x y t)))
         (λ t. absurd (n (byte-at 10 (omega (arith, ltb-false x y t)))))
 
-    module _ (c : Slot) (hc : c ≡ slot (field part)) where
+    module _ (c : Slot) (hc : c ≡ slot (fieldFrom part)) where
       pub on-ended : k < 6 → getD s e 0 ≡ 10
           → lineOn k v at (split 10 (drop at s)) ≡ record { count = k + 1; next = e + 1; fields = set v k c }
       unfolding lineOn fieldsOf
@@ -117,7 +117,7 @@ module _ (s : List ℕ) (at e : ℕ) (he : e ≡ at + fieldLength (drop at s)) (
           let q : at + length part + 1 ≡ e + 1 = omega (arith, part-length) in
           ap (λ (t : List ℕ). lineOn k v at (split 10 t)) (seam 10 ten)
           ∙ rw (split-seam 10 part (drop (e + 1) s) (part-free 10 (omega arith)), split-until 10 (drop (e + 1) s))
-          (rw (q, split-one 32 part (part-free 32 (omega arith)), hc) (from-last (e + 1) k v (field part) l))
+          (rw (q, split-one 32 part (part-free 32 (omega arith)), hc) (from-last (e + 1) k v (fieldFrom part) l))
 
       on-both : (q : List ℕ) (qs : List (List ℕ))
           → lineOn k v at ((part ++ (32 ∷ q)) ∷ qs) ≡ lineOn (k + 1) (set v k c) (e + 1) (q ∷ qs)
@@ -127,7 +127,7 @@ module _ (s : List ℕ) (at e : ℕ) (he : e ≡ at + fieldLength (drop at s)) (
           let n : at + length (part ++ (32 ∷ q)) + 1 ≡ e + 1 + length q + 1 =
           omega (arith, length-append part (32 ∷ q), part-length) in
           rw (n, split-seam 32 part q (part-free 32 (omega arith)), hc)
-          (from-more (e + 1 + length q + 1) k v (field part) (fieldsOf q))
+          (from-more (e + 1 + length q + 1) k v (fieldFrom part) (fieldsOf q))
 
       pub on-more : (getD s e 0 ≡ 10 → ⊥)
           → lineOn k v at (split 10 (drop at s)) ≡ lineOn (k + 1) (set v k c) (e + 1) (split 10 (drop (e + 1) s))

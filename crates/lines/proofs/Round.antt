@@ -12,7 +12,7 @@ use Rattle.whole.proofs.Tests.{by-test, and-true}
 use Rattle.field.specs.declared.Field.{Field}
 use Rattle.field.specs.declared.Field.the-variants.{Bad, Plus, Minus, Letter, Dash}
 use Rattle.whole.specs.Digits.{digits, isDigit, allDigits, valueAfter, value}
-use Rattle.field.specs.Field.{first, digitsInForm, unsigned, negative, number, field, isDash, isCapital}
+use Rattle.field.specs.Field.{firstByte, digitsInForm, unsigned, negative, numeral, fieldFrom, loneDash, loneCapital}
 use Rattle.whole.specs.Lists.{Every}
 use Rattle.lines.specs.Lines.{split, fieldsOf, linesFrom, linesIn, fieldText, lineText, textOfLines, InForm, LinesInForm}
 use Rattle.lines.specs.Lines.{NotBad}
@@ -25,7 +25,7 @@ use Rattle.lines.proofs.Lines.{split-joined, rows-none, rows-seam}
 
 -- ---- a field written, then read
 
-pub field-text : (f : Field) → InForm f → field (fieldText f) ≡ f
+pub field-text : (f : Field) → InForm f → fieldFrom (fieldText f) ≡ f
 field-text Bad h = absurd h
 field-text (Plus n) h = field-digits n h
 field-text (Minus n) h = field-minus n (h .0) (h .1)
@@ -59,10 +59,10 @@ line-free (f ∷ g ∷ fs) a =
 line-fields : (f : Field) (fs : List Field) → Every InForm (f ∷ fs) → fieldsOf (lineText (f ∷ fs)) ≡ f ∷ fs
 unfolding fieldsOf lineText
 line-fields f [] a =
-    ap (map field) (split-one 32 (fieldText f) (field-free f 32 (omega arith) (a .0)))
+    ap (map fieldFrom) (split-one 32 (fieldText f) (field-free f 32 (omega arith) (a .0)))
     ∙ ap (λ (x : Field). x ∷ []) (field-text f (a .0))
 line-fields f (g ∷ fs) a =
-    ap (map field) (split-seam 32 (fieldText f) (lineText (g ∷ fs)) (field-free f 32 (omega arith) (a .0)))
+    ap (map fieldFrom) (split-seam 32 (fieldText f) (lineText (g ∷ fs)) (field-free f 32 (omega arith) (a .0)))
     ∙ ap (λ (x : Field). x ∷ fieldsOf (lineText (g ∷ fs))) (field-text f (a .0))
     ∙ ap (λ (l : List Field). f ∷ l) (line-fields g fs (a .1))
 
@@ -94,36 +94,36 @@ negative-text s h =
     (let p = form-parts s (and-true (digitsInForm s) (ltb 0 (value s)) t .0) in ap (λ (l : List ℕ). 45 ∷ l) (digits-back s (p .some) (p .lead) (p .all))))
     (λ t. absurd (rw t at h))
 
-number-text : (s : List ℕ) → NotBad (number s) → fieldText (number s) ≡ s
-unfolding number
+number-text : (s : List ℕ) → NotBad (numeral s) → fieldText (numeral s) ≡ s
+unfolding numeral
 number-text [] h = unsigned-text [] h
 number-text (x ∷ xs) h =
     by-test (eqb x 45) (λ t. rw t (negative-text xs (rw t at h) ∙ ap (λ (b : ℕ). b ∷ xs) (sym (eqb-true x 45 t))))
     (λ t. rw t (unsigned-text (x ∷ xs) (rw t at h)))
 
-alone : (s : List ℕ) (b : ℕ) → eqb (length s) 1 ≡ true → b ≡ first s → b ∷ [] ≡ s
+alone : (s : List ℕ) (b : ℕ) → eqb (length s) 1 ≡ true → b ≡ firstByte s → b ∷ [] ≡ s
 alone [] b h e = absurd (omega (arith, eqb-true 0 1 h))
 alone (x ∷ []) b h e = ap (λ (y : ℕ). y ∷ []) e
 alone (x ∷ y ∷ s) b h e = absurd (omega (arith, eqb-true (length (x ∷ y ∷ s)) 1 h))
 
-pub field-back : (s : List ℕ) → NotBad (field s) → fieldText (field s) ≡ s
-unfolding field
+pub field-back : (s : List ℕ) → NotBad (fieldFrom s) → fieldText (fieldFrom s) ≡ s
+unfolding fieldFrom
 field-back s h =
-    by-test (isDash s)
+    by-test (loneDash s)
     (λ t.
-    let e = and-true (eqb (length s) 1) (eqb (first s) 45) t in
-    rw t (alone s 45 (e .0) (sym (eqb-true (first s) 45 (e .1)))))
-    (λ t. by-test (isCapital s)
+    let e = and-true (eqb (length s) 1) (eqb (firstByte s) 45) t in
+    rw t (alone s 45 (e .0) (sym (eqb-true (firstByte s) 45 (e .1)))))
+    (λ t. by-test (loneCapital s)
     (λ u.
-    rw (t, u) (alone s (first s) (and-true (eqb (length s) 1) (leb 65 (first s) && leb (first s) 90) u .0) refl))
+    rw (t, u) (alone s (firstByte s) (and-true (eqb (length s) 1) (leb 65 (firstByte s) && leb (firstByte s) 90) u .0) refl))
     (λ u. rw (t, u) (number-text s (rw (t, u) at h))))
 
-parts-text : (ps : List (List ℕ)) → Every NotBad (map field ps) → lineText (map field ps) ≡ joined 32 ps
+parts-text : (ps : List (List ℕ)) → Every NotBad (map fieldFrom ps) → lineText (map fieldFrom ps) ≡ joined 32 ps
 unfolding lineText joined
 parts-text [] a = refl
 parts-text (p ∷ []) a = field-back p (a .0)
 parts-text (p ∷ q ∷ ps) a =
-    ap (λ (l : List ℕ). l ++ (32 ∷ lineText (map field (q ∷ ps)))) (field-back p (a .0))
+    ap (λ (l : List ℕ). l ++ (32 ∷ lineText (map fieldFrom (q ∷ ps)))) (field-back p (a .0))
     ∙ ap (λ (l : List ℕ). p ++ (32 ∷ l)) (parts-text (q ∷ ps) (a .1))
 
 fields-text : (l : List ℕ) → Every NotBad (fieldsOf l) → lineText (fieldsOf l) ≡ l
@@ -162,10 +162,10 @@ form-value ds t =
     lt-of-lt-of-le (value-below ds 0 0 (omega arith) (p .all))
     (pow-le-pow-right {n = 10} (lit< tt) {i = 0 + length ds} {j = 7} (omega (arith, p .short)))
 
-number-form : (s : List ℕ) → NotBad (number s) → InForm (number s)
-unfolding number unsigned negative
+number-form : (s : List ℕ) → NotBad (numeral s) → InForm (numeral s)
+unfolding numeral unsigned negative
 number-form s h =
-    by-test (eqb (first s) 45)
+    by-test (eqb (firstByte s) 45)
     (λ t. by-test (digitsInForm (drop 1 s) && ltb 0 (value (drop 1 s)))
     (λ u.
     let e = and-true (digitsInForm (drop 1 s)) (ltb 0 (value (drop 1 s))) u in
@@ -173,19 +173,19 @@ number-form s h =
     (λ u. absurd (rw (t, u) at h)))
     (λ t. by-test (digitsInForm s) (λ u. rw (t, u) (form-value s u)) (λ u. absurd (rw (t, u) at h)))
 
-pub field-form : (s : List ℕ) → NotBad (field s) → InForm (field s)
-unfolding field
+pub field-form : (s : List ℕ) → NotBad (fieldFrom s) → InForm (fieldFrom s)
+unfolding fieldFrom
 field-form s h =
-    by-test (isDash s) (λ t. rw t tt)
-    (λ t. by-test (isCapital s)
+    by-test (loneDash s) (λ t. rw t tt)
+    (λ t. by-test (loneCapital s)
     (λ u.
     let e =
-    and-true (leb 65 (first s)) (leb (first s) 90)
-    (and-true (eqb (length s) 1) (leb 65 (first s) && leb (first s) 90) u .1) in
+    and-true (leb 65 (firstByte s)) (leb (firstByte s) 90)
+    (and-true (eqb (length s) 1) (leb 65 (firstByte s) && leb (firstByte s) 90) u .1) in
     rw (t, u) (leb-true _ _ (e .0), leb-true _ _ (e .1)))
     (λ u. rw (t, u) (number-form s (rw (t, u) at h))))
 
-parts-form : (ps : List (List ℕ)) → Every NotBad (map field ps) → Every InForm (map field ps)
+parts-form : (ps : List (List ℕ)) → Every NotBad (map fieldFrom ps) → Every InForm (map fieldFrom ps)
 parts-form [] a = tt
 parts-form (p ∷ ps) a = (field-form p (a .0), parts-form ps (a .1))
 

@@ -3,17 +3,17 @@ use mathlib.Core.Path.{_≡_, refl}
 use mathlib.Core.List.{[], _∷_}
 use Rattle.field.specs.declared.Field.the-variants.{Bad, Plus, Minus, Letter, Dash}
 use Rattle.whole.specs.Digits.{allDigits, valueAfter, value, digits}
-use Rattle.field.specs.Field.{digitsInForm, unsigned, number, field}
+use Rattle.field.specs.Field.{digitsInForm, unsigned, numeral, fieldFrom}
 use Rattle.lines.specs.Lines.{split, fieldsOf, linesFrom, linesIn, lineText, textOfLines}
 
 -- `B 1` with its LF, then `-` with none
 unended : linesIn (66 ∷ 32 ∷ 49 ∷ 10 ∷ 45 ∷ []) ≡ (Letter 66 ∷ Plus 1 ∷ []) ∷ (Bad ∷ []) ∷ []
-unfolding linesIn linesFrom fieldsOf split field number unsigned digitsInForm allDigits valueAfter value
+unfolding linesIn linesFrom fieldsOf split fieldFrom numeral unsigned digitsInForm allDigits valueAfter value
 unended = refl
 
 -- two spaces have a field of no byte between them
 two-spaces : linesIn (66 ∷ 32 ∷ 32 ∷ 49 ∷ 10 ∷ []) ≡ (Letter 66 ∷ Bad ∷ Plus 1 ∷ []) ∷ []
-unfolding linesIn linesFrom fieldsOf split field number unsigned digitsInForm allDigits valueAfter value
+unfolding linesIn linesFrom fieldsOf split fieldFrom numeral unsigned digitsInForm allDigits valueAfter value
 two-spaces = refl
 
 written : textOfLines

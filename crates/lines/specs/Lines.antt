@@ -8,7 +8,7 @@ use Rattle.whole.specs.Lists.{Every}
 use Rattle.field.specs.declared.Field.{Field}
 use Rattle.field.specs.declared.Field.the-variants.{Bad, Plus, Minus, Letter, Dash}
 use Rattle.whole.specs.Digits.{digits}
-use Rattle.field.specs.Field.{field}
+use Rattle.field.specs.Field.{fieldFrom}
 
 -- ---- from bytes to fields
 
@@ -23,7 +23,7 @@ split b (x ∷ xs) = cond (eqb x b) ([] ∷ split b xs) (onto x (split b xs))
 
 -- the fields of a line stand between its spaces
 unfoldable pub fieldsOf : List ℕ → List Field
-fieldsOf line = map field (split 32 line)
+fieldsOf line = map fieldFrom (split 32 line)
 
 -- What stands behind the last LF, if it is something, is a line that is not ended and so out of form.
 unfoldable pub linesFrom : List (List ℕ) → List (List Field)

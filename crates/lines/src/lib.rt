@@ -5,7 +5,7 @@ ghost use mathlib.Core.Bool.{_||_};
 ghost use Prim.Native.Nat.{_+_, _-_, _≤_};
 ghost use lib.Dec.{eqb};
 ghost use lib.ListN.{length, take, drop, getD};
-ghost use Rattle.field.specs.Field.{field};
+ghost use Rattle.field.specs.Field.{fieldFrom};
 ghost use Rattle.lines.specs.Held.{slot, noLine, lineAt, held, fieldLength};
 
 pub struct Slot {
@@ -60,7 +60,7 @@ fn end_of(s: &[u8], at: usize) -> usize
 
 fn slot_of(l: &[u8], at: usize, e: usize) -> Slot
     requires { ⌜ (at ≤ e) × (e ≤ length (now l)) ⌝ }
-    ensures { λ r. ⌜ r ≡ slot (field (take (e - at) (drop at (now (l .entry))))) ⌝ }
+    ensures { λ r. ⌜ r ≡ slot (fieldFrom (take (e - at) (drop at (now (l .entry))))) ⌝ }
 {
     let f = field::field_of(&l[at..e]);
     Slot { field: f }

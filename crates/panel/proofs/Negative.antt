@@ -11,7 +11,7 @@ use lib.Ieee.Exact.{HasValue}
 use lib.Ieee.Fits.{neg-fits}
 use Rattle.panel.specs.declared.Panel.{Panel}
 use Rattle.panel.specs.declared.Panel.the-variants.{Exact, Between}
-use Rattle.panel.specs.Double.{number}
+use Rattle.panel.specs.Double.{numberItself}
 use Rattle.panel.specs.Right.{Right}
 use Rattle.panel.specs.Bracket.{mirrored}
 use Rattle.panel.proofs.Worth.{Worth, exact-worth, worth-exact}
@@ -62,7 +62,7 @@ worth-neg (pos zero) x h v = absurd (omega arith)
 worth-neg (pos (suc n)) x h v = value-neg x false (suc n) v
 worth-neg (negsuc n) x h v = value-neg x true (suc n) v
 
-number-neg : (z : ℤ) → 0 < natAbs z → number (negℤ z) ≡ neg (number z)
+number-neg : (z : ℤ) → 0 < natAbs z → numberItself (negℤ z) ≡ neg (numberItself z)
 unfolding neg
 number-neg (pos zero) h = absurd (omega arith)
 number-neg (pos (suc n)) h = refl

@@ -15,7 +15,7 @@ use lib.IntN.{ℤ, pos, negsuc, natAbs}
 use lib.Ieee.{Float, nan, inf, fin, up, down, below, lt, neg, fits}
 use lib.Ieee.Exact.{HasValue}
 use lib.Ieee.Fits.{down-pos, and-l, and-r}
-use Rattle.panel.specs.Double.{IsDouble, number}
+use Rattle.panel.specs.Double.{IsDouble, numberItself}
 use Rattle.panel.proofs.Worth.{Worth, negative, number-is}
 use Rattle.panel.proofs.Negative.{lt-neg, value-neg}
 
@@ -51,10 +51,10 @@ lt-value (fin r m e) (fin t n d) s a v =
     rw (v .0, cross n (up d) a (down d) (down e) (v .1), mul-one (m * up e))
     (below-scale r (m * up e) s (a * 1 * down e) (down d) (down-pos d))
 
-pub lt-worth : (z : ℤ) (w y : Float) → Worth z y → lt w y ≡ lt w (number z)
+pub lt-worth : (z : ℤ) (w y : Float) → Worth z y → lt w y ≡ lt w (numberItself z)
 lt-worth z w y v = rw (number-is z) (lt-value w y (negative z) (natAbs z) v)
 
-pub worth-lt : (z : ℤ) (y w : Float) → Worth z y → lt y w ≡ lt (number z) w
+pub worth-lt : (z : ℤ) (y w : Float) → Worth z y → lt y w ≡ lt (numberItself z) w
 unfolding neg
 worth-lt z y w v =
     rw (number-is z)
@@ -63,7 +63,7 @@ worth-lt z y w v =
 
 -- ---- a double on one side of n is on that side of whatever lies beyond n
 
-pub lt-number-le : (w : Float) (a b : ℕ) → a ≤ b → T (lt w (number (pos a))) → T (lt w (number (pos b)))
+pub lt-number-le : (w : Float) (a b : ℕ) → a ≤ b → T (lt w (numberItself (pos a))) → T (lt w (numberItself (pos b)))
 unfolding lt
 lt-number-le nan a b h t = t
 lt-number-le (inf s) a b h t = t
@@ -74,7 +74,7 @@ lt-number-le (fin true m e) a b h t =
     lt→ltb 0 (m * up e * 1 + b * 1 * down e)
     (omega (arith, ltb→lt 0 (m * up e * 1 + a * 1 * down e) t, mul-le-mul-right (down e) h))
 
-pub le-number-lt : (w : Float) (a b : ℕ) → a ≤ b → T (lt (number (pos b)) w) → T (lt (number (pos a)) w)
+pub le-number-lt : (w : Float) (a b : ℕ) → a ≤ b → T (lt (numberItself (pos b)) w) → T (lt (numberItself (pos a)) w)
 unfolding lt
 le-number-lt nan a b h t = t
 le-number-lt (inf s) a b h t = t
@@ -84,8 +84,8 @@ le-number-lt (fin false m e) a b h t =
 le-number-lt (fin true m e) a b h t = t
 
 -- a number that stands neither below a nor above it is worth a
-pub worth-by-order : (w : Float) (a : ℕ) → 0 < a → (w ≡ nan → ⊥) → lt w (number (pos a)) ≡ false
-    → lt (number (pos a)) w ≡ false → Worth (pos a) w
+pub worth-by-order : (w : Float) (a : ℕ) → 0 < a → (w ≡ nan → ⊥) → lt w (numberItself (pos a)) ≡ false
+    → lt (numberItself (pos a)) w ≡ false → Worth (pos a) w
 unfolding lt
 worth-by-order nan a p n u o = n refl
 worth-by-order (inf true) a p n u o = true≢false u
@@ -134,7 +134,7 @@ no-room n (pos j) q k h a b l g = go (decLt j k)
         omega arith
 
 pub none-between : (q k : ℕ) → 2 ^ 52 ≤ q → 1 ≤ k
-    → (x : Float) → IsDouble x → T (lt (number (pos (q * 2 ^ k))) x) → T (lt x (number (pos ((q + 1) * 2 ^ k)))) → ⊥
+    → (x : Float) → IsDouble x → T (lt (numberItself (pos (q * 2 ^ k))) x) → T (lt x (numberItself (pos ((q + 1) * 2 ^ k)))) → ⊥
 unfolding lt
 none-between q k a b nan d l h = l
 none-between q k a b (inf true) d l h = l

@@ -10,7 +10,7 @@ use lib.Dec.{T, lt→ltb}
 use lib.IntN.{ℤ, pos, negsuc, natAbs}
 use lib.Ieee.{Float, binary64, size, lt}
 use lib.Ieee.Fits.{round-fits}
-use Rattle.panel.specs.Double.{IsDouble, number}
+use Rattle.panel.specs.Double.{IsDouble, numberItself}
 use Rattle.panel.specs.Right.{IsExact, IsBetween, Right}
 use Rattle.panel.specs.Bracket.{gap, double, stepBelow, stepAbove, ofSize, panelOf}
 use Rattle.panel.proofs.Gap.{dropped-few, kept-small, some-dropped, kept-full, lower-is, lower-lt, upper-gt}
@@ -23,7 +23,7 @@ pub is-double : (n : ℕ) → IsDouble (double n)
 unfolding double
 is-double n = round-fits binary64 false n 1
 
-numbers-lt : (a b : ℕ) → a < b → T (lt (number (pos a)) (number (pos b)))
+numbers-lt : (a b : ℕ) → a < b → T (lt (numberItself (pos a)) (numberItself (pos b)))
 unfolding lt
 numbers-lt a b h = lt→ltb (a * 1 * 1) (b * 1 * 1) (omega arith)
 
@@ -41,8 +41,8 @@ module _ (n : ℕ) (h : n < 2 ^ 64) where
       worth-exact (pos n) (double n) (is-double n)
       (subst (λ (m : ℕ). Worth (pos m) (double m)) (lower-is n e) lower-worth)
 
-  nearest : (n % gap n ≡ 0 → ⊥) → (x : Float) → IsDouble x → T (lt (number (pos (stepBelow n))) x)
-      → T (lt x (number (pos (stepAbove n)))) → ⊥
+  nearest : (n % gap n ≡ 0 → ⊥) → (x : Float) → IsDouble x → T (lt (numberItself (pos (stepBelow n))) x)
+      → T (lt x (numberItself (pos (stepAbove n)))) → ⊥
   unfolding gap
   nearest f = none-between (n / gap n) (size n - 53) (kept-full n (some-dropped n f)) (some-dropped n f)
 
@@ -52,10 +52,10 @@ module _ (n : ℕ) (h : n < 2 ^ 64) where
         low-double = is-double (stepBelow n);
         high-double = is-double (stepAbove n);
         below =
-            rw (worth-lt (pos (stepBelow n)) (double (stepBelow n)) (number (pos n)) lower-worth)
+            rw (worth-lt (pos (stepBelow n)) (double (stepBelow n)) (numberItself (pos n)) lower-worth)
             (numbers-lt (stepBelow n) n (lower-lt n f));
         above =
-            rw (lt-worth (pos (stepAbove n)) (number (pos n)) (double (stepAbove n)) upper-worth)
+            rw (lt-worth (pos (stepAbove n)) (numberItself (pos n)) (double (stepAbove n)) upper-worth)
             (numbers-lt n (stepAbove n) (upper-gt n));
         nearest = λ x d l g. nearest f x d
             (rw (worth-lt (pos (stepBelow n)) (double (stepBelow n)) x lower-worth) at l)

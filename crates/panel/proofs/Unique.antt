@@ -11,7 +11,7 @@ use lib.Ieee.{Float, nan, lt}
 use Rattle.whole.proofs.Tests.{is-false}
 use Rattle.panel.specs.declared.Panel.{Panel}
 use Rattle.panel.specs.declared.Panel.the-variants.{Exact, Between}
-use Rattle.panel.specs.Double.{IsDouble, number}
+use Rattle.panel.specs.Double.{IsDouble, numberItself}
 use Rattle.panel.specs.Right.{IsExact, IsBetween, Right}
 use Rattle.panel.specs.Bracket.{gap, double, stepBelow, stepAbove, ofSize, mirrored, panelOf}
 use Rattle.panel.proofs.Gap.{gap-pos, some-dropped, kept-full, lower-lt, upper-gt}
@@ -33,8 +33,8 @@ one-place : (a : ℕ) (x y : Float) → 0 < a → IsDouble x → IsDouble y → 
 one-place a x y h d e v n l g =
     worth-unique (pos a) x y d e
     (worth-by-order x a h n
-    (is-false (lt x (number (pos a))) (λ t. l (rw (lt-worth (pos a) x y v) t)))
-    (is-false (lt (number (pos a)) x) (λ t. g (rw (worth-lt (pos a) y x v) t))))
+    (is-false (lt x (numberItself (pos a))) (λ t. l (rw (lt-worth (pos a) x y v) t)))
+    (is-false (lt (numberItself (pos a)) x) (λ t. g (rw (worth-lt (pos a) y x v) t))))
     v
 
 -- the bracket of n, beside another that is right for n
@@ -55,7 +55,7 @@ module _ (n : ℕ) (h : n < 2 ^ 64) (f : n % gap n ≡ 0 → ⊥) (low high : Fl
       one-place (stepBelow n) low (double (stepBelow n))
       (omega (arith, mul-le-mul (kept-full n (some-dropped n f)) (gap-pos n)))
       (r .low-double) (is-double (stepBelow n)) (lower-worth n h)
-      (λ e. subst (λ (w : Float). T (lt w (number (pos n)))) e (r .below))
+      (λ e. subst (λ (w : Float). T (lt w (numberItself (pos n)))) e (r .below))
       (λ t. r .nearest (double (stepBelow n)) (is-double (stepBelow n)) t lower-high)
       (λ t. between-right n h f .nearest low (r .low-double) t low-upper)
 
@@ -65,7 +65,7 @@ module _ (n : ℕ) (h : n < 2 ^ 64) (f : n % gap n ≡ 0 → ⊥) (low high : Fl
       one-place (stepAbove n) high (double (stepAbove n))
       (omega (arith, upper-gt n))
       (r .high-double) (is-double (stepAbove n)) (upper-worth n h)
-      (λ e. subst (λ (w : Float). T (lt (number (pos n)) w)) e (r .above))
+      (λ e. subst (λ (w : Float). T (lt (numberItself (pos n)) w)) e (r .above))
       (λ t. between-right n h f .nearest high (r .high-double) lower-high t)
       (λ t. r .nearest (double (stepAbove n)) (is-double (stepAbove n)) low-upper t)
 

@@ -13,7 +13,7 @@ use lib.Ieee.{Float, nan, inf, fin, binary64, up, down, eq, level, fits}
 use lib.Ieee.Exact.{HasValue, round-exact}
 use lib.Ieee.Back.{whole-unique}
 use lib.Ieee.Fits.{down-pos, and-i, and-l, and-r, eq→eqb}
-use Rattle.panel.specs.Double.{IsDouble, number, positiveZero}
+use Rattle.panel.specs.Double.{IsDouble, numberItself, positiveZero}
 use Rattle.panel.specs.Right.{IsExact}
 use Rattle.panel.specs.Bracket.{double}
 
@@ -26,7 +26,7 @@ negative (negsuc n) = true
 abbrev pub Worth : ℤ → Float → Type 0
 Worth z x = HasValue x (negative z) (natAbs z) 1
 
-pub number-is : (z : ℤ) → number z ≡ fin (negative z) (natAbs z) (pos 0)
+pub number-is : (z : ℤ) → numberItself z ≡ fin (negative z) (natAbs z) (pos 0)
 number-is (pos n) = refl
 number-is (negsuc n) = refl
 

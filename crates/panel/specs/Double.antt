@@ -11,9 +11,9 @@ abbrev pub IsDouble : Float → Type 0
 IsDouble x = T (fits binary64 x)
 
 -- the number z itself, which no double need equal
-abbrev pub number : ℤ → Float
-number (pos n) = fin false n (pos 0)
-number (negsuc n) = fin true (suc n) (pos 0)
+abbrev pub numberItself : ℤ → Float
+numberItself (pos n) = fin false n (pos 0)
+numberItself (negsuc n) = fin true (suc n) (pos 0)
 
 abbrev pub positiveZero : Float
 positiveZero = fin false 0 (pos 0)

@@ -8,19 +8,19 @@ use lib.IntN.{ℤ, pos}
 use lib.Ieee.{Float, eq, lt}
 use Rattle.panel.specs.declared.Panel.{Panel}
 use Rattle.panel.specs.declared.Panel.the-variants.{Exact, Between}
-use Rattle.panel.specs.Double.{IsDouble, number, positiveZero}
+use Rattle.panel.specs.Double.{IsDouble, numberItself, positiveZero}
 
 pub record IsExact (total : ℤ) (x : Float) : Type 0 where
   pub double : IsDouble x
-  pub equal : T (eq x (number total))
+  pub equal : T (eq x (numberItself total))
   pub zero : total ≡ pos 0 → x ≡ positiveZero
 
 -- low < total < high, and no double lies between the two: so none equals the total either
 pub record IsBetween (total : ℤ) (low high : Float) : Type 0 where
   pub low-double : IsDouble low
   pub high-double : IsDouble high
-  pub below : T (lt low (number total))
-  pub above : T (lt (number total) high)
+  pub below : T (lt low (numberItself total))
+  pub above : T (lt (numberItself total) high)
   pub nearest : (x : Float) → IsDouble x → T (lt low x) → T (lt x high) → ⊥
 
 abbrev pub Right : ℤ → Panel → Type 0

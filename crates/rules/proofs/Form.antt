@@ -18,7 +18,7 @@ use Rattle.building.specs.Test.{tooLong}
 use Rattle.entry.specs.Says.{number, at}
 use Rattle.rules.specs.declared.FieldForm.{FieldForm}
 use Rattle.rules.specs.declared.FieldForm.the-variants.{Capital, Count, Number, Mark}
-use Rattle.rules.specs.Form.{isShort, hasForm, inForm, numbers}
+use Rattle.rules.specs.Form.{isShort, hasForm, inForm, numberForms}
 
 -- ---- a field
 
@@ -123,13 +123,13 @@ module _ (ws : List FieldForm) (fs : List Field) (i : ℕ) (h : i < length ws) (
   form-on = rw (drop-cons ws i Number h, drop-cons fs i Bad k)
 
 -- what stands behind the first fields of a line is numbers
-pub numbers-at : (n i : ℕ) → Number ≡ getD (numbers n) i Number
+pub numbers-at : (n i : ℕ) → Number ≡ getD (numberForms n) i Number
 numbers-at zero i = refl
 numbers-at (suc n) zero = refl
 numbers-at (suc n) (suc i) = numbers-at n i
 
 pub numbers-behind : (v w : FieldForm) (n i : ℕ) → (i ≡ 0 → ⊥) → (i ≡ 1 → ⊥)
-    → Number ≡ getD (v ∷ w ∷ numbers n) i Number
+    → Number ≡ getD (v ∷ w ∷ numberForms n) i Number
 numbers-behind v w n zero h k = absurd (h refl)
 numbers-behind v w n (suc zero) h k = absurd (k refl)
 numbers-behind v w n (suc (suc i)) h k = numbers-at n i

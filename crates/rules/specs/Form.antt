@@ -43,5 +43,5 @@ inForm [] (f ∷ fs) = false
 inForm (w ∷ ws) [] = false
 inForm (w ∷ ws) (f ∷ fs) = hasForm w f && inForm ws fs
 
-abbrev pub numbers : ℕ → List FieldForm
-numbers n = replicate n Number
+abbrev pub numberForms : ℕ → List FieldForm
+numberForms n = replicate n Number

@@ -16,7 +16,7 @@ use Rattle.rules.specs.declared.Section.the-variants.{B, W, I, F}
 use Rattle.rules.specs.declared.Kind.{Kind}
 use Rattle.rules.specs.declared.Kind.the-variants.{Count, Entry}
 use Rattle.entry.specs.Says.{number, letter, at, buildingOf, windOf, internalOf, faceOf}
-use Rattle.rules.specs.Form.{inForm, numbers}
+use Rattle.rules.specs.Form.{inForm, numberForms}
 use Rattle.rules.specs.Faults.{windFaults, internalFaults, faceFaults}
 
 -- a section: its letter, and its least and greatest count
@@ -36,10 +36,10 @@ about F = record { letter = 70; least = 1; most = 24 }
 -- letter and count; h a b density kind x; direction, speed; one coefficient; zone, mark and the areas on x, y, z
 abbrev pub forms : Kind → List FieldForm
 forms (Count s) = form.Capital ∷ form.Count ∷ []
-forms (Entry B) = numbers 6
-forms (Entry W) = numbers 2
-forms (Entry I) = numbers 1
-forms (Entry F) = form.Capital ∷ form.Mark ∷ numbers 3
+forms (Entry B) = numberForms 6
+forms (Entry W) = numberForms 2
+forms (Entry I) = numberForms 1
+forms (Entry F) = form.Capital ∷ form.Mark ∷ numberForms 3
 
 -- ---- the faults of a line in form
 

@@ -25,7 +25,7 @@ use Rattle.entry.specs.Says.{number, buildingOf}
 use Rattle.rules.specs.declared.FieldForm.the-variants.{Number}
 use Rattle.rules.specs.Sections.{forms}
 use Rattle.rules.proofs.Form.{Formed, plus, minus, AllFormed, none, more}
-use Rattle.sheet.proofs.Bytes.{bytes}
+use Rattle.sheet.proofs.Bytes.{fieldBytes}
 
 -- ---- each number by itself
 
@@ -74,7 +74,7 @@ x-most g z =
 -- ---- the line
 
 pub building-bytes : {fs : List Field} → AllFormed (forms (Entry B)) fs → buildingFault (buildingOf fs) ≡ 0
-    → bytes fs ≤ 30
+    → fieldBytes fs ≤ 30
 building-bytes {fs} (more h (more a (more b (more density (more kind (more x none)))))) z =
     let n = good-fields (buildingOf fs) z in
     omega (

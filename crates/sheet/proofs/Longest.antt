@@ -37,7 +37,7 @@ use Rattle.rules.proofs.Line.{in-order}
 use Rattle.job.proofs.Lines.{all-not-bad}
 use Rattle.job.proofs.Sections.{CountLine, count-says}
 use Rattle.job.proofs.InOrder.{wind-line, internal-line, face-line}
-use Rattle.sheet.proofs.Bytes.{bytes, line-bytes}
+use Rattle.sheet.proofs.Bytes.{fieldBytes, line-bytes}
 use Rattle.sheet.proofs.Building.{short, signed, building-bytes}
 
 -- ---- one line
@@ -63,7 +63,7 @@ known-short : {f : Field} (kind : ℤ) → Formed Number f → knows kind (numbe
 known-short kind h e = let w = known-within kind _ e in short 1 h (w .plain) (omega (arith, w .to))
 
 -- speed: 4 digits
-wind-bytes : (g : Building) {x : List Field} → AllFormed (forms (Entry W)) x → WindInOrder g (windOf x) → bytes x ≤ 8
+wind-bytes : (g : Building) {x : List Field} → AllFormed (forms (Entry W)) x → WindInOrder g (windOf x) → fieldBytes x ≤ 8
 wind-bytes g {x} (more d (more v none)) o =
     let w =
     within 1 1000 (windOf x .speed)
@@ -71,7 +71,7 @@ wind-bytes g {x} (more d (more v none)) o =
     omega (arith, known-short (g .kind) d (o .direction), short 3 v (w .plain) (omega (arith, w .to)))
 
 -- a sign and 3 digits
-internal-bytes : {x : List Field} → AllFormed (forms (Entry I)) x → InternalInOrder (internalOf x) → bytes x ≤ 5
+internal-bytes : {x : List Field} → AllFormed (forms (Entry I)) x → InternalInOrder (internalOf x) → fieldBytes x ≤ 5
 internal-bytes (more i none) o = omega (arith, signed 2 i (omega arith))
 
 mark-short : {f : Field} (kind : ℤ) → Formed Mark f → (mark f ≡ both) ⊎ (knows kind (mark f) ≡ true)
@@ -84,7 +84,7 @@ mark-short kind (form.mark (minus {m = suc m} p h)) (inl e) = absurd (let q : _�
 mark-short kind (form.mark (minus {m = suc m} p h)) (inr e) = known-short kind (minus {m = suc m} p h) e
 
 -- each area: a sign and 6 digits
-face-bytes : (g : Building) {x : List Field} → AllFormed (forms (Entry F)) x → FaceInOrder g (faceOf x) → bytes x ≤ 29
+face-bytes : (g : Building) {x : List Field} → AllFormed (forms (Entry F)) x → FaceInOrder g (faceOf x) → fieldBytes x ≤ 29
 face-bytes g (more letter (more m (more a (more b (more d none))))) o =
     omega (
       arith,
@@ -94,10 +94,10 @@ face-bytes g (more letter (more m (more a (more b (more d none))))) o =
       signed 5 d (omega (arith, o .z)),
     )
 
-count-bytes : (s : Section) (x : List Field) → CountLine s x → bytes x ≤ 3 + length (digits (about s .most))
+count-bytes : (s : Section) (x : List Field) → CountLine s x → fieldBytes x ≤ 3 + length (digits (about s .most))
 count-bytes s x t = rw (t .is) (omega (arith, digits-mono (about s .most) (t .count) (t .counted .high)))
 
-in-order-bytes : (k : Kind) (g : Building) (x : List Field) → lineFault k g x ≡ 0 → bytes x ≤ longestLine k
+in-order-bytes : (k : Kind) (g : Building) (x : List Field) → lineFault k g x ≡ 0 → fieldBytes x ≤ longestLine k
 unfolding longestLine buildingFault
 in-order-bytes (Count s) g x z = count-bytes s x (count-says s g x z)
 in-order-bytes (Entry B) g x z =

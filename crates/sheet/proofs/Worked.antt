@@ -1,12 +1,12 @@
 -- Worked sheets: a text, and the number and line that it gets, as paper 01 has them.
 use Prim.Native.Nat.{ℕ, zero, suc}
-use Prim.Native.Char.{code}
-use Prim.Native.String.{String, [] as none, _∷_ as _then_, _++_ as _&_}
+use Prim.Native.String.{String, _++_ as _&_}
 use mathlib.Core.Path.{_≡_, refl}
 use mathlib.Core.List.{List, [], _∷_, map}
 use lib.ListN.{length}
+use Rattle.whole.proofs.Quoted.{bytes}
 use Rattle.whole.specs.Digits.{allDigits, valueAfter, value}
-use Rattle.field.specs.Field.{digitsInForm, unsigned, negative, number, field}
+use Rattle.field.specs.Field.{digitsInForm, unsigned, negative, numeral, fieldFrom}
 use Rattle.lines.specs.Lines.{split, fieldsOf, linesFrom, linesIn}
 use Rattle.building.specs.Building.{outOfRange, outOfWalls, outOfRoof}
 use Rattle.building.specs.Roof.{roofOf}
@@ -16,11 +16,6 @@ use Rattle.rules.specs.Form.{hasForm, inForm}
 use Rattle.rules.specs.Sections.{lineFault}
 use Rattle.job.specs.Walk.{walk, verdict, readLines}
 use Rattle.sheet.specs.Sheet.{reading}
-
--- the bytes of a quoted text
-abbrev bytes : String → List ℕ
-bytes none = []
-bytes (c then s) = code c ∷ bytes s
 
 -- a text, and the number and line that it gets
 record Case : Type 0 where
@@ -126,5 +121,5 @@ cases =
 
 cases-right : map (λ c. verdict (reading (bytes (c .text)))) cases ≡ map
     (λ c. record { number = c .number; line = c .line }) cases
-unfolding reading linesIn linesFrom split fieldsOf field number unsigned negative digitsInForm allDigits valueAfter value readLines walk lineFault inForm hasForm outOfRange outOfWalls outOfRoof roofOf tooLong beyond zoneOn
+unfolding reading linesIn linesFrom split fieldsOf fieldFrom numeral unsigned negative digitsInForm allDigits valueAfter value readLines walk lineFault inForm hasForm outOfRange outOfWalls outOfRoof roofOf tooLong beyond zoneOn
 cases-right = refl

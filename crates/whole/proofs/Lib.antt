@@ -11,4 +11,5 @@ pub mod Lists
 pub mod Digits
 pub mod AreDigits
 pub mod DigitsWorked
+pub mod Quoted
 pub mod First

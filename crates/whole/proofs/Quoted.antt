@@ -1,0 +1,9 @@
+-- The bytes of a quoted text, for worked cases.
+use Prim.Native.Nat.{ℕ}
+use Prim.Native.Char.{code}
+use Prim.Native.String.{String, [] as none, _∷_ as _then_}
+use mathlib.Core.List.{List, [], _∷_}
+
+abbrev pub bytes : String → List ℕ
+bytes none = []
+bytes (c then s) = code c ∷ bytes s
