@@ -1,11 +1,12 @@
--- The records of include/aralimogga.h for each answer: 0 and 0 with what was asked for, or a refusal's number and
--- line with zeros.
+-- The records of include/aralimogga.h for each answer: accepted with what was asked for, or a refusal with zeros.
 use Prim.Native.Nat.{ℕ}
 use mathlib.Core.Bool.{cond}
 use mathlib.Core.List.{[], _∷_}
 use lib.Dec.{eqb}
 use lib.IntN.{ℤ, pos, negsuc}
 use lib.ListN.{replicate}
+use Rattle.verdict.specs.declared.Verdict.{Verdict}
+use Rattle.verdict.specs.Verdict.{accepted, refusal}
 use Rattle.page.specs.declared.Writing.{Writing}
 use Rattle.page.specs.declared.Writing.the-variants as written
 use Rattle.book.specs.declared.Answer as book
@@ -16,32 +17,26 @@ use Rattle.job.specs.Walk.{Reading, Accepted, Refused}
 use Rattle.worst.specs.declared.Extreme as worst
 use Rattle.worst.specs.declared.Six.{Six}
 use Rattle.worst.specs.Worst.{sixExtremes}
-use Rattle.answers.specs.declared.Answer.{Answer}
 use Rattle.answers.specs.declared.Text.{Text}
 use Rattle.answers.specs.declared.Coefficient.{Coefficient}
 use Rattle.answers.specs.declared.Extreme.{Extreme}
 use Rattle.answers.specs.declared.Double.{Double}
 
-abbrev pub hostAnswer : Reading → Answer
-hostAnswer (Accepted c) = record { number = 0; line = 0 }
-hostAnswer (Refused number line) = record { number = number; line = line }
-
 -- ---- a text
 
-abbrev pub noHostText : ℕ → ℕ → Text
-noHostText number line = record { number = number; line = line; length = 0 }
+abbrev pub noHostText : Verdict → Text
+noHostText v = record { verdict = v; length = 0 }
 
 abbrev pub hostText : Writing → Text
-hostText (written.Length n) = record { number = 0; line = 0; length = n }
-hostText (written.Refused number line) = noHostText number line
+hostText (written.Length n) = record { verdict = accepted; length = n }
+hostText (written.Refused v) = noHostText v
 
 -- ---- a coefficient
 
 abbrev pub hostCoefficient : book.Answer → Coefficient
-hostCoefficient (asked.One v) = record { number = 0; line = 0; count = 1; value = v ∷ pos 0 ∷ [] }
-hostCoefficient (asked.Two v w) = record { number = 0; line = 0; count = 2; value = v ∷ w ∷ [] }
-hostCoefficient (asked.Refused number line) =
-    record { number = number; line = line; count = 0; value = pos 0 ∷ pos 0 ∷ [] }
+hostCoefficient (asked.One v) = record { verdict = accepted; count = 1; value = v ∷ pos 0 ∷ [] }
+hostCoefficient (asked.Two v w) = record { verdict = accepted; count = 2; value = v ∷ w ∷ [] }
+hostCoefficient (asked.Refused r) = record { verdict = r; count = 0; value = pos 0 ∷ pos 0 ∷ [] }
 
 -- ---- a double
 
@@ -51,11 +46,10 @@ hostDouble (Between low high) = record { exact = 0; low = low; high = high }
 
 -- ---- a line of the report
 
-abbrev pub noHostExtreme : ℕ → ℕ → Extreme
-noHostExtreme number line =
+abbrev pub noHostExtreme : Verdict → Extreme
+noHostExtreme v =
     record {
-      number = number;
-      line = line;
+      verdict = v;
       total = pos 0;
       wind = 0;
       internal = 0;
@@ -66,8 +60,7 @@ noHostExtreme number line =
 abbrev pub hostExtreme : worst.Extreme → Extreme
 hostExtreme e =
     record {
-      number = 0;
-      line = 0;
+      verdict = accepted;
       total = e .total;
       wind = e .wind;
       internal = e .internal;
@@ -84,13 +77,13 @@ reportLine s n =
     (cond (eqb n 4) (hostExtreme (s .y .least))
     (cond (eqb n 5) (hostExtreme (s .z .greatest))
     (cond (eqb n 6) (hostExtreme (s .z .least))
-    (noHostExtreme 3 0))))))
+    (noHostExtreme (refusal 3 0)))))))
 
 abbrev pub hostLine : Six → ℤ → Extreme
 hostLine s (pos n) = reportLine s n
-hostLine s (negsuc n) = noHostExtreme 3 0
+hostLine s (negsuc n) = noHostExtreme (refusal 3 0)
 
 -- the sheet's own refusal first
 abbrev pub hostTotal : Reading → ℤ → Extreme
 hostTotal (Accepted c) line = hostLine (sixExtremes c) line
-hostTotal (Refused number line) l = noHostExtreme number line
+hostTotal (Refused v) line = noHostExtreme v

@@ -1,40 +1,31 @@
 // The records that a host program in C gets, as include/aralimogga.h lays them out, and how an answer is turned into
-// one.
+// one. Each that can refuse begins with a verdict: its number and line are the first two fields in C.
 use page::Writing;
 use panel::Panel;
+use verdict::Verdict;
 ghost use mathlib.Core.Path.{_≡_};
 ghost use Rattle.answers.specs.Answers.{noHostText, hostText, hostCoefficient, hostDouble, noHostExtreme};
 ghost use Rattle.answers.specs.Answers.{hostExtreme, hostLine};
 
-// The number of a refusal and its line, both 0 where the sheet is accepted.
-#[repr(C)]
-pub struct Answer {
-    pub number: u32,
-    pub line: u32,
-}
-
-// And the length of a text that is written, 0 where it is refused.
+// The length of a text that is written, 0 where it is refused.
 #[repr(C)]
 pub struct Text {
-    pub number: u32,
-    pub line: u32,
+    pub verdict: Verdict,
     pub length: u64,
 }
 
-// And as many coefficients in thousandths as the count says, then zeros.
+// As many coefficients in thousandths as the count says, then zeros.
 #[repr(C)]
 pub struct Coefficient {
-    pub number: u32,
-    pub line: u32,
+    pub verdict: Verdict,
     pub count: u32,
     pub value: [i32; 2],
 }
 
-// And a total with the first case that reaches it, all zero where it is refused.
+// A total with the first case that reaches it, all zero where it is refused.
 #[repr(C)]
 pub struct Extreme {
-    pub number: u32,
-    pub line: u32,
+    pub verdict: Verdict,
     pub total: i64,
     pub wind: u32,
     pub internal: u32,
@@ -50,12 +41,11 @@ pub struct Double {
     pub high: f64,
 }
 
-pub fn no_text(number: u32, line: u32) -> Text
-    ensures { λ r. ⌜ r ≡ noHostText number line ⌝ }
+pub fn no_text(v: Verdict) -> Text
+    ensures { λ r. ⌜ r ≡ noHostText v ⌝ }
 {
     Text {
-        number: number,
-        line: line,
+        verdict: v,
         length: 0,
     }
 }
@@ -65,11 +55,10 @@ pub fn text_of(w: Writing) -> Text
 {
     match w {
         Writing::Length(n) => Text {
-            number: 0,
-            line: 0,
+            verdict: Verdict { number: 0, line: 0 },
             length: n as u64,
         },
-        Writing::Refused(number, line) => no_text(number, line),
+        Writing::Refused(v) => no_text(v),
     }
 }
 
@@ -78,20 +67,17 @@ pub fn coefficient_of(a: book::Answer) -> Coefficient
 {
     match a {
         book::Answer::One(v) => Coefficient {
-            number: 0,
-            line: 0,
+            verdict: Verdict { number: 0, line: 0 },
             count: 1,
             value: [v, 0],
         },
         book::Answer::Two(v, w) => Coefficient {
-            number: 0,
-            line: 0,
+            verdict: Verdict { number: 0, line: 0 },
             count: 2,
             value: [v, w],
         },
-        book::Answer::Refused(number, line) => Coefficient {
-            number: number,
-            line: line,
+        book::Answer::Refused(r) => Coefficient {
+            verdict: r,
             count: 0,
             value: [0, 0],
         },
@@ -115,13 +101,12 @@ pub fn double_of(p: Panel) -> Double
     }
 }
 
-pub fn no_extreme(number: u32, line: u32) -> Extreme
-    ensures { λ r. ⌜ r ≡ noHostExtreme number line ⌝ }
+pub fn no_extreme(v: Verdict) -> Extreme
+    ensures { λ r. ⌜ r ≡ noHostExtreme v ⌝ }
 {
     let alternative = [0u8; 24];
     Extreme {
-        number: number,
-        line: line,
+        verdict: v,
         total: 0,
         wind: 0,
         internal: 0,
@@ -135,8 +120,7 @@ fn extreme_of(e: worst::Extreme) -> Extreme
 {
     let alternative = e.alternative;
     Extreme {
-        number: 0,
-        line: 0,
+        verdict: Verdict { number: 0, line: 0 },
         total: e.total,
         wind: e.wind,
         internal: e.internal,
@@ -156,6 +140,6 @@ pub fn line_of(six: worst::Six, line: i64) -> Extreme
         4 => extreme_of(six.y.least),
         5 => extreme_of(six.z.greatest),
         6 => extreme_of(six.z.least),
-        _ => no_extreme(3, 0),
+        _ => no_extreme(Verdict { number: 3, line: 0 }),
     }
 }

@@ -2,28 +2,27 @@
 // between calls.
 use building::Building;
 use panel::Point;
+use verdict::Verdict;
 ghost use mathlib.Core.Path.{_≡_};
 ghost use Rattle.whole.specs.Digits.{decimal};
 ghost use Rattle.page.specs.Writing.{writing, bufferAfter};
 ghost use Rattle.book.specs.Question.{outsideOf, netOf};
 ghost use Rattle.panel.specs.Bracket.{panelOf};
 ghost use Rattle.panel.specs.Chart.{pointOf};
+ghost use Rattle.job.specs.Walk.{verdict};
 ghost use Rattle.sheet.specs.Sheet.{reading, sheetText, jobWriting, jobBuffer};
 ghost use Rattle.report.specs.Report.{reportText};
-ghost use Rattle.answers.specs.Answers.{hostAnswer, hostText, hostCoefficient, hostDouble, hostTotal};
+ghost use Rattle.answers.specs.Answers.{hostText, hostCoefficient, hostDouble, hostTotal};
 
 // ---- about a sheet
 
 // Whether the sheet is accepted.
 #[no_mangle]
-pub extern "C" fn aral_read(sheet: &[u8]) -> answers::Answer
-    ensures { λ r. ⌜ r ≡ hostAnswer (reading (now (sheet .entry))) ⌝ }
+pub extern "C" fn aral_read(sheet: &[u8]) -> Verdict
+    ensures { λ r. ⌜ r ≡ verdict (reading (now (sheet .entry))) ⌝ }
 {
     let r = sheet::read::read_sheet(sheet);
-    answers::Answer {
-        number: r.number,
-        line: r.line,
-    }
+    r.verdict
 }
 
 // The sheet read, and written again.
@@ -33,8 +32,8 @@ pub extern "C" fn aral_rewrite(sheet: &[u8], out: &mut [u8]) -> answers::Text
         × (now (out .exit) ≡ jobBuffer sheetText (reading (now (sheet .entry))) (now (out .entry))) ⌝ }
 {
     let read = sheet::read::read_sheet(sheet);
-    if read.number != 0 {
-        return answers::no_text(read.number, read.line);
+    if read.verdict.number != 0 {
+        return answers::no_text(read.verdict);
     }
     answers::text_of(sheet_written::write_sheet(read.job, out))
 }
@@ -46,8 +45,8 @@ pub extern "C" fn aral_report(sheet: &[u8], out: &mut [u8]) -> answers::Text
         × (now (out .exit) ≡ jobBuffer reportText (reading (now (sheet .entry))) (now (out .entry))) ⌝ }
 {
     let r = sheet::read::read_sheet(sheet);
-    if r.number != 0 {
-        return answers::no_text(r.number, r.line);
+    if r.verdict.number != 0 {
+        return answers::no_text(r.verdict);
     }
     answers::text_of(report::write_report(r.job, out))
 }
@@ -58,8 +57,8 @@ pub extern "C" fn aral_total(sheet: &[u8], line: i64) -> answers::Extreme
     ensures { λ r. ⌜ r ≡ hostTotal (reading (now (sheet .entry))) line ⌝ }
 {
     let given = sheet::read::read_sheet(sheet);
-    if given.number != 0 {
-        return answers::no_extreme(given.number, given.line);
+    if given.verdict.number != 0 {
+        return answers::no_extreme(given.verdict);
     }
     let w = worst::worst_cases(given.job);
     answers::line_of(w.six, line)

@@ -16,7 +16,7 @@ use Rattle.book.specs.Roofs.{roofValue}
 use Rattle.book.specs.Walls.{wallRow, wallCells, wallValue}
 use Rattle.building.specs.Order.{SizesInOrder}
 use Rattle.building.specs.Building.{buildingFault, sizes}
-use Rattle.book.specs.Answer.{numberOf, lineOf, valuesOf, Alternatives, one, two}
+use Rattle.book.specs.Answer.{verdictOf, valuesOf, Alternatives, one, two}
 use Rattle.building.specs.declared.Question.{Question}
 use Rattle.building.specs.declared.Question.the-variants as asked
 use Rattle.building.specs.Places.{E, F, wallPlace, zoneOn, localOn, knows}
@@ -110,7 +110,7 @@ column-E {place} e = rw (eq-eqb place E e)
 abbrev pub Small : Answer → Type 0
 Small (One v) = natAbs v ≤ 2500
 Small (Two v w) = (natAbs v ≤ 2500) × (natAbs w ≤ 2500)
-Small (Refused number line) = Unit {0}
+Small (Refused v) = Unit {0}
 
 small-of : {kind place : ℕ} {a : Answer} → Alternatives 2500 kind place a → Small a
 small-of (one h) = h
@@ -140,22 +140,22 @@ module _ (g : Building) (direction : ℤ) (place : ℕ) where
   small-answer (asked.Of s) f =
       small-of
       (alternatives s (f .order) (natAbs direction) place 2500 (lit≤ tt) (f .roofed) (λ w i h. roofValue-small s (f .order) (f .roofed w) (flatColumn place)))
-  small-answer (asked.Refused n l) f = tt
+  small-answer (asked.Refused v) f = tt
 
   pub answer-small : Small (outsideOf g direction place)
   unfolding outsideOf
   answer-small = small-answer (askedOf g direction place) (told g direction place)
 
--- ---- an answerTo is no more than its number, its line and its alternatives: what the paper says of it leaves no
+-- ---- an answerTo is no more than its number and line and its alternatives: what the paper says of it leaves no
 -- choice
 
-pub same-answer : (r s : Answer) → numberOf r ≡ numberOf s → lineOf r ≡ lineOf s → valuesOf r ≡ valuesOf s → r ≡ s
-same-answer (One v) (One w) n l e = cc
-same-answer (One v) (Two w y) n l e = cc
-same-answer (One v) (Refused k m) n l e = cc
-same-answer (Two v x) (One w) n l e = cc
-same-answer (Two v x) (Two w y) n l e = cc
-same-answer (Two v x) (Refused k m) n l e = cc
-same-answer (Refused i j) (One w) n l e = cc
-same-answer (Refused i j) (Two w y) n l e = cc
-same-answer (Refused i j) (Refused k m) n l e = cc
+pub same-answer : (r s : Answer) → verdictOf r ≡ verdictOf s → valuesOf r ≡ valuesOf s → r ≡ s
+same-answer (One v) (One w) h e = cc
+same-answer (One v) (Two w y) h e = cc
+same-answer (One v) (Refused k) h e = cc
+same-answer (Two v x) (One w) h e = cc
+same-answer (Two v x) (Two w y) h e = cc
+same-answer (Two v x) (Refused k) h e = cc
+same-answer (Refused i) (One w) h e = cc
+same-answer (Refused i) (Two w y) h e = cc
+same-answer (Refused i) (Refused k) h e = cc

@@ -7,6 +7,8 @@ use lib.Dec.{ltb}
 use lib.IntN.{ℤ, pos, negsuc, negℤ, natAbs}
 use borrow.Author.Tests.{ltb-false}
 use Rattle.whole.proofs.Tests.{or-false}
+use Rattle.verdict.specs.declared.Verdict.{Verdict}
+use Rattle.verdict.specs.Verdict.{refusal}
 use Rattle.building.specs.declared.Building.{Building}
 use Rattle.book.specs.declared.Answer.the-variants.{One, Two, Refused}
 use Rattle.building.specs.Test.{beyond}
@@ -18,8 +20,8 @@ internal-small (pos n) e = ltb-false 100 n (or-false false (ltb 100 n) e .1)
 internal-small (negsuc n) e = omega (arith, ltb-false 99 n (or-false (ltb 99 n) false e .0))
 
 module _ (g : Building) (direction : ℤ) (place : ℕ) (internal : ℤ) where
-  pub net-refused : {n l : ℕ} → outsideOf g direction place ≡ Refused n l
-      → netOf g direction place internal ≡ Refused n l
+  pub net-refused : {v : Verdict} → outsideOf g direction place ≡ Refused v
+      → netOf g direction place internal ≡ Refused v
   unfolding netOf
   net-refused e = rw e
 
@@ -34,11 +36,11 @@ module _ (g : Building) (direction : ℤ) (place : ℕ) (internal : ℤ) where
   net-two e f = rw (e, f)
 
   pub net-bad-one : {v : ℤ} → outsideOf g direction place ≡ One v → beyond (negℤ (pos 100)) (pos 100) internal ≡ true
-      → netOf g direction place internal ≡ Refused 3 0
+      → netOf g direction place internal ≡ Refused (refusal 3 0)
   unfolding netOf
   net-bad-one e f = rw (e, f)
 
   pub net-bad-two : {v w : ℤ} → outsideOf g direction place ≡ Two v w
-      → beyond (negℤ (pos 100)) (pos 100) internal ≡ true → netOf g direction place internal ≡ Refused 3 0
+      → beyond (negℤ (pos 100)) (pos 100) internal ≡ true → netOf g direction place internal ≡ Refused (refusal 3 0)
   unfolding netOf
   net-bad-two e f = rw (e, f)

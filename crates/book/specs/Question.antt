@@ -3,6 +3,7 @@ use mathlib.Core.Bool.{Bool, cond, _||_}
 use Prim.Native.Nat.{ℕ, _+_, _-_}
 use lib.IntN.{ℤ, pos, negℤ, natAbs, _-ℤ_, _*ℤ_}
 use lib.Dec.{leb, eqb}
+use Rattle.verdict.specs.Verdict.{refusal}
 use Rattle.building.specs.declared.Building.{Building}
 use Rattle.building.specs.declared.Sizes.{Sizes}
 use Rattle.building.specs.declared.Question.{Question}
@@ -42,7 +43,7 @@ coefficientOf s wind place =
 -- what is refused stays refused
 abbrev pub answerTo : Question → ℕ → ℕ → Answer
 answerTo (asked.Of s) wind place = coefficientOf s wind place
-answerTo (asked.Refused number line) wind place = Refused number line
+answerTo (asked.Refused v) wind place = Refused v
 
 unfoldable pub outsideOf : Building → ℤ → ℕ → Answer
 outsideOf g direction place = answerTo (askedOf g direction place) (natAbs direction) place
@@ -54,7 +55,7 @@ net outside internal = outside -ℤ internal *ℤ pos 10
 abbrev pub minus : Answer → ℤ → Answer
 minus (One v) internal = One (net v internal)
 minus (Two v w) internal = Two (net v internal) (net w internal)
-minus (Refused number line) internal = Refused number line
+minus (Refused v) internal = Refused v
 
 -- beyond 1 in size, in hundredths
 abbrev pub tooGreat : ℤ → Bool
@@ -64,9 +65,9 @@ tooGreat internal = beyond (negℤ (pos 100)) (pos 100) internal
 abbrev pub then : Answer → Answer → Answer
 then (One v) answerTo = answerTo
 then (Two v w) answerTo = answerTo
-then (Refused number line) answerTo = Refused number line
+then (Refused v) answerTo = Refused v
 
 unfoldable pub netOf : Building → ℤ → ℕ → ℤ → Answer
 netOf g direction place internal =
     let outside = outsideOf g direction place in
-    then outside (cond (tooGreat internal) (Refused 3 0) (minus outside internal))
+    then outside (cond (tooGreat internal) (Refused (refusal 3 0)) (minus outside internal))

@@ -4,17 +4,18 @@ ghost use mathlib.Core.Path.{_≡_};
 ghost use Rattle.book.specs.Question.{outsideOf, netOf};
 use building::Building;
 use building::Question;
+use verdict::Verdict;
 
 mod line;
 mod question;
 mod roofs;
 mod walls;
 
-// A coefficient's alternatives in thousandths, in order; or the refusal's number and line.
+// A coefficient's alternatives in thousandths, in order; or the refusal.
 pub enum Answer {
     One(i32),
     Two(i32, i32),
-    Refused(u32, u32),
+    Refused(Verdict),
 }
 
 // The outside coefficient of a zone or local.
@@ -24,7 +25,7 @@ pub fn outside(g: Building, direction: i64, place: u8) -> Answer
     let q = building::asked(g, direction, place);
     match q {
         Question::Of(s) => question::coefficient(s, whole::magnitude(direction), place),
-        Question::Refused(n, l) => Answer::Refused(n, l),
+        Question::Refused(v) => Answer::Refused(v),
     }
 }
 
@@ -36,16 +37,16 @@ pub fn net(g: Building, direction: i64, place: u8, internal: i64) -> Answer
     match r {
         Answer::One(v) => {
             if question::too_great(internal) {
-                return Answer::Refused(3, 0);
+                return Answer::Refused(Verdict { number: 3, line: 0 });
             }
             Answer::One(question::less(v, internal))
         }
         Answer::Two(v, w) => {
             if question::too_great(internal) {
-                return Answer::Refused(3, 0);
+                return Answer::Refused(Verdict { number: 3, line: 0 });
             }
             Answer::Two(question::less(v, internal), question::less(w, internal))
         }
-        Answer::Refused(n, l) => Answer::Refused(n, l),
+        Answer::Refused(v) => Answer::Refused(v),
     }
 }

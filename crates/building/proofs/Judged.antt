@@ -6,6 +6,7 @@ use Prim.Native.Nat.{ℕ, zero, suc, _<_}
 use lib.Dec.{eqb}
 use lib.IntN.{ℤ}
 use borrow.Author.Tests.{eqb-true, eqb-false}
+use Rattle.verdict.specs.Verdict.{refusal}
 use Rattle.building.specs.declared.Building.{Building}
 use Rattle.building.specs.declared.Sizes.{Sizes}
 use Rattle.building.specs.declared.Question.{Question}
@@ -17,7 +18,7 @@ use Rattle.building.specs.Question.{refuse, askedOf}
 use Rattle.building.proofs.Accepted.{in-order, given-none, none-given}
 use Rattle.building.proofs.Places.{needs-roof}
 
-refuse-some : (n line : ℕ) (a : Question) → (n ≡ 0 → ⊥) → refuse n line a ≡ Refused n line
+refuse-some : (n line : ℕ) (a : Question) → (n ≡ 0 → ⊥) → refuse n line a ≡ Refused (refusal n line)
 refuse-some zero line a h = absurd (h refl)
 refuse-some (suc n) line a h = refl
 
@@ -25,17 +26,17 @@ module _ (g : Building) (direction : ℤ) (place : ℕ) where
   abbrev pub On : Bool → Type 0
   On t = (zoneOn (g .kind) place || localOn (g .kind) place) ≡ t
 
-  pub bad-building : (givenFault g ≡ 0 → ⊥) → askedOf g direction place ≡ Refused (givenFault g) 2
+  pub bad-building : (givenFault g ≡ 0 → ⊥) → askedOf g direction place ≡ Refused (refusal (givenFault g) 2)
   unfolding askedOf
   bad-building h = refuse-some (givenFault g) 2 _ h
 
   pub bad-direction : buildingFault g ≡ 0 → knows (g .kind) direction ≡ false
-      → askedOf g direction place ≡ Refused 3 0
+      → askedOf g direction place ≡ Refused (refusal 3 0)
   unfolding askedOf
   bad-direction e f = rw (given-none g e, f)
 
   pub bad-place : buildingFault g ≡ 0 → knows (g .kind) direction ≡ true → On false
-      → askedOf g direction place ≡ Refused 6 0
+      → askedOf g direction place ≡ Refused (refusal 6 0)
   unfolding askedOf
   bad-place e f k = rw (given-none g e, f, k)
 
@@ -51,7 +52,7 @@ module _ (g : Building) (direction : ℤ) (place : ℕ) where
 
   abbrev pub Told : Question → Type 0
   Told (Of s) = Fit s
-  Told (Refused number line) = Unit {0}
+  Told (Refused v) = Unit {0}
 
   pub told : Told (askedOf g direction place)
   told =

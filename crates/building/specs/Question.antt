@@ -3,6 +3,7 @@
 use mathlib.Core.Bool.{_||_}
 use Prim.Native.Nat.{ℕ, zero, suc}
 use lib.IntN.{ℤ}
+use Rattle.verdict.specs.Verdict.{refusal}
 use Rattle.building.specs.declared.Building.{Building}
 use Rattle.building.specs.declared.Question.{Question}
 use Rattle.building.specs.declared.Question.the-variants.{Of, Refused}
@@ -13,7 +14,7 @@ use Rattle.building.specs.Places.{zoneOn, localOn, knows}
 -- a number other than 0 refuses, at that line
 abbrev pub refuse : ℕ → ℕ → Question → Question
 refuse zero line asked = asked
-refuse (suc n) line asked = Refused (suc n) line
+refuse (suc n) line asked = Refused (refusal (suc n) line)
 
 unfoldable pub askedOf : Building → ℤ → ℕ → Question
 askedOf g direction place =

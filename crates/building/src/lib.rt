@@ -3,6 +3,7 @@ ghost use mathlib.Core.Path.{_≡_};
 ghost use Rattle.building.specs.Building.{buildingFault, givenFault};
 ghost use Rattle.building.specs.Places.{zoneOn};
 ghost use Rattle.building.specs.Question.{askedOf};
+use verdict::Verdict;
 
 mod faults;
 pub mod kinds;
@@ -33,10 +34,10 @@ pub struct Sizes {
     pub across: u64,
 }
 
-// A question in order is one about these sizes; or the refusal's number and line.
+// A question in order is one about these sizes; or its refusal.
 pub enum Question {
     Of(Sizes),
-    Refused(u32, u32),
+    Refused(Verdict),
 }
 
 // The number that the building's line gets: 0 where it is in order.
@@ -85,13 +86,13 @@ pub fn asked(g: Building, direction: i64, place: u8) -> Question
 {
     let n = given_fault(g);
     if n != 0 {
-        return Question::Refused(n, 2);
+        return Question::Refused(Verdict { number: n, line: 2 });
     }
     if !kinds::knows(g.kind, direction) {
-        return Question::Refused(3, 0);
+        return Question::Refused(Verdict { number: 3, line: 0 });
     }
     if !tests::either(zone_on(g.kind, place), kinds::local_on(g.kind, place)) {
-        return Question::Refused(6, 0);
+        return Question::Refused(Verdict { number: 6, line: 0 });
     }
     Question::Of(faults::sizes_of(g))
 }

@@ -8,6 +8,7 @@ use job::Internals;
 use job::Job;
 use job::Winds;
 use page::Writing;
+use verdict::Verdict;
 
 fn print(s: &[u8]) {
     io::write_all(libc::STDOUT_FILENO, s);
@@ -34,9 +35,9 @@ fn print_values(v: i32, w: i32) {
     print_value(w);
 }
 
-fn print_refusal(number: u32, line: u32) {
-    print_number(number as i64);
-    print_number(line as i64);
+fn print_refusal(v: Verdict) {
+    print_number(v.number as i64);
+    print_number(v.line as i64);
 }
 
 fn print_answer(title: &[u8], a: Answer) {
@@ -44,7 +45,7 @@ fn print_answer(title: &[u8], a: Answer) {
     match a {
         Answer::One(v) => print_value(v),
         Answer::Two(v, w) => print_values(v, w),
-        Answer::Refused(number, line) => print_refusal(number, line),
+        Answer::Refused(v) => print_refusal(v),
     }
     print(b"\n");
 }
@@ -160,7 +161,7 @@ fn record(winds: u32, faces: u32, zone: u8, mark: i64) -> Job {
 fn print_verdict(title: &[u8], j: Job) {
     let v = job::judge::judge(j);
     print(title);
-    print_refusal(v.number, v.line);
+    print_refusal(v);
     print(b"\n");
 }
 

@@ -4,6 +4,7 @@ use mathlib.Core.List.{List}
 use Prim.Native.Nat.{ℕ}
 use lib.ListN.{length, take, drop}
 use lib.Seq.{take-append-seam}
+use Rattle.verdict.specs.Verdict.{accepted}
 use Rattle.page.specs.declared.Writing.{Writing}
 use Rattle.page.specs.declared.Writing.the-variants.{Length}
 use Rattle.job.specs.declared.Job.{Job}
@@ -51,7 +52,7 @@ written-start {text} {before} (put h e) =
 pub job-again : (j : Job) (c : Carried) → judged j ≡ Accepted c → (before : List ℕ) {after s : List ℕ} {n : ℕ}
     → (Length n ≡ jobWriting sheetText (judged j) before) × (after ≡ jobBuffer sheetText (judged j) before)
     → s ≡ take n after
-    → (answer (reading s) ≡ record { number = 0; line = 0; job = recorded (carried j) })
+    → (answer (reading s) ≡ record { verdict = accepted; job = recorded (carried j) })
     × SameJob j (answer (reading s) .job)
 job-again j c a before p same =
     let w = job-written sheetText a before p in

@@ -9,6 +9,8 @@ use denote.Ref.{now}
 use lib.Dec.{eqb, lit≤}
 use lib.IntN.{ℤ, pos, negsuc}
 use borrow.Author.Tests.{ne-eqb}
+use Rattle.verdict.specs.declared.Verdict.{Verdict}
+use Rattle.verdict.specs.Verdict.{accepted, refusal}
 use Rattle.field.specs.declared.Field.{Field}
 use Rattle.lines.specs.Lines.{linesIn}
 use Rattle.page.specs.declared.Writing.the-variants as written
@@ -21,7 +23,7 @@ use Rattle.sheet.specs.Sheet.{reading, answer, sheetText, jobWriting}
 use Rattle.worst.specs.declared.Six.{Six}
 use Rattle.worst.specs.Worst.{noSix, sixExtremes, reckoned, worstOf}
 use Rattle.report.specs.Report.{refusedText, reportText, totalsText}
-use Rattle.answers.specs.Answers.{noHostText, noHostExtreme, hostAnswer, hostText, reportLine, hostLine, hostTotal}
+use Rattle.answers.specs.Answers.{noHostText, noHostExtreme, hostText, reportLine, hostLine, hostTotal}
 use Rattle.claims.specs.Contract.{Always}
 use Rattle.claims.specs.Fault.{Faulty, Faultless, GetsFault, GetsAccepted}
 use Rattle.claims.proofs.Contracts as of
@@ -37,32 +39,32 @@ use Rattle.claims.proofs.Fault as fault
 pub record BadGetsFirstFault : Type 0 where
   -- a sheet
   pub read-sheet : GetsFault of.read-sheet.Post (λ κ a. linesIn (now (a .0)))
-      (λ κ a n l. record { number = n; line = l; job = recorded nothing })
+      (λ κ a v. record { verdict = v; job = recorded nothing })
   pub write-totals : GetsFault of.write-totals.Post (λ κ a. linesIn (now (a .0)))
-      (λ κ a n l. writing (refusedText n l) (now (a .1 .0)))
-  pub aral-read : GetsFault of.aral-read.Post (λ κ a. linesIn (now (a .0))) (λ κ a n l. record { number = n; line = l })
-  pub aral-rewrite : GetsFault of.aral-rewrite.Post (λ κ a. linesIn (now (a .0))) (λ κ a n l. noHostText n l)
-  pub aral-report : GetsFault of.aral-report.Post (λ κ a. linesIn (now (a .0))) (λ κ a n l. noHostText n l)
-  pub aral-total : GetsFault of.aral-total.Post (λ κ a. linesIn (now (a .0))) (λ κ a n l. noHostExtreme n l)
+      (λ κ a v. writing (refusedText v) (now (a .1 .0)))
+  pub aral-read : GetsFault of.aral-read.Post (λ κ a. linesIn (now (a .0))) (λ κ a v. v)
+  pub aral-rewrite : GetsFault of.aral-rewrite.Post (λ κ a. linesIn (now (a .0))) (λ κ a v. noHostText v)
+  pub aral-report : GetsFault of.aral-report.Post (λ κ a. linesIn (now (a .0))) (λ κ a v. noHostText v)
+  pub aral-total : GetsFault of.aral-total.Post (λ κ a. linesIn (now (a .0))) (λ κ a v. noHostExtreme v)
   -- a job
-  pub judge : GetsFault of.judge.Post (λ κ a. linesOf (carried (a .0))) (λ κ a n l. record { number = n; line = l })
+  pub judge : GetsFault of.judge.Post (λ κ a. linesOf (carried (a .0))) (λ κ a v. v)
   pub worst-cases : GetsFault of.worst-cases.Post (λ κ a. linesOf (carried (a .0)))
-      (λ κ a n l. record { number = n; line = l; six = noSix })
-  pub write-sheet : GetsFault of.write-sheet.Post (λ κ a. linesOf (carried (a .0))) (λ κ a n l. written.Refused n l)
-  pub write-report : GetsFault of.write-report.Post (λ κ a. linesOf (carried (a .0))) (λ κ a n l. written.Refused n l)
+      (λ κ a v. record { verdict = v; six = noSix })
+  pub write-sheet : GetsFault of.write-sheet.Post (λ κ a. linesOf (carried (a .0))) (λ κ a v. written.Refused v)
+  pub write-report : GetsFault of.write-report.Post (λ κ a. linesOf (carried (a .0))) (λ κ a v. written.Refused v)
 
--- Where there is no fault, the number and the line are 0. What is then written and shown is said by demands 2 and 3.
+-- Where there is no fault, the number and the line are 0: accepted. What is then written and shown is said by demands 2 and 3.
 pub record GoodIsAccepted : Type 0 where
-  pub read-sheet : GetsAccepted of.read-sheet.Post (λ κ a. linesIn (now (a .0))) (λ κ r. (r .number ≡ 0) × (r .line ≡ 0))
-  pub aral-read : GetsAccepted of.aral-read.Post (λ κ a. linesIn (now (a .0))) (λ κ r. (r .number ≡ 0) × (r .line ≡ 0))
-  pub judge : GetsAccepted of.judge.Post (λ κ a. linesOf (carried (a .0))) (λ κ r. (r .number ≡ 0) × (r .line ≡ 0))
+  pub read-sheet : GetsAccepted of.read-sheet.Post (λ κ a. linesIn (now (a .0))) (λ κ r. r .verdict ≡ accepted)
+  pub aral-read : GetsAccepted of.aral-read.Post (λ κ a. linesIn (now (a .0))) (λ κ r. r ≡ accepted)
+  pub judge : GetsAccepted of.judge.Post (λ κ a. linesOf (carried (a .0))) (λ κ r. r ≡ accepted)
   pub worst-cases : GetsAccepted of.worst-cases.Post (λ κ a. linesOf (carried (a .0)))
-      (λ κ r. (r .number ≡ 0) × (r .line ≡ 0))
+      (λ κ r. r .verdict ≡ accepted)
 
 -- Lines of fields have no fault, or one first fault and no other.
 abbrev pub FaultsAreOne : Type 0
-FaultsAreOne = (xs : List (List Field)) → (Faultless xs ⊎ ((n : ℕ) × (l : ℕ) × Faulty xs n l))
-    × ((n l m k : ℕ) → Faulty xs n l → Faulty xs m k → (n ≡ m) × (l ≡ k))
+FaultsAreOne = (xs : List (List Field)) → (Faultless xs ⊎ ((v : Verdict) × Faulty xs v))
+    × ((v w : Verdict) → Faulty xs v → Faulty xs w → v ≡ w)
 
 -- A sheet or a job is accepted, with what its lines carry, exactly where they have no fault.
 pub record AcceptedIsFaultless : Type 0 where
@@ -74,7 +76,7 @@ pub record AcceptedIsFaultless : Type 0 where
 -- A line of the report other than 1 to 6 is 3 with line 0, after the sheet's own fault.
 abbrev pub OtherLineIsThree : Type 0
 OtherLineIsThree = Always of.aral-total.Post (λ κ a r s. Faultless (linesIn (now (a .0)))
-    → ((n : ℕ) → 1 ≤ n → n ≤ 6 → a .1 .0 ≡ pos n → ⊥) → r ≡ noHostExtreme 3 0)
+    → ((n : ℕ) → 1 ≤ n → n ≤ 6 → a .1 .0 ≡ pos n → ⊥) → r ≡ noHostExtreme (refusal 3 0))
 
 -- "A refused call changes no byte of any buffer."
 -- So by the contract of each function that is lent a buffer and may refuse (Unchanged).
@@ -85,20 +87,20 @@ pub bad-gets-first-fault : BadGetsFirstFault
 unfolding worstOf
 bad-gets-first-fault =
     record {
-      read-sheet = λ κ a r s p n l f. p ∙ ap answer (fault.sheet-faulty (now (a .0)) f);
-      write-totals = λ κ a r s p n l f.
+      read-sheet = λ κ a r s p v f. p ∙ ap answer (fault.sheet-faulty (now (a .0)) f);
+      write-totals = λ κ a r s p v f.
           p .0 ∙ ap (λ x. writing (totalsText x) (now (a .1 .0))) (fault.sheet-faulty (now (a .0)) f);
-      aral-read = λ κ a r s p n l f. p ∙ ap hostAnswer (fault.sheet-faulty (now (a .0)) f);
-      aral-rewrite = λ κ a r s p n l f.
+      aral-read = λ κ a r s p v f. p ∙ ap verdict (fault.sheet-faulty (now (a .0)) f);
+      aral-rewrite = λ κ a r s p v f.
           p .0 ∙ ap (λ x. hostText (jobWriting sheetText x (now (a .1 .0)))) (fault.sheet-faulty (now (a .0)) f);
-      aral-report = λ κ a r s p n l f.
+      aral-report = λ κ a r s p v f.
           p .0 ∙ ap (λ x. hostText (jobWriting reportText x (now (a .1 .0)))) (fault.sheet-faulty (now (a .0)) f);
-      aral-total = λ κ a r s p n l f. p ∙ ap (λ x. hostTotal x (a .1 .0)) (fault.sheet-faulty (now (a .0)) f);
-      judge = λ κ a r s p n l f. p ∙ ap verdict (fault.job-faulty (a .0) f);
-      worst-cases = λ κ a r s p n l f. p ∙ ap reckoned (fault.job-faulty (a .0) f);
-      write-sheet = λ κ a r s p n l f.
+      aral-total = λ κ a r s p v f. p ∙ ap (λ x. hostTotal x (a .1 .0)) (fault.sheet-faulty (now (a .0)) f);
+      judge = λ κ a r s p v f. p ∙ ap verdict (fault.job-faulty (a .0) f);
+      worst-cases = λ κ a r s p v f. p ∙ ap reckoned (fault.job-faulty (a .0) f);
+      write-sheet = λ κ a r s p v f.
           p .0 ∙ ap (λ x. jobWriting sheetText x (now (a .1 .0))) (fault.job-faulty (a .0) f);
-      write-report = λ κ a r s p n l f.
+      write-report = λ κ a r s p v f.
           p .0 ∙ ap (λ x. jobWriting reportText x (now (a .1 .0))) (fault.job-faulty (a .0) f);
     }
 
@@ -107,19 +109,14 @@ unfolding worstOf
 good-is-accepted =
     record {
       read-sheet = λ κ a r s p f.
-          let e =
-          p ∙ ap answer (fault.sheet-faultless (now (a .0)) f .1) in (ap (λ x. x .number) e, ap (λ x. x .line) e);
-      aral-read = λ κ a r s p f.
-          let e =
-          p ∙ ap hostAnswer (fault.sheet-faultless (now (a .0)) f .1) in (ap (λ x. x .number) e, ap (λ x. x .line) e);
-      judge = λ κ a r s p f.
-          let e = p ∙ ap verdict (fault.job-faultless (a .0) f) in (ap (λ x. x .number) e, ap (λ x. x .line) e);
-      worst-cases = λ κ a r s p f.
-          let e = p ∙ ap reckoned (fault.job-faultless (a .0) f) in (ap (λ x. x .number) e, ap (λ x. x .line) e);
+          ap (λ x. x .verdict) (p ∙ ap answer (fault.sheet-faultless (now (a .0)) f .1));
+      aral-read = λ κ a r s p f. p ∙ ap verdict (fault.sheet-faultless (now (a .0)) f .1);
+      judge = λ κ a r s p f. p ∙ ap verdict (fault.job-faultless (a .0) f);
+      worst-cases = λ κ a r s p f. ap (λ x. x .verdict) (p ∙ ap reckoned (fault.job-faultless (a .0) f));
     }
 
 pub faults-are-one : FaultsAreOne
-faults-are-one xs = (fault.faultless-or-faulty xs, λ n l m k f g. fault.faulty-unique xs f g)
+faults-are-one xs = (fault.faultless-or-faulty xs, λ v w f g. fault.faulty-unique xs f g)
 
 pub accepted-is-faultless : AcceptedIsFaultless
 accepted-is-faultless =
@@ -128,7 +125,7 @@ accepted-is-faultless =
       job = λ j. (fault.job-faultless j, fault.job-accepted j);
     }
 
-no-line : (six : Six) (l : ℤ) → ((n : ℕ) → 1 ≤ n → n ≤ 6 → l ≡ pos n → ⊥) → hostLine six l ≡ noHostExtreme 3 0
+no-line : (six : Six) (l : ℤ) → ((n : ℕ) → 1 ≤ n → n ≤ 6 → l ≡ pos n → ⊥) → hostLine six l ≡ noHostExtreme (refusal 3 0)
 unfolding reportLine
 no-line six (negsuc n) h = refl
 no-line six (pos n) h =

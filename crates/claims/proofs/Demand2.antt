@@ -6,6 +6,7 @@ use Prim.Native.Nat.{ℕ}
 use denote.Ref.{now}
 use lib.IntN.{ℤ}
 use lib.ListN.{take}
+use Rattle.verdict.specs.Verdict.{accepted}
 use Rattle.page.specs.declared.Writing.{Writing}
 use Rattle.page.specs.declared.Writing.the-variants as written
 use Rattle.page.specs.Writing.{writing}
@@ -81,7 +82,7 @@ SheetRewritten = Always of.aral-rewrite.Post (λ κ a r s. (c : Carried) → rea
 abbrev pub JobAgain : Type 0
 JobAgain = Always of.write-sheet.Post (λ κ a r s. Always of.read-sheet.Post (λ κ′ b q t.
     (c : Carried) (n : ℕ) → judged (a .0) ≡ Accepted c → r ≡ written.Length n → now (b .0) ≡ take n (now (s .1 .0))
-    → (q ≡ record { number = 0; line = 0; job = recorded (carried (a .0)) }) × SameJob (a .0) (q .job)))
+    → (q ≡ record { verdict = accepted; job = recorded (carried (a .0)) }) × SameJob (a .0) (q .job)))
 
 -- What is written is the text: a program that writes nothing, or something else, falls.
 pub record WritesTheText : Type 0 where

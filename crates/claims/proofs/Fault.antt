@@ -5,6 +5,8 @@ use mathlib.Core.Logic.{_⊎_, inl, inr}
 use mathlib.Core.List.{List}
 use Prim.Native.Nat.{ℕ, _+_}
 use native.Mathlib.Omega.{arith}
+use Rattle.verdict.specs.declared.Verdict.{Verdict}
+use Rattle.verdict.specs.Verdict.{refusal}
 use Rattle.field.specs.declared.Field.{Field}
 use Rattle.lines.specs.Lines.{linesIn}
 use Rattle.job.specs.declared.Job.{Job}
@@ -17,11 +19,11 @@ use Rattle.job.proofs.RoundTrip.{accepted-lines, judged-carried}
 use Rattle.sheet.specs.Sheet.{reading}
 use Rattle.claims.specs.Fault.{Faulty, at, Faultless}
 
-pub faulty-unique : (xs : List (List Field)) {n l m k : ℕ} → Faulty xs n l → Faulty xs m k → (n ≡ m) × (l ≡ k)
-faulty-unique xs (at f) (at g) = let u = first-unique sheet nothing xs f g in (u .1, ap (λ i. 1 + i) (u .0))
+pub faulty-unique : (xs : List (List Field)) {v w : Verdict} → Faulty xs v → Faulty xs w → v ≡ w
+faulty-unique xs (at f) (at g) = let u = first-unique sheet nothing xs f g in rw (u .0, u .1)
 
 module _ (xs : List (List Field)) where
-  faulty-answer : (r : Reading) → Answers sheet nothing xs 1 r → {n l : ℕ} → Faulty xs n l → r ≡ Refused n l
+  faulty-answer : (r : Reading) → Answers sheet nothing xs 1 r → {v : Verdict} → Faulty xs v → r ≡ Refused v
   faulty-answer r (in-order d none) (at {n} {i} f) = absurd (none i n (f .some) (f .has))
   faulty-answer r (faulty m h g) (at f) = let u = first-unique sheet nothing xs g f in rw (u .0, u .1)
 
@@ -33,16 +35,16 @@ module _ (xs : List (List Field)) where
   accepted-answer r (in-order d none) c e = none
   accepted-answer r (faulty n i g) c e = let z : _≡_ {A = ℕ} 0 1 = cc in absurd (omega arith)
 
-  either : (r : Reading) → Answers sheet nothing xs 1 r → Faultless xs ⊎ ((n : ℕ) × (l : ℕ) × Faulty xs n l)
+  either : (r : Reading) → Answers sheet nothing xs 1 r → Faultless xs ⊎ ((v : Verdict) × Faulty xs v)
   either r (in-order d none) = inl none
-  either r (faulty n i f) = inr (n, 1 + i, at f)
+  either r (faulty n i f) = inr (_, at f)
 
-  pub faultless-or-faulty : Faultless xs ⊎ ((n : ℕ) × (l : ℕ) × Faulty xs n l)
+  pub faultless-or-faulty : Faultless xs ⊎ ((v : Verdict) × Faulty xs v)
   faultless-or-faulty = either (readLines xs) (lines-answer xs)
 
 -- ---- a sheet and a job
 
-pub sheet-faulty : (s : List ℕ) {n l : ℕ} → Faulty (linesIn s) n l → reading s ≡ Refused n l
+pub sheet-faulty : (s : List ℕ) {v : Verdict} → Faulty (linesIn s) v → reading s ≡ Refused v
 unfolding reading
 sheet-faulty s f = faulty-answer (linesIn s) (readLines (linesIn s)) (lines-answer (linesIn s)) f
 
@@ -56,7 +58,7 @@ sheet-accepted s c e =
     (accepted-answer (linesIn s) (readLines (linesIn s)) (lines-answer (linesIn s)) c e, accepted-lines (linesIn s) c e)
 
 module _ (j : Job) where
-  pub job-faulty : {n l : ℕ} → Faulty (linesOf (carried j)) n l → judged j ≡ Refused n l
+  pub job-faulty : {v : Verdict} → Faulty (linesOf (carried j)) v → judged j ≡ Refused v
   unfolding judged
   job-faulty f = faulty-answer (linesOf (carried j)) (judged j) (lines-answer (linesOf (carried j))) f
 

@@ -10,6 +10,7 @@ use lib.Dec.{leb}
 use lib.ListN.{length, take}
 use Rattle.whole.specs.Lists.{Every}
 use Rattle.whole.proofs.Lists.{every-by}
+use Rattle.verdict.specs.Verdict.{refusal}
 use Rattle.lines.specs.Lines.{LinesInForm}
 use Rattle.book.specs.Line.{Row, Between}
 use Rattle.book.specs.Interpolated.{Rising, hundredths, LiesBetween, Interpolated}
@@ -18,9 +19,10 @@ use Rattle.job.specs.declared.Job.{Job}
 use Rattle.job.specs.Carried.{Carried, carried}
 use Rattle.job.specs.Lines.{linesOf}
 use Rattle.job.specs.InOrder.{FaceInOrder, Within}
-use Rattle.job.specs.Walk.{Reading, Accepted, Refused, verdict, judged}
+use Rattle.job.specs.Walk.{Reading, Accepted, Refused, judged}
 use Rattle.sheet.specs.Sheet.{reading, answer, sheetText, jobWriting}
 use Rattle.sheet.proofs.RoundTrip.{judge-is-reader}
+use Rattle.sheet.proofs.Answered.{answer-verdict}
 use Rattle.sheet.proofs.Part.{part-decides, longest-sheet}
 use Rattle.worst.specs.declared.Axis.{Axis}
 use Rattle.worst.specs.Cases.{Case, caseTotal}
@@ -57,7 +59,7 @@ NoLocals = (j : Job) (c : Carried) → judged j ≡ Accepted c → Every (λ f. 
 abbrev pub JobAsSheet : Type 0
 JobAsSheet = Always of.judge.Post (λ κ a r s. Always of.read-sheet.Post (λ κ′ b q t.
     LinesInForm (linesOf (carried (a .0))) → now (b .0) ≡ sheetText
-    (carried (a .0)) → (r .number ≡ q .number) × (r .line ≡ q .line)))
+    (carried (a .0)) → r ≡ q .verdict))
 
 -- No report is longer than 474 bytes, and no accepted sheet than 827.
 abbrev pub TextsAreShort : Type 0
@@ -80,28 +82,21 @@ totals-are-small j c a axis k = caseTotal-small (given c) (given-in-range c (job
 pub no-locals : NoLocals
 no-locals j c a = every-by (λ f (h : FaceInOrder (c .building) f). h .zone) (c .faces) (job-in-order j c a .faces)
 
--- the number and line of a reading are those of its verdict
-same-number : (x : Reading) → (answer x .number ≡ verdict x .number) × (answer x .line ≡ verdict x .line)
-same-number (Accepted c) = (refl, refl)
-same-number (Refused n l) = (refl, refl)
-
 pub job-as-sheet : JobAsSheet
 job-as-sheet κ a r s p κ′ b q t p′ f same =
     let x = judged (a .0) in
-    let e : q ≡ answer x = p′ ∙ ap (λ s. answer (reading s)) same ∙ ap answer (judge-is-reader (a .0) f) in (
-      ap (λ v. v .number) p ∙ sym (ap (λ v. v .number) e ∙ same-number x .0),
-      ap (λ v. v .line) p ∙ sym (ap (λ v. v .line) e ∙ same-number x .1),
-    )
+    let e : q ≡ answer x = p′ ∙ ap (λ s. answer (reading s)) same ∙ ap answer (judge-is-reader (a .0) f) in
+    p ∙ sym (ap (λ v. v .verdict) e ∙ answer-verdict x)
 
 -- the length that a host is told of a report
 told-length : (x : Reading) (buf : List ℕ) → ((c : Carried) → x ≡ Accepted c → length (reportText c) ≤ 474)
     → hostText (jobWriting reportText x buf) .length ≤ 474
 told-length (Accepted c) buf h = go (leb (length (reportText c)) (length buf))
   where
-    go : (t : Bool) → hostText (cond t (written.Length (length (reportText c))) (written.Refused 7 0)) .length ≤ 474
+    go : (t : Bool) → hostText (cond t (written.Length (length (reportText c))) (written.Refused (refusal 7 0))) .length ≤ 474
     go true = h c refl
     go false = omega arith
-told-length (Refused n l) buf h = omega arith
+told-length (Refused v) buf h = omega arith
 
 pub texts-are-short : TextsAreShort
 texts-are-short = (

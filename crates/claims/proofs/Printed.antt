@@ -10,6 +10,7 @@ use Rattle.whole.specs.Lists.{Every}
 use Rattle.whole.specs.Round.{halfUp, roundAway, roundDown, leftOver}
 use Rattle.whole.specs.Newton.{newtons, remainder}
 use Rattle.whole.specs.Digits.{allDigits, valueAfter, value}
+use Rattle.verdict.specs.Verdict.{refusal}
 use Rattle.field.specs.Field.{digitsInForm, unsigned, negative, numeral, fieldFrom}
 use Rattle.lines.specs.Lines.{split, fieldsOf, linesFrom, linesIn}
 use Rattle.building.specs.declared.Building.{Building}
@@ -55,7 +56,7 @@ Holds (gives g direction place values) = valuesOf (outsideOf g (pos direction) p
 Holds (gets g number) = (givenFault g ≡ number)
 Holds (pushes density speed net area units whole) =
     (alone density speed net area ≡ units) × (newtons units ≡ whole) × (remainder units ≡ 0)
-Holds (reads text number line) = (verdict (reading (bytes text)) ≡ record { number = number; line = line })
+Holds (reads text number line) = (verdict (reading (bytes text)) ≡ refusal number line)
 
 -- ---- the table
 

@@ -8,6 +8,8 @@ use lib.Dec.{T, eqb}
 use lib.IntN.{ℤ, natAbs}
 use borrow.Author.Tests.{eqb-true, eqb-false}
 use Rattle.whole.proofs.Tests.{by-test}
+use Rattle.verdict.specs.declared.Verdict.{Verdict}
+use Rattle.verdict.specs.Verdict.{accepted, refusal}
 use Rattle.building.specs.declared.Building.{Building}
 use Rattle.building.specs.declared.Question.{Question}
 use Rattle.building.specs.declared.Question.the-variants as asked
@@ -19,7 +21,7 @@ use Rattle.building.proofs.Judged as judged
 use Rattle.job.proofs.Written.{building-given}
 use Rattle.book.specs.declared.Answer as book
 use Rattle.book.specs.declared.Answer.the-variants.{One, Two, Refused}
-use Rattle.book.specs.Answer.{numberOf, lineOf, valuesOf}
+use Rattle.book.specs.Answer.{verdictOf, valuesOf}
 use Rattle.book.specs.Coefficient.{IsCoefficient}
 use Rattle.book.specs.Question.{outsideOf, net, tooGreat, then, minus, netOf}
 use Rattle.book.proofs.Answers.{same-answer}
@@ -38,18 +40,18 @@ module _ (g : Building) (direction : ℤ) (place : ℕ) where
 
   -- ---- the refusals come in one order, and not where the question is in order
 
-  refusal-unique : {n l m k : ℕ} → Refusal g direction place n l → Refusal g direction place m k → (n ≡ m) × (l ≡ k)
-  refusal-unique (bad-building p e) (bad-building q f) = (sym e ∙ f, refl)
+  refusal-unique : {v w : Verdict} → Refusal g direction place v → Refusal g direction place w → v ≡ w
+  refusal-unique (bad-building p e) (bad-building q f) = ap (λ n. refusal n 2) (sym e ∙ f)
   refusal-unique (bad-building p e) (bad-direction f h) = absurd (omega arith)
   refusal-unique (bad-building p e) (bad-place f h i) = absurd (omega arith)
   refusal-unique (bad-direction e h) (bad-building q f) = absurd (omega arith)
-  refusal-unique (bad-direction e h) (bad-direction f i) = (refl, refl)
+  refusal-unique (bad-direction e h) (bad-direction f i) = refl
   refusal-unique (bad-direction e h) (bad-place f i j) = clash i h
   refusal-unique (bad-place e h i) (bad-building q f) = absurd (omega arith)
   refusal-unique (bad-place e h i) (bad-direction f j) = clash h j
-  refusal-unique (bad-place e h i) (bad-place f j k) = (refl, refl)
+  refusal-unique (bad-place e h i) (bad-place f j k) = refl
 
-  not-both : {A : Type 0} {n l : ℕ} → Refusal g direction place n l → InQuestion g direction place → A
+  not-both : {A : Type 0} {v : Verdict} → Refusal g direction place v → InQuestion g direction place → A
   not-both (bad-building p e) q = absurd (omega (arith, q .in-order))
   not-both (bad-direction e h) q = clash (q .known) h
   not-both (bad-place e h i) q = clash (q .there) i
@@ -62,7 +64,7 @@ module _ (g : Building) (direction : ℤ) (place : ℕ) where
 
   -- the refusal, or that there is none
   judged-so : {P : Type 0}
-      → ((n l : ℕ) → Refusal g direction place n l → askedOf g direction place ≡ asked.Refused n l → P)
+      → ((v : Verdict) → Refusal g direction place v → askedOf g direction place ≡ asked.Refused v → P)
       → (InQuestion g direction place → askedOf g direction place ≡ asked.Of (sizes g) → P) → P
   judged-so bad good =
       by-test (eqb (givenFault g) 0)
@@ -71,17 +73,17 @@ module _ (g : Building) (direction : ℤ) (place : ℕ) where
       by-test (knows (g .kind) direction)
       (λ f. by-test (zoneOn (g .kind) place || localOn (g .kind) place)
       (λ h. good (in-question fine f h) (judged.in-question g direction place fine f h))
-      (λ h. bad 6 0 (bad-place (sym sheet-fault ∙ none) f h) (judged.bad-place g direction place fine f h)))
-      (λ f. bad 3 0 (bad-direction (sym sheet-fault ∙ none) f) (judged.bad-direction g direction place fine f)))
+      (λ h. bad _ (bad-place (sym sheet-fault ∙ none) f h) (judged.bad-place g direction place fine f h)))
+      (λ f. bad _ (bad-direction (sym sheet-fault ∙ none) f) (judged.bad-direction g direction place fine f)))
       (λ e. let faulty = eqb-false (givenFault g) 0 e in
-      bad (givenFault g) 2 (bad-building (omega arith) (sym sheet-fault))
+      bad _ (bad-building (omega arith) (sym sheet-fault))
       (judged.bad-building g direction place faulty))
 
   pub question-judged : Judged g direction place (askedOf g direction place)
-  question-judged = judged-so (λ n l f e. rw e (not-asked f)) (λ q e. rw e (asked-of q))
+  question-judged = judged-so (λ v f e. rw e (not-asked f)) (λ q e. rw e (asked-of q))
 
   pub judged-unique : {r r′ : Question} → Judged g direction place r → Judged g direction place r′ → r ≡ r′
-  judged-unique (not-asked f) (not-asked h) = let u = refusal-unique f h in rw (u .0, u .1)
+  judged-unique (not-asked f) (not-asked h) = ap asked.Refused (refusal-unique f h)
   judged-unique (not-asked f) (asked-of q) = not-both f q
   judged-unique (asked-of q) (not-asked f) = not-both f q
   judged-unique (asked-of q) (asked-of q′) = refl
@@ -89,32 +91,32 @@ module _ (g : Building) (direction : ℤ) (place : ℕ) where
   -- ---- the coefficient
 
   outside-by : {P : Type 0}
-      → ((n l : ℕ) → Refusal g direction place n l → outsideOf g direction place ≡ Refused n l → P)
+      → ((v : Verdict) → Refusal g direction place v → outsideOf g direction place ≡ Refused v → P)
       → (InQuestion g direction place
       → IsCoefficient (sizes g) (natAbs direction) place (valuesOf (outsideOf g direction place)) → P) → P
   unfolding outsideOf
   outside-by bad good =
-      judged-so (λ n l f e. bad n l f (rw e))
+      judged-so (λ v f e. bad v f (rw e))
       (λ q e. good q (outside-is g direction place (none-given g (sheet-fault ∙ q .in-order)) (q .known) (q .there)))
 
   -- a coefficient is no refusal
-  told-number : (r : book.Answer) → IsCoefficient (sizes g) (natAbs direction) place (valuesOf r)
-      → (numberOf r ≡ 0) × (lineOf r ≡ 0)
-  told-number (One v) i = (refl, refl)
-  told-number (Two v w) i = (refl, refl)
+  told-accepted : (r : book.Answer) → IsCoefficient (sizes g) (natAbs direction) place (valuesOf r)
+      → verdictOf r ≡ accepted
+  told-accepted (One v) i = refl
+  told-accepted (Two v w) i = refl
 
   pub outside-got : Outside g direction place (outsideOf g direction place)
   outside-got =
-      outside-by (λ n l f e. subst (Outside g direction place) (sym e) (refused f))
-      (λ q i. let z = told-number (outsideOf g direction place) i in told q (z .0) (z .1) i)
+      outside-by (λ v f e. subst (Outside g direction place) (sym e) (refused f))
+      (λ q i. told q (told-accepted (outsideOf g direction place) i) i)
 
   pub outside-unique : {r r′ : book.Answer} → Outside g direction place r → Outside g direction place r′ → r ≡ r′
-  outside-unique (refused f) (refused h) = let u = refusal-unique f h in rw (u .0, u .1)
-  outside-unique (refused f) (told q n l i) = not-both f q
-  outside-unique (told q n l i) (refused f) = not-both f q
-  outside-unique (told {r} q n l i) (told {r = r′} q′ n′ l′ i′) =
+  outside-unique (refused f) (refused h) = ap Refused (refusal-unique f h)
+  outside-unique (refused f) (told q a i) = not-both f q
+  outside-unique (told q a i) (refused f) = not-both f q
+  outside-unique (told {r} q a i) (told {r = r′} q′ a′ i′) =
       let good : buildingFault g ≡ 0 = none-given g (sheet-fault ∙ q .in-order) in
-      same-answer r r′ (n ∙ sym n′) (l ∙ sym l′)
+      same-answer r r′ (a ∙ sym a′)
       (coefficient-unique (sizes g) (in-order g good) (natAbs direction) place i i′)
 
   -- ---- the net coefficient
@@ -123,13 +125,12 @@ module _ (g : Building) (direction : ℤ) (place : ℕ) where
     minus-values : (r : book.Answer) → valuesOf (minus r internal) ≡ map (λ v. net v internal) (valuesOf r)
     minus-values (One v) = refl
     minus-values (Two v w) = refl
-    minus-values (Refused n l) = refl
+    minus-values (Refused v) = refl
 
-    minus-number : (r : book.Answer)
-        → (numberOf (minus r internal) ≡ numberOf r) × (lineOf (minus r internal) ≡ lineOf r)
-    minus-number (One v) = (refl, refl)
-    minus-number (Two v w) = (refl, refl)
-    minus-number (Refused n l) = (refl, refl)
+    minus-verdict : (r : book.Answer) → verdictOf (minus r internal) ≡ verdictOf r
+    minus-verdict (One v) = refl
+    minus-verdict (Two v w) = refl
+    minus-verdict (Refused v) = refl
 
     then-told : (r s : book.Answer) → IsCoefficient (sizes g) (natAbs direction) place (valuesOf r) → then r s ≡ s
     then-told (One v) s i = refl
@@ -138,25 +139,24 @@ module _ (g : Building) (direction : ℤ) (place : ℕ) where
     pub net-got : Net g direction place internal (netOf g direction place internal)
     unfolding netOf
     net-got =
-        outside-by (λ n l f e. rw e (as-outside f))
+        outside-by (λ v f e. rw e (as-outside f))
         (λ q i. let o = outsideOf g direction place in
-        let z = told-number o i in
         rw (then-told o _ i)
         (by-test (tooGreat internal)
         (λ e. rw e (bad-internal q e))
         (λ e.
-        rw e (less-internal q e outside-got (minus-number o .0 ∙ z .0) (minus-number o .1 ∙ z .1) (minus-values o)))))
+        rw e (less-internal q e outside-got (minus-verdict o ∙ told-accepted o i) (minus-values o)))))
 
     pub net-unique : {r r′ : book.Answer} → Net g direction place internal r → Net g direction place internal r′
         → r ≡ r′
-    net-unique (as-outside f) (as-outside h) = let u = refusal-unique f h in rw (u .0, u .1)
+    net-unique (as-outside f) (as-outside h) = ap Refused (refusal-unique f h)
     net-unique (as-outside f) (bad-internal q e) = not-both f q
-    net-unique (as-outside f) (less-internal q e o n l v) = not-both f q
+    net-unique (as-outside f) (less-internal q e o a v) = not-both f q
     net-unique (bad-internal q e) (as-outside f) = not-both f q
     net-unique (bad-internal q e) (bad-internal q′ e′) = refl
-    net-unique (bad-internal q e) (less-internal q′ e′ o n l v) = clash e e′
-    net-unique (less-internal q e o n l v) (as-outside f) = not-both f q
-    net-unique (less-internal q e o n l v) (bad-internal q′ e′) = clash e′ e
-    net-unique (less-internal {r = r} q e o n l v) (less-internal {r = r′} q′ e′ o′ n′ l′ v′) =
-        same-answer r r′ (n ∙ sym n′) (l ∙ sym l′)
+    net-unique (bad-internal q e) (less-internal q′ e′ o a v) = clash e e′
+    net-unique (less-internal q e o a v) (as-outside f) = not-both f q
+    net-unique (less-internal q e o a v) (bad-internal q′ e′) = clash e′ e
+    net-unique (less-internal {r = r} q e o a v) (less-internal {r = r′} q′ e′ o′ a′ v′) =
+        same-answer r r′ (a ∙ sym a′)
         (v ∙ ap (λ x. map (λ y. net y internal) (valuesOf x)) (outside-unique o o′) ∙ sym v′)

@@ -9,6 +9,7 @@ use lib.ListN.{length, getD, length-map}
 use borrow.Author.Tests.{le-ltb}
 use Rattle.whole.proofs.Lists.{getD-map, every-member}
 use Rattle.whole.proofs.Tests.{by-test}
+use Rattle.verdict.specs.Verdict.{refusal}
 use Rattle.building.specs.Test.{beyond}
 use Rattle.entry.specs.declared.Wind.{Wind}
 use Rattle.entry.specs.declared.Face.{Face}
@@ -34,11 +35,11 @@ not-too-great (pos n) h = le-ltb 100 n h
 not-too-great (negsuc n) h = rw (le-ltb 99 n (omega arith))
 
 net-values : (r : book.Answer) (internal : ℤ) → tooGreat internal ≡ false
-    → valuesOf (then r (cond (tooGreat internal) (Refused 3 0) (minus r internal))) ≡ map (λ v. net v internal)
+    → valuesOf (then r (cond (tooGreat internal) (Refused (refusal 3 0)) (minus r internal))) ≡ map (λ v. net v internal)
     (valuesOf r)
 net-values (One v) internal e = rw e
 net-values (Two v w) internal e = rw e
-net-values (Refused n l) internal e = refl
+net-values (Refused v) internal e = refl
 
 -- ---- one face
 

@@ -9,6 +9,7 @@ use lib.Dec.{leb}
 use lib.ListN.{length, take, drop}
 use Rattle.claims.specs.Contract.{RefusedUnchanged, IsRefused}
 use Rattle.claims.proofs.Contracts as of
+use Rattle.verdict.specs.Verdict.{refusal, Refuses}
 use Rattle.page.specs.declared.Writing.{Writing}
 use Rattle.page.specs.declared.Writing.the-variants as written
 use Rattle.page.specs.Writing.{writing, bufferAfter}
@@ -26,7 +27,7 @@ module _ (text buf : List ℕ) where
   put-kept : IsRefused (writing text buf) → bufferAfter text buf ≡ buf
   put-kept = go (leb (length text) (length buf))
     where
-      go : (t : Bool) → IsRefused (cond t (written.Length (length text)) (written.Refused 7 0))
+      go : (t : Bool) → IsRefused (cond t (written.Length (length text)) (written.Refused (refusal 7 0)))
           → cond t (text ++ drop (length text) buf) buf ≡ buf
       go true h = absurd h
       go false h = refl
@@ -38,16 +39,16 @@ module _ (text buf : List ℕ) where
 module _ (text : Carried → List ℕ) (x : Reading) (buf : List ℕ) where
   put-job-kept : (x : Reading) → IsRefused (jobWriting text x buf) → jobBuffer text x buf ≡ buf
   put-job-kept (Accepted c) h = put-kept (text c) buf h
-  put-job-kept (Refused n l) h = refl
+  put-job-kept (Refused v) h = refl
 
   job-kept : {r : Writing} {after : List ℕ} → (r ≡ jobWriting text x buf) × (after ≡ jobBuffer text x buf)
       → IsRefused r → after ≡ buf
   job-kept p h = p .1 ∙ put-job-kept x (subst IsRefused (p .0) h)
 
--- from C a refusal is a number other than 0
-host-refused : {t : Text} (w : Writing) → t ≡ hostText w → (t .number ≡ 0 → ⊥) → IsRefused w
-host-refused (written.Length n) e h = absurd (h (ap (λ x. x .number) e))
-host-refused (written.Refused number line) e h = tt
+-- so too from C, where a refusal is told by its verdict
+host-refused : {t : Text} (w : Writing) → t ≡ hostText w → Refuses (t .verdict) → IsRefused w
+host-refused (written.Length n) e h = absurd (h (ap (λ x. x .verdict .number) e))
+host-refused (written.Refused v) e h = tt
 
 -- ---- the list
 
@@ -71,19 +72,19 @@ write-totals-unchanged : RefusedUnchanged of.write-totals.Post (λ κ r. IsRefus
     (λ κ s. now (s .1 .0))
 write-totals-unchanged κ a r s p h = text-kept (totalsText (reading (now (a .0)))) (now (a .1 .0)) p h
 
-aral-rewrite-unchanged : RefusedUnchanged of.aral-rewrite.Post (λ κ r. r .number ≡ 0 → ⊥) (λ κ a. now (a .1 .0))
+aral-rewrite-unchanged : RefusedUnchanged of.aral-rewrite.Post (λ κ r. Refuses (r .verdict)) (λ κ a. now (a .1 .0))
     (λ κ s. now (s .1 .0))
 aral-rewrite-unchanged κ a r s p h =
     let w = jobWriting sheetText (reading (now (a .0))) (now (a .1 .0)) in
     job-kept sheetText (reading (now (a .0))) (now (a .1 .0)) (refl, p .1) (host-refused w (p .0) h)
 
-aral-report-unchanged : RefusedUnchanged of.aral-report.Post (λ κ r. r .number ≡ 0 → ⊥) (λ κ a. now (a .1 .0))
+aral-report-unchanged : RefusedUnchanged of.aral-report.Post (λ κ r. Refuses (r .verdict)) (λ κ a. now (a .1 .0))
     (λ κ s. now (s .1 .0))
 aral-report-unchanged κ a r s p h =
     let w = jobWriting reportText (reading (now (a .0))) (now (a .1 .0)) in
     job-kept reportText (reading (now (a .0))) (now (a .1 .0)) (refl, p .1) (host-refused w (p .0) h)
 
-aral-digits-unchanged : RefusedUnchanged of.aral-digits.Post (λ κ r. r .number ≡ 0 → ⊥) (λ κ a. now (a .1 .0))
+aral-digits-unchanged : RefusedUnchanged of.aral-digits.Post (λ κ r. Refuses (r .verdict)) (λ κ a. now (a .1 .0))
     (λ κ s. now (s .1 .0))
 aral-digits-unchanged κ a r s p h =
     let w = writing (decimal (a .0)) (now (a .1 .0)) in

@@ -7,6 +7,7 @@ use native.Mathlib.Omega.{arith}
 use lib.Dec.{leb}
 use lib.ListN.{length, drop}
 use borrow.Author.Tests.{leb-true, leb-false}
+use Rattle.verdict.specs.Verdict.{refusal}
 use Rattle.page.specs.declared.Writing.{Writing}
 use Rattle.page.specs.declared.Writing.the-variants.{Length, Refused}
 use Rattle.page.specs.Writing.{writing, bufferAfter}
@@ -18,7 +19,7 @@ module _ (text before : List ℕ) where
     where
       go : (t : Bool) → leb (length text) (length before) ≡ t
           → Written text before (cond t (text ++ drop (length text) before) before)
-          (cond t (Length (length text)) (Refused 7 0))
+          (cond t (Length (length text)) (Refused (refusal 7 0)))
       go true e = put (leb-true (length text) (length before) e) refl
       go false e = longer (leb-false (length text) (length before) e) refl
 

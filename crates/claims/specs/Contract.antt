@@ -35,4 +35,4 @@ module _ {L : Type 0} {A R S : L → Type 0} (Post : (κ : L) → A κ → R κ 
 
 abbrev pub IsRefused : Writing → Type 0
 IsRefused (Length n) = ⊥
-IsRefused (Refused number line) = Unit
+IsRefused (Refused v) = Unit

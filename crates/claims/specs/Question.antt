@@ -4,6 +4,8 @@ use mathlib.Core.Bool.{true, false, _||_}
 use mathlib.Core.List.{map}
 use Prim.Native.Nat.{ℕ, _<_}
 use lib.IntN.{ℤ, natAbs}
+use Rattle.verdict.specs.declared.Verdict.{Verdict}
+use Rattle.verdict.specs.Verdict.{accepted, refusal}
 use Rattle.building.specs.declared.Building.{Building}
 use Rattle.building.specs.declared.Question as asked
 use Rattle.building.specs.declared.Question.the-variants as judged
@@ -15,7 +17,7 @@ use Rattle.rules.specs.Sections.{lineFault}
 use Rattle.entry_written.specs.Fields.{buildingFields}
 use Rattle.book.specs.declared.Answer as book
 use Rattle.book.specs.declared.Answer.the-variants.{Refused}
-use Rattle.book.specs.Answer.{numberOf, lineOf, valuesOf}
+use Rattle.book.specs.Answer.{verdictOf, valuesOf}
 use Rattle.book.specs.Coefficient.{IsCoefficient}
 use Rattle.book.specs.Question.{net, tooGreat}
 
@@ -26,11 +28,11 @@ sheetFault g = lineFault (Entry B) g (buildingFields g)
 module _ (g : Building) (direction : ℤ) (place : ℕ) where
   -- "the building, with the number and line that its sheet would get; then the direction, 3 with line 0, for locals
   -- too; then the zone or local, 6 with line 0"
-  pub data Refusal : (number line : ℕ) → Type 0 where
-    bad-building : {n : ℕ} → 0 < n → sheetFault g ≡ n → Refusal n 2
-    bad-direction : sheetFault g ≡ 0 → knows (g .kind) direction ≡ false → Refusal 3 0
+  pub data Refusal : Verdict → Type 0 where
+    bad-building : {n : ℕ} → 0 < n → sheetFault g ≡ n → Refusal (refusal n 2)
+    bad-direction : sheetFault g ≡ 0 → knows (g .kind) direction ≡ false → Refusal (refusal 3 0)
     bad-place : sheetFault g ≡ 0 → knows (g .kind) direction ≡ true
-        → (zoneOn (g .kind) place || localOn (g .kind) place) ≡ false → Refusal 6 0
+        → (zoneOn (g .kind) place || localOn (g .kind) place) ≡ false → Refusal (refusal 6 0)
 
   -- none of these
   pub record InQuestion : Type 0 where
@@ -40,22 +42,22 @@ module _ (g : Building) (direction : ℤ) (place : ℕ) where
 
   -- the question judged: what the tables are asked for are the building's sizes
   pub data Judged : asked.Question → Type 0 where
-    not-asked : {n l : ℕ} → Refusal n l → Judged (judged.Refused n l)
+    not-asked : {v : Verdict} → Refusal v → Judged (judged.Refused v)
     asked-of : InQuestion → Judged (judged.Of (sizes g))
 
-  -- an answer is number 0, line 0, and the alternatives
+  -- an answer is accepted, with the alternatives
   pub data Outside : book.Answer → Type 0 where
-    refused : {n l : ℕ} → Refusal n l → Outside (Refused n l)
-    told : {r : book.Answer} → InQuestion → numberOf r ≡ 0 → lineOf r ≡ 0
+    refused : {v : Verdict} → Refusal v → Outside (Refused v)
+    told : {r : book.Answer} → InQuestion → verdictOf r ≡ accepted
         → IsCoefficient (sizes g) (natAbs direction) place (valuesOf r) → Outside r
 
   -- "then, where the net is asked, the internal coefficient, 3 with line 0"; else outside minus internal, alternative
   -- by alternative
   pub data Net (internal : ℤ) : book.Answer → Type 0 where
-    as-outside : {n l : ℕ} → Refusal n l → Net internal (Refused n l)
-    bad-internal : InQuestion → tooGreat internal ≡ true → Net internal (Refused 3 0)
+    as-outside : {v : Verdict} → Refusal v → Net internal (Refused v)
+    bad-internal : InQuestion → tooGreat internal ≡ true → Net internal (Refused (refusal 3 0))
     less-internal : {outside r : book.Answer} → InQuestion → tooGreat internal ≡ false → Outside outside
-        → numberOf r ≡ 0 → lineOf r ≡ 0
+        → verdictOf r ≡ accepted
         → valuesOf r ≡ map (λ v. net v internal) (valuesOf outside) → Net internal r
 
 -- ---- from C

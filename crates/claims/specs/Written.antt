@@ -5,10 +5,11 @@ use mathlib.Core.Path.{_≡_}
 use mathlib.Core.List.{List, _++_}
 use Prim.Native.Nat.{ℕ, _≤_, _<_}
 use lib.ListN.{length, drop}
+use Rattle.verdict.specs.Verdict.{refusal}
 use Rattle.page.specs.declared.Writing.{Writing}
 use Rattle.page.specs.declared.Writing.the-variants.{Length, Refused}
 
 pub data Written (text before after : List ℕ) : Writing → Type 0 where
   put : length text ≤ length before → after ≡ text ++ drop (length text) before
       → Written text before after (Length (length text))
-  longer : length before < length text → after ≡ before → Written text before after (Refused 7 0)
+  longer : length before < length text → after ≡ before → Written text before after (Refused (refusal 7 0))

@@ -8,12 +8,13 @@ use lib.ListN.{length, getD, take, length-map}
 use lib.Seq.{take-all}
 use Rattle.whole.specs.Lists.{firstOf}
 use Rattle.whole.proofs.Lists.{every-take, getD-map, firstOf-length, firstOf-getD}
+use Rattle.verdict.specs.declared.Verdict.{Verdict}
+use Rattle.verdict.specs.Verdict.{accepted, refusal}
 use Rattle.field.specs.declared.Field.{Field}
 use Rattle.rules.specs.declared.Section.{Section}
 use Rattle.rules.specs.declared.Section.the-variants.{B, W, I, F}
 use Rattle.rules.specs.declared.Kind.the-variants.{Count, Entry}
 use Rattle.job.specs.declared.Job.{Job}
-use Rattle.job.specs.declared.Verdict.{Verdict}
 use Rattle.job.specs.Carried.{Carried, noWind, noFace, carried}
 use Rattle.rules.specs.Sections.{about, lineFault}
 use Rattle.entry_written.specs.Fields.{buildingFields, windFields, internalFields, faceFields}
@@ -74,7 +75,7 @@ module _ (s : Section) (c : Carried) (line : ℕ) (xs : List (List Field)) where
 
   -- n is the fault of its count
   module _ (n : ℕ) (en : n ≡ lineFault (Count s) (c .building) (countLine s (length xs))) where
-    pub alone-count : (n ≡ 0 → ⊥) → record { number = n; line = line } ≡ alone
+    pub alone-count : (n ≡ 0 → ⊥) → refusal n line ≡ alone
     alone-count z = sym (nothing-behind ∙ ap verdict (count-refused s [] c line xs [] (λ e. z (en ∙ e))) ∙ rw (← en))
 
     pub alone-counted : n ≡ 0 → Counted s (length xs)
@@ -83,7 +84,7 @@ module _ (s : Section) (c : Carried) (line : ℕ) (xs : List (List Field)) where
   -- n is the fault of entry i, where those before it have none
   module _ (w : Counted s (length xs)) (i n : ℕ) (h : i < length xs) (o : EntriesInOrder s (c .building) (take i xs))
       (en : n ≡ lineFault (Entry s) (c .building) (getD xs i [])) where
-    pub alone-entry : (n ≡ 0 → ⊥) → record { number = n; line = line + 1 + i } ≡ alone
+    pub alone-entry : (n ≡ 0 → ⊥) → refusal n (line + 1 + i) ≡ alone
     alone-entry z =
         sym (nothing-behind ∙ ap verdict (section-refused s [] c line xs [] i w h o (λ e. z (en ∙ e))) ∙ rw (← en))
 
@@ -92,7 +93,7 @@ module _ (s : Section) (c : Carried) (line : ℕ) (xs : List (List Field)) where
 
   -- all have none
   pub alone-passed : Counted s (length xs) → (i : ℕ) → length xs ≤ i → EntriesInOrder s (c .building) (take i xs)
-      → record { number = 0; line = 0 } ≡ alone
+      → accepted ≡ alone
   unfolding walk
   alone-passed w i h o =
       sym

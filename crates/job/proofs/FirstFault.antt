@@ -6,6 +6,7 @@ use native.Mathlib.Omega.{arith}
 use lib.Dec.{eqb, leb}
 use borrow.Author.Tests.{eqb-true, eqb-false, leb-true, leb-false}
 use Rattle.whole.proofs.Tests.{by-test}
+use Rattle.verdict.specs.Verdict.{refusal}
 use Rattle.field.specs.declared.Field.{Field}
 use Rattle.rules.specs.declared.Kind.{Kind}
 use Rattle.job.specs.declared.Job.{Job}
@@ -33,7 +34,7 @@ module _ (k : Kind) (ks : List Kind) (c : Carried) (line : ℕ) (x : List Field)
       go zero m h f = none-here m h f
       go (suc i) m h f = none i m h f
   later r (faulty n i first) =
-      subst (λ (l : ℕ). Answers (k ∷ ks) c (x ∷ xs) line (Refused n l)) (omega arith)
+      subst (λ (l : ℕ). Answers (k ∷ ks) c (x ∷ xs) line (Refused (refusal n l))) (omega arith)
       (faulty n (suc i) (record { some = first .some; has = first .has; lowest = first .lowest; first = go }))
     where
       go : (h m : ℕ) → h < suc i → 0 < m → FaultAt h m (k ∷ ks) c (x ∷ xs) → ⊥
@@ -42,9 +43,9 @@ module _ (k : Kind) (ks : List Kind) (c : Carried) (line : ℕ) (x : List Field)
 
 -- the fault is in the first line
 at-once : (ks : List Kind) (c : Carried) (line : ℕ) (xs : List (List Field)) (n : ℕ) → 0 < n → FaultAt 0 n ks c xs
-    → ((m : ℕ) → 0 < m → m < n → FaultAt 0 m ks c xs → ⊥) → Answers ks c xs line (Refused n line)
+    → ((m : ℕ) → 0 < m → m < n → FaultAt 0 m ks c xs → ⊥) → Answers ks c xs line (Refused (refusal n line))
 at-once ks c line xs n p f low =
-    subst (λ (l : ℕ). Answers ks c xs line (Refused n l)) (omega arith)
+    subst (λ (l : ℕ). Answers ks c xs line (Refused (refusal n l))) (omega arith)
     (faulty n 0 (record { some = p; has = f; lowest = low; first = λ h m y w g. omega arith }))
 
 pub walk-answers : (ks : List Kind) (c : Carried) (line : ℕ) (xs : List (List Field))

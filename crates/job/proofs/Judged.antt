@@ -6,6 +6,8 @@ use lib.ListN.{length}
 use lib.Dec.{eqb}
 use borrow.Author.Tests.{eqb-true, eqb-false}
 use Rattle.whole.proofs.Tests.{by-test}
+use Rattle.verdict.specs.declared.Verdict.{Verdict}
+use Rattle.verdict.specs.Verdict.{accepted, refusal, Refuses}
 use Rattle.field.specs.declared.Field.{Field}
 use Rattle.building.specs.declared.Building.{Building}
 use Rattle.rules.specs.declared.Section.{Section}
@@ -13,7 +15,6 @@ use Rattle.rules.specs.declared.Section.the-variants.{B, F}
 use Rattle.rules.specs.declared.Kind.{Kind}
 use Rattle.rules.specs.declared.Kind.the-variants.{Count, Entry}
 use Rattle.job.specs.declared.Job.{Job}
-use Rattle.job.specs.declared.Verdict.{Verdict}
 use Rattle.job.specs.Carried.{Carried, carried}
 use Rattle.rules.specs.Sections.{lineFault}
 use Rattle.job.specs.Lines.{entriesOf, sectionOf, linesOf}
@@ -28,18 +29,15 @@ use Rattle.job.proofs.Lines.{building-back}
 use Rattle.job.proofs.Verdicts.{accepted-by}
 use Rattle.job.proofs.Alone.{alone}
 
-abbrev Faulty : Verdict → Type 0
-Faulty v = v .number ≡ 0 → ⊥
-
 -- ---- refused by itself, a section is refused the same where more follows
 
 -- one line, from what holds of those after it
 module _ (k : Kind) (ks ls : List Kind) (c d : Carried) (line : ℕ) (x : List Field) (xs ys : List (List Field)) where
   line-refused : lineFault k (d .building) x ≡ lineFault k (c .building) x
-      → (Faulty (verdict (walk (calls k x ++ ls) (learn k x c) (line + 1) xs))
+      → (Refuses (verdict (walk (calls k x ++ ls) (learn k x c) (line + 1) xs))
       → verdict (walk (calls k x ++ ks) (learn k x d) (line + 1) ys) ≡ verdict
       (walk (calls k x ++ ls) (learn k x c) (line + 1) xs))
-      → Faulty (verdict (walk (k ∷ ls) c line (x ∷ xs)))
+      → Refuses (verdict (walk (k ∷ ls) c line (x ∷ xs)))
       → verdict (walk (k ∷ ks) d line (x ∷ ys)) ≡ verdict (walk (k ∷ ls) c line (x ∷ xs))
   line-refused e on z =
       by-test (eqb (lineFault k (c .building) x) 0)
@@ -52,11 +50,11 @@ module _ (k : Kind) (ks ls : List Kind) (c d : Carried) (line : ℕ) (x : List F
       (λ t.
       let q = eqb-false _ _ t in
       ap verdict
-      (walk-refused k ks d line x ys (λ y. q (sym e ∙ y)) ∙ ap (λ (n : ℕ). Refused n line) e ∙ sym (walk-refused k ls c line x xs q)))
+      (walk-refused k ks d line x ys (λ y. q (sym e ∙ y)) ∙ ap (λ (n : ℕ). Refused (refusal n line)) e ∙ sym (walk-refused k ls c line x xs q)))
 
 module _ (s : Section) (g : Building) (ks : List Kind) where
   entries-refused : (xs rest : List (List Field)) (c d : Carried) (line : ℕ) → JudgesAs s g c → JudgesAs s g d
-      → Faulty (verdict (walk (entries s (length xs) ++ []) c line xs))
+      → Refuses (verdict (walk (entries s (length xs) ++ []) c line xs))
       → verdict (walk (entries s (length xs) ++ ks) d line (xs ++ rest)) ≡ verdict
       (walk (entries s (length xs) ++ []) c line xs)
   unfolding walk
@@ -67,7 +65,7 @@ module _ (s : Section) (g : Building) (ks : List Kind) where
       (entries-refused xs rest (learn (Entry s) x c) (learn (Entry s) x d) (line + 1) (entry-judges s g c x p) (entry-judges s g d x q)) z
 
   section-refused : (xs rest : List (List Field)) (c d : Carried) (line : ℕ) → JudgesAs s g c → JudgesAs s g d
-      → Faulty (alone s c line xs)
+      → Refuses (alone s c line xs)
       → verdict (walk (Count s ∷ ks) d line (sectionOf s xs ++ rest)) ≡ alone s c line xs
   unfolding lineFault
   section-refused xs rest c d line p q z =
@@ -83,7 +81,7 @@ module _ (s : Section) (c : Carried) (line : ℕ) (xs : List (List Field)) (z : 
   pub alone-in-order : Counted s (length xs) × EntriesInOrder s (c .building) xs
   alone-in-order = section-in-order s [] c line (alone-accepted .0) xs [] (rw append-nil (alone-accepted .1))
 
-  alone-none : alone s c line xs ≡ record { number = 0; line = 0 }
+  alone-none : alone s c line xs ≡ accepted
   alone-none = ap verdict (alone-accepted .1)
 
 -- ---- the sections of a record
@@ -97,14 +95,14 @@ module _ (j : Job) where
   by-itself s = alone s (carried j) (lineOf es s) (es s)
 
   -- the building's line is judged by itself, and the others where it is known
-  stops : (s : Section) → Reached es s → JudgesAs s (j .building) (before es s) → Faulty (by-itself s)
+  stops : (s : Section) → Reached es s → JudgesAs s (j .building) (before es s) → Refuses (by-itself s)
       → by-itself s ≡ verdict (judged j)
   unfolding carried judged linesOf
   stops s r q z =
       sym
       (ap verdict r ∙ section-refused s (j .building) (later es s) (es s) (behind es s) (carried j) (before es s) (lineOf es s) (λ x. refl) q z)
 
-  pub stops-first : Faulty (by-itself B) → by-itself B ≡ verdict (judged j)
+  pub stops-first : Refuses (by-itself B) → by-itself B ≡ verdict (judged j)
   unfolding lineFault
   stops-first = stops B (reached-first es) (λ x. refl)
 
@@ -115,7 +113,7 @@ module _ (j : Job) where
     known =
         building-back (j .building) (in-order (Entry B) _ _ (alone-in-order B (carried j) 1 (es B) b .1 .0) .formed)
 
-    pub stops-at : (s : Section) → Reached es s → Faulty (by-itself s) → by-itself s ≡ verdict (judged j)
+    pub stops-at : (s : Section) → Reached es s → Refuses (by-itself s) → by-itself s ≡ verdict (judged j)
     stops-at s r = stops s r (λ x. section-judged es s x ∙ ap (λ (g : Building). lineFault (Entry s) g x) known)
 
     pub goes-on : (s : Section) → Reached es s → by-itself s .number ≡ 0 → Passed es s

@@ -10,6 +10,7 @@ use lib.Signed.{_≤ℤ_}
 use lib.ListN.{length, getD, take}
 use borrow.Author.Tests.{eq-eqb, eqb-true, not-false}
 use Rattle.whole.proofs.Parts.{le-by}
+use Rattle.verdict.specs.Verdict.{refusal}
 use Rattle.field.specs.declared.Field.{Field}
 use Rattle.field.specs.declared.Field.the-variants.{Plus, Letter}
 use Rattle.building.specs.declared.Building.{Building}
@@ -95,14 +96,14 @@ module _ (s : Section) (ks : List Kind) (c : Carried) (line : ℕ) where
   pub count-refused : (xs rest : List (List Field))
       → (lineFault (Count s) (c .building) (countLine s (length xs)) ≡ 0 → ⊥)
       → walk (Count s ∷ ks) c line (sectionOf s xs ++ rest) ≡ Refused
-      (lineFault (Count s) (c .building) (countLine s (length xs))) line
+      (refusal (lineFault (Count s) (c .building) (countLine s (length xs))) line)
   count-refused xs rest z = walk-refused (Count s) ks c line (countLine s (length xs)) (xs ++ rest) z
 
   pub section-refused : (xs rest : List (List Field)) (i : ℕ) → Counted s (length xs) → i < length xs
       → EntriesInOrder s (c .building) (take i xs)
       → (lineFault (Entry s) (c .building) (getD xs i []) ≡ 0 → ⊥)
       → walk (Count s ∷ ks) c line (sectionOf s xs ++ rest) ≡ Refused
-      (lineFault (Entry s) (c .building) (getD xs i [])) (line + 1 + i)
+      (refusal (lineFault (Entry s) (c .building) (getD xs i [])) (line + 1 + i))
   section-refused xs rest i w n h z =
       walk-on (Count s) ks c line (countLine s (length xs)) (xs ++ rest)
       (count-in-order s (c .building) (length xs) w)

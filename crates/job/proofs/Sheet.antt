@@ -6,6 +6,7 @@ use mathlib.Core.List.{List, [], _∷_, _++_, map, append-assoc, append-nil}
 use native.Mathlib.Omega.{arith}
 use lib.ListN.{length, getD, take, drop}
 use Rattle.whole.proofs.Lists.{every-by, only-one}
+use Rattle.verdict.specs.Verdict.{refusal}
 use Rattle.field.specs.declared.Field.{Field}
 use Rattle.rules.specs.declared.Section.{Section}
 use Rattle.rules.specs.declared.Section.the-variants.{B, W, I, F}
@@ -164,14 +165,14 @@ module _ (es : Section → List (List Field)) where
     pub sheet-refused : (i : ℕ) → Counted s (length (es s)) → i < length (es s)
         → EntriesInOrder s (saidBy es .building) (take i (es s))
         → (lineFault (Entry s) (saidBy es .building) (getD (es s) i []) ≡ 0 → ⊥)
-        → readLines (sheetOf es) ≡ Refused (lineFault (Entry s) (saidBy es .building) (getD (es s) i []))
-        (lineOf s + 1 + i)
+        → readLines (sheetOf es) ≡ Refused
+        (refusal (lineFault (Entry s) (saidBy es .building) (getD (es s) i [])) (lineOf s + 1 + i))
     sheet-refused i w n h z =
         let x = getD (es s) i [] in
         r
         ∙ section-refused s (later s) (before s) (lineOf s) (es s) (behind s) i w n
         (every-by (λ y e. section-judged s y ∙ e) (take i (es s)) h) (λ e. z (sym (section-judged s x) ∙ e))
-        ∙ ap (λ (f : ℕ). Refused f (lineOf s + 1 + i)) (section-judged s x)
+        ∙ ap (λ (f : ℕ). Refused (refusal f (lineOf s + 1 + i))) (section-judged s x)
 
 -- ---- lines that are accepted are some sections
 

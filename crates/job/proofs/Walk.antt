@@ -9,6 +9,7 @@ use lib.Dec.{eqb}
 use borrow.Author.Tests.{eq-eqb, ne-eqb, eqb-true, eqb-false}
 use Rattle.whole.specs.Lists.{Every}
 use Rattle.whole.proofs.Tests.{by-test}
+use Rattle.verdict.specs.Verdict.{refusal}
 use Rattle.field.specs.declared.Field.{Field}
 use Rattle.building.specs.declared.Building.{Building}
 use Rattle.rules.specs.declared.Section.{Section}
@@ -23,7 +24,7 @@ use Rattle.job.specs.Walk.{entries, calls, learn, Accepted, Refused, wal
 
 module _ (k : Kind) (ks : List Kind) (c : Carried) (line : ℕ) (x : List Field) (xs : List (List Field)) where
   pub walk-refused : (lineFault k (c .building) x ≡ 0 → ⊥)
-      → walk (k ∷ ks) c line (x ∷ xs) ≡ Refused (lineFault k (c .building) x) line
+      → walk (k ∷ ks) c line (x ∷ xs) ≡ Refused (refusal (lineFault k (c .building) x) line)
   unfolding walk
   walk-refused h = rw (ne-eqb _ _ h)
 
@@ -101,8 +102,8 @@ module _ (s : Section) (ks : List Kind) (g : Building) where
   pub entries-refused : (xs rest : List (List Field)) (i : ℕ) (c : Carried) (line : ℕ) → JudgesAs s g c
       → i < length xs → EntriesInOrder s g (take i xs)
       → (lineFault (Entry s) g (getD xs i []) ≡ 0 → ⊥)
-      → walk (entries s (length xs) ++ ks) c line (xs ++ rest) ≡ Refused (lineFault (Entry s) g (getD xs i []))
-      (line + i)
+      → walk (entries s (length xs) ++ ks) c line (xs ++ rest) ≡ Refused
+      (refusal (lineFault (Entry s) g (getD xs i [])) (line + i))
   entries-refused [] rest i c line same n h z = absurd (omega arith)
   entries-refused (x ∷ xs) rest zero c line same n h z =
       walk-refused (Entry s) (entries s (length xs) ++ ks) c line x (xs ++ rest) (λ e. z (sym (same x) ∙ e))
@@ -111,7 +112,7 @@ module _ (s : Section) (ks : List Kind) (g : Building) where
       let l : line + 1 + i ≡ line + suc i = omega arith in
       walk-on (Entry s) (entries s (length xs) ++ ks) c line x (xs ++ rest) (same x ∙ h .0)
       ∙ entries-refused xs rest i (learn (Entry s) x c) (line + 1) (entry-judges s g c x same) (omega arith) (h .1) z
-      ∙ ap (Refused (lineFault (Entry s) g (getD xs i []))) l
+      ∙ ap (λ (m : ℕ). Refused (refusal (lineFault (Entry s) g (getD xs i [])) m)) l
 
 -- the first n lines, and the rest
 pub record Split (n : ℕ) (xs : List (List Field)) : Type 0 where

@@ -3,6 +3,7 @@ use Prim.Native.Nat.{ℕ, _-_}
 use mathlib.Core.Path.{_≡_, refl}
 use mathlib.Core.List.{List, [], _∷_, _++_, map}
 use lib.ListN.{set, take}
+use Rattle.verdict.specs.Verdict.{refusal}
 use Rattle.field.specs.declared.Field.{Field}
 use Rattle.field.specs.declared.Field.the-variants.{Bad, Plus, Minus, Letter, Dash}
 use Rattle.building.specs.Building.{outOfRange, outOfWalls, outOfRoof}
@@ -72,6 +73,6 @@ cases =
     ∷ []
 
 cases-right : map (λ c. verdict (readLines (c .lines))) cases ≡ map
-    (λ c. record { number = c .number; line = c .line }) cases
+    (λ c. refusal (c .number) (c .line)) cases
 unfolding readLines walk lineFault inForm hasForm outOfRange outOfWalls outOfRoof roofOf tooLong beyond zoneOn
 cases-right = refl

@@ -3,6 +3,7 @@ use Prim.Native.Nat.{ℕ, zero, suc, _+_, _<_}
 use mathlib.Core.Path.{_≡_}
 use mathlib.Core.List.{List, [], _∷_, _++_, List·Memᴰ}
 use mathlib.Core.Bool.{true, false}
+use Rattle.verdict.specs.Verdict.{refusal}
 use Rattle.field.specs.declared.Field.{Field}
 use Rattle.building.specs.declared.Building.{Building}
 use Rattle.building.specs.Fault.{Fault}
@@ -45,4 +46,4 @@ module _ (ks : List Kind) (c : Carried) (xs : List (List Field)) where
   -- line of the first
   pub data Answers (line : ℕ) : Reading → Type 0 where
     in-order : (d : Carried) → NoFault → Answers line (Accepted d)
-    faulty : (n i : ℕ) → FirstFault n i → Answers line (Refused n (line + i))
+    faulty : (n i : ℕ) → FirstFault n i → Answers line (Refused (refusal n (line + i)))

@@ -3,6 +3,8 @@ use Prim.Native.Nat.{ℕ, zero, suc, _+_}
 use mathlib.Core.List.{List, [], _∷_, _++_, map}
 use mathlib.Core.Bool.{cond}
 use lib.Dec.{eqb}
+use Rattle.verdict.specs.declared.Verdict.{Verdict}
+use Rattle.verdict.specs.Verdict.{accepted, refusal}
 use Rattle.field.specs.declared.Field.{Field}
 use Rattle.rules.specs.declared.Section.{Section}
 use Rattle.rules.specs.declared.Section.the-variants.{B, W, I, F}
@@ -10,7 +12,6 @@ use Rattle.rules.specs.declared.Kind.{Kind}
 use Rattle.rules.specs.declared.Kind.the-variants.{Count, Entry}
 use Rattle.entry.specs.Says.{size, at, buildingOf, windOf, internalOf, faceOf}
 use Rattle.job.specs.declared.Job.{Job}
-use Rattle.job.specs.declared.Verdict.{Verdict}
 use Rattle.job.specs.Carried.{Carried, nothing, carried}
 use Rattle.rules.specs.Sections.{lineFault}
 use Rattle.job.specs.Lines.{sections, linesOf}
@@ -51,26 +52,26 @@ learn (Entry F) fs c =
       faces = c .faces ++ (faceOf fs ∷ []);
     }
 
--- accepted with what was read, or refused with a number and a line
+-- accepted with what was read, or refused
 pub data Reading : Type 0 where
   Accepted : Carried → Reading
-  Refused : ℕ → ℕ → Reading
+  Refused : Verdict → Reading
 
--- the number and line that a reading answers, both 0 where it is accepted
+-- the number and line that a reading answers
 abbrev pub verdict : Reading → Verdict
-verdict (Accepted c) = record { number = 0; line = 0 }
-verdict (Refused number line) = record { number = number; line = line }
+verdict (Accepted c) = accepted
+verdict (Refused v) = v
 
 -- the lines from number `line` on against the lines still called for, with what was read before them: a line missing
 -- or extra is 1
 unfoldable pub walk : List Kind → Carried → ℕ → List (List Field) → Reading
 walk [] c line [] = Accepted c
-walk [] c line (x ∷ xs) = Refused 1 line
-walk (k ∷ ks) c line [] = Refused 1 line
+walk [] c line (x ∷ xs) = Refused (refusal 1 line)
+walk (k ∷ ks) c line [] = Refused (refusal 1 line)
 walk (k ∷ ks) c line (x ∷ xs) =
     cond (eqb (lineFault k (c .building) x) 0)
     (walk (calls k x ++ ks) (learn k x c) (line + 1) xs)
-    (Refused (lineFault k (c .building) x) line)
+    (Refused (refusal (lineFault k (c .building) x) line))
 
 -- the counts of the sections, in order
 abbrev pub sheet : List Kind

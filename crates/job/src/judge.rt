@@ -1,9 +1,9 @@
 // A job given as a record, judged as its sheet would be: section by section, line by line.
 use crate::Job;
-use crate::Verdict;
 use crate::given;
 use rules::Kind;
 use rules::Section;
+use verdict::Verdict;
 ghost use mathlib.Core.Path.{_≡_};
 ghost use mathlib.Core.List.{[], _∷_};
 ghost use Prim.Native.Nat.{_≤_};

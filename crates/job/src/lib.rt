@@ -28,10 +28,3 @@ pub struct Job {
     pub internals: Internals,
     pub faces: Faces,
 }
-
-// The answer to a job: the number of its fault and the line that has it, counted from 1; both are 0 where it is
-// accepted.
-pub struct Verdict {
-    pub number: u32,
-    pub line: u32,
-}

@@ -6,12 +6,13 @@ use mathlib.Core.List.{List, _++_}
 use lib.Dec.{leb}
 use lib.ListN.{length, drop}
 use lib.Seq.{sets}
+use Rattle.verdict.specs.Verdict.{refusal}
 use Rattle.page.specs.declared.Writing.{Writing}
 use Rattle.page.specs.declared.Writing.the-variants.{Length, Refused}
 
 -- the text's length; 7 with line 0 exactly if the text is longer than the buffer
 abbrev pub writing : List ℕ → List ℕ → Writing
-writing text buf = cond (leb (length text) (length buf)) (Length (length text)) (Refused 7 0)
+writing text buf = cond (leb (length text) (length buf)) (Length (length text)) (Refused (refusal 7 0))
 
 -- the text at the start, and the bytes after it as they were; where it is refused, all as it was
 abbrev pub bufferAfter : List ℕ → List ℕ → List ℕ

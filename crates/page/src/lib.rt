@@ -1,15 +1,16 @@
 // A text put into a lent buffer. The put functions store it from a place on, as far as there is room, and answer the
 // place after it, so that one follows another; `emit` puts a whole text at the buffer's start, or refuses.
+use verdict::Verdict;
 ghost use mathlib.Core.Path.{_≡_};
 ghost use mathlib.Core.List.{[], _∷_};
 ghost use Prim.Native.Nat.{min};
 ghost use lib.ListN.{take};
 ghost use Rattle.page.specs.Writing.{Put, writing, bufferAfter};
 
-// What writing comes to: the text's length, or a refusal's number and line.
+// What writing comes to: the text's length, or a refusal.
 pub enum Writing {
     Length(usize),
-    Refused(u32, u32),
+    Refused(Verdict),
 }
 
 fn lesser(a: usize, b: usize) -> usize
@@ -50,7 +51,7 @@ pub fn emit(text: &[u8], n: usize, buf: &mut [u8]) -> Writing
 {
     let size = lesser(n, text.len());
     if buf.len() < size {
-        return Writing::Refused(7, 0);
+        return Writing::Refused(Verdict { number: 7, line: 0 });
     }
     let mut i = 0;
     while i < size {

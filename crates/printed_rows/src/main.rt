@@ -141,10 +141,10 @@ fn put_answer(answer: Answer) {
             put_value(v);
             put_value(w);
         }
-        Answer::Refused(n, l) => {
+        Answer::Refused(v) => {
             io::write_all(1, b"refused ");
-            put(n as i64);
-            put(l as i64);
+            put(v.number as i64);
+            put(v.line as i64);
         }
     }
 }

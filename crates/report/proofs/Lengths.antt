@@ -13,6 +13,7 @@ use mir.Syntax.{w32}
 use mir.Val.{Fits}
 use Rattle.whole.specs.Digits.{digits, decimal}
 use Rattle.whole.proofs.Digits.{digits-length, decimal-length}
+use Rattle.verdict.specs.declared.Verdict.{Verdict}
 use Rattle.job.specs.Carried.{Carried, noWind}
 use Rattle.job.specs.InOrder.{InOrder}
 use Rattle.worst.specs.declared.Axis.{Axis}
@@ -45,9 +46,9 @@ spaced-size k n h ns = omega (arith, length-append (digits n) (spaced ns), digit
 spaced-u32 : (n : ℕ) → Fits w32 n → length (spaced (n ∷ [])) ≤ 11
 spaced-u32 n f = omega (arith, spaced-size 9 n (omega (arith, f .fits)) [], ap length spaced-none)
 
-pub refused-most : (number line : ℕ) → Fits w32 number → Fits w32 line → length (refusedText number line) ≤ 30
-refused-most number line f g =
-    rw refused-parts (simp length-append (omega (arith, spaced-u32 number f, spaced-u32 line g)))
+pub refused-most : (v : Verdict) → Fits w32 (v .number) → Fits w32 (v .line) → length (refusedText v) ≤ 30
+refused-most v f g =
+    rw refused-parts (simp length-append (omega (arith, spaced-u32 (v .number) f, spaced-u32 (v .line) g)))
 
 abbrev OneDigit : ℕ → Type 0
 OneDigit n = n < 10

@@ -2,6 +2,7 @@
 -- number and line.
 use Prim.Native.Nat.{ℕ}
 use mathlib.Core.List.{List, [], _∷_, _++_}
+use Rattle.verdict.specs.declared.Verdict.{Verdict}
 use Rattle.job.specs.Carried.{Carried}
 use Rattle.job.specs.Walk.{Reading, Accepted, Refused}
 use Rattle.worst.specs.Worst.{sixExtremes}
@@ -14,9 +15,9 @@ reportText c = sixText (sixExtremes c)
 abbrev pub refused : List ℕ
 refused = 114 ∷ 101 ∷ 102 ∷ 117 ∷ 115 ∷ 101 ∷ 100 ∷ []
 
-unfoldable pub refusedText : ℕ → ℕ → List ℕ
-refusedText number line = refused ++ (spaced (number ∷ line ∷ []) ++ (10 ∷ []))
+unfoldable pub refusedText : Verdict → List ℕ
+refusedText v = refused ++ (spaced (v .number ∷ v .line ∷ []) ++ (10 ∷ []))
 
 abbrev pub totalsText : Reading → List ℕ
 totalsText (Accepted c) = reportText c
-totalsText (Refused number line) = refusedText number line
+totalsText (Refused v) = refusedText v

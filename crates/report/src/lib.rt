@@ -16,8 +16,9 @@ pub fn write_report(j: Job, buf: &mut [u8]) -> Writing
         × (now (buf .exit) ≡ jobBuffer reportText (judged j) (now (buf .entry))) ⌝ }
 {
     let w = worst::worst_cases(j);
-    if w.number != 0 {
-        return Writing::Refused(w.number, w.line);
+    let v = w.verdict;
+    if v.number != 0 {
+        return Writing::Refused(v);
     }
     let mut text = [0u8; 474];
     let n = six::put_six(&mut text, 0, w.six);
@@ -30,8 +31,8 @@ pub fn write_totals(s: &[u8], buf: &mut [u8]) -> Writing
         × (now (buf .exit) ≡ bufferAfter (totalsText (reading (now (s .entry)))) (now (buf .entry))) ⌝ }
 {
     let r = sheet::read::read_sheet(s);
-    if r.number != 0 {
-        return refusal::write_refused(r.number, r.line, buf);
+    if r.verdict.number != 0 {
+        return refusal::write_refused(r.verdict, buf);
     }
     write_report(r.job, buf)
 }

@@ -10,6 +10,8 @@ use lib.ListN.{length, take, length-append}
 use lib.Seq.{take-append-le, take-append-add, take-nil}
 use borrow.Author.Tests.{eqb-true, eqb-false, ltb-true, ltb-false}
 use Rattle.whole.proofs.Tests.{by-test}
+use Rattle.verdict.specs.declared.Verdict.{Verdict}
+use Rattle.verdict.specs.Verdict.{refusal}
 use Rattle.field.specs.declared.Field.{Field}
 use Rattle.field.specs.declared.Field.the-variants.{Bad}
 use Rattle.lines.specs.Lines.{linesIn, fieldsOf}
@@ -47,22 +49,22 @@ by-lines (x ∷ s) =
 
 -- a first line that no kind takes
 no-line : (ks : List Kind) (c : Carried) (n : ℕ) (x : List Field) (xs : List (List Field))
-    → ((k : Kind) (g : Building) → lineFault k g x ≡ 1) → walk ks c n (x ∷ xs) ≡ Refused 1 n
+    → ((k : Kind) (g : Building) → lineFault k g x ≡ 1) → walk ks c n (x ∷ xs) ≡ Refused (refusal 1 n)
 unfolding walk
 no-line [] c n x xs h = refl
 no-line (k ∷ ks) c n x xs h = rw (h k (c .building))
 
 -- ---- what is accepted is short
 
-accepted-no : (c : Carried) (m n : ℕ) → Refused m n ≡ Accepted c → ⊥
-accepted-no c m n e = let z : _≡_ {A = ℕ} 0 1 = cc in omega arith
+accepted-no : (c : Carried) (v : Verdict) → Refused v ≡ Accepted c → ⊥
+accepted-no c v e = let z : _≡_ {A = ℕ} 0 1 = cc in omega arith
 
 walk-short : {s : List ℕ} → ByLines s → (ks : List Kind) (c e : Carried) (n : ℕ) → walk ks c n (linesIn s) ≡ Accepted e
     → length s ≤ longest ks
 walk-short none ks c e n a = omega arith
 walk-short (unended x s f) ks c e n a =
     absurd
-    (accepted-no e 1 n (sym (no-line ks c n (Bad ∷ []) [] bad-first) ∙ sym (ap (walk ks c n) (rows-open x s f)) ∙ a))
+    (accepted-no e _ (sym (no-line ks c n (Bad ∷ []) [] bad-first) ∙ sym (ap (walk ks c n) (rows-open x s f)) ∙ a))
 walk-short (ended l t f b) [] c e n a =
     absurd (accepted-no-more c e n (fieldsOf l) (linesIn t) (rw (rows-seam l t f) at a))
 walk-short (ended l t f b) (k ∷ ks) c e n a =

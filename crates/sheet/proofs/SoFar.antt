@@ -6,6 +6,7 @@ use native.Mathlib.Omega.{arith}
 use native.Mathlib.Numerals.{add-one}
 use lib.ListN.{length, drop}
 use lib.Seq.{drop-cons}
+use Rattle.verdict.specs.Verdict.{refusal}
 use Rattle.lines.specs.declared.Line.{Line}
 use Rattle.lines.specs.Lines.{linesIn}
 use Rattle.lines.specs.Held.{held, lineAt}
@@ -63,7 +64,7 @@ module _
   unfolding recorded
   fault-is = hf ∙ ap (λ (i : Job). lineFault k (i .building) (held x)) e
 
-  line-stops : (f ≡ 0 → ⊥) → reading s ≡ Refused f line
+  line-stops : (f ≡ 0 → ⊥) → reading s ≡ Refused (refusal f line)
   line-stops h = sym rest ∙ walk-stop k ks c line s next x hx f fault-is h
 
   line-goes : f ≡ 0
@@ -84,7 +85,7 @@ module _ {s : List ℕ} {sec : Section} {i : ℕ} {j : Job} {line next : ℕ} (r
   count-called : walk (Count (sectionAt i) ∷ map Count later) (r .carries) line (linesIn (drop next s)) ≡ reading s
   count-called = rw next-section at (r .rest)
 
-  pub count-stops : (f ≡ 0 → ⊥) → reading s ≡ Refused f line
+  pub count-stops : (f ≡ 0 → ⊥) → reading s ≡ Refused (refusal f line)
   count-stops =
       line-stops s (Count (sectionAt i)) (map Count later) (r .carries) (r .records) line next hx hf count-called
 
@@ -125,7 +126,7 @@ module _ {s : List ℕ} {left i : ℕ} {j : Job} {line next : ℕ} (r : ReadSoFa
 
   pub entry-stops : {x : Line} → x ≡ lineAt s next → {f : ℕ}
       → f ≡ lineFault (Entry (sectionAt i)) (j .building) (held x) → (f ≡ 0 → ⊥)
-      → reading s ≡ Refused f line
+      → reading s ≡ Refused (refusal f line)
   entry-stops hx hf = line-stops s (Entry (sectionAt i)) behind (r .carries) (r .records) line next hx hf entry-called
 
 -- x, the line that begins at `next`, is an entry in order of the section that was begun last
@@ -177,7 +178,7 @@ module _ {s : List ℕ} {sec : Section} {i : ℕ} {j : Job} {line next : ℕ} (r
   nothing-called : walk [] (r .carries) line (linesIn (drop next s)) ≡ reading s
   nothing-called = rw all at (r .rest)
 
-  pub end-extra : next < length s → reading s ≡ Refused 1 line
+  pub end-extra : next < length s → reading s ≡ Refused (refusal 1 line)
   unfolding walk
   end-extra h = sym nothing-called ∙ (let t = rows-some s next h in rw (t .2))
 

@@ -4,6 +4,7 @@ use mathlib.Core.Path.{_≡_, ap, _∙_, sym}
 use mathlib.Core.List.{List, [], _∷_, _++_}
 use native.Mathlib.Omega.{arith}
 use lib.ListN.{drop}
+use Rattle.verdict.specs.Verdict.{refusal}
 use Rattle.field.specs.declared.Field.{Field}
 use Rattle.field.specs.declared.Field.the-variants.{Bad}
 use Rattle.lines.specs.declared.Line.{Line}
@@ -25,17 +26,17 @@ module _
   f-one e = hf ∙ ap (lineFault k (c .building)) e ∙ none-held k (c .building)
 
   refused-at : (y : List Field) (ys : List (List Field)) → f ≡ lineFault k (c .building) y → (f ≡ 0 → ⊥)
-      → walk (k ∷ ks) c n (y ∷ ys) ≡ Refused f n
-  refused-at y ys e h = walk-refused k ks c n y ys (λ z. h (e ∙ z)) ∙ ap (λ (g : ℕ). Refused g n) (sym e)
+      → walk (k ∷ ks) c n (y ∷ ys) ≡ Refused (refusal f n)
+  refused-at y ys e h = walk-refused k ks c n y ys (λ z. h (e ∙ z)) ∙ ap (λ (g : ℕ). Refused (refusal g n)) (sym e)
 
-  missing : f ≡ 1 → walk (k ∷ ks) c n [] ≡ Refused f n
+  missing : f ≡ 1 → walk (k ∷ ks) c n [] ≡ Refused (refusal f n)
   unfolding walk
   missing e = rw e
 
-  pub walk-stop : (f ≡ 0 → ⊥) → walk (k ∷ ks) c n (linesIn (drop p s)) ≡ Refused f n
+  pub walk-stop : (f ≡ 0 → ⊥) → walk (k ∷ ks) c n (linesIn (drop p s)) ≡ Refused (refusal f n)
   walk-stop h = go (at-is s p x hx)
     where
-      go : At s p x → walk (k ∷ ks) c n (linesIn (drop p s)) ≡ Refused f n
+      go : At s p x → walk (k ∷ ks) c n (linesIn (drop p s)) ≡ Refused (refusal f n)
       go (taken e) = rw e (refused-at (held x) (linesIn (drop (x .next) s)) hf h)
       go (gone eh e) = rw e (missing (f-one eh))
       go (unended eh e) = rw e (refused-at (Bad ∷ []) [] (f-one eh ∙ sym (bad-first k (c .building))) h)

@@ -6,6 +6,7 @@ use mathlib.Core.List.{List, [], _∷_, map}
 use lib.ListN.{length}
 use Rattle.whole.proofs.Quoted.{bytes}
 use Rattle.whole.specs.Digits.{allDigits, valueAfter, value}
+use Rattle.verdict.specs.Verdict.{refusal}
 use Rattle.field.specs.Field.{digitsInForm, unsigned, negative, numeral, fieldFrom}
 use Rattle.lines.specs.Lines.{split, fieldsOf, linesFrom, linesIn}
 use Rattle.building.specs.Building.{outOfRange, outOfWalls, outOfRoof}
@@ -120,6 +121,8 @@ cases =
     ∷ []
 
 cases-right : map (λ c. verdict (reading (bytes (c .text)))) cases ≡ map
-    (λ c. record { number = c .number; line = c .line }) cases
-unfolding reading linesIn linesFrom split fieldsOf fieldFrom numeral unsigned negative digitsInForm allDigits valueAfter value readLines walk lineFault inForm hasForm outOfRange outOfWalls outOfRoof roofOf tooLong beyond zoneOn
+    (λ c. refusal (c .number) (c .line)) cases
+unfolding reading linesIn linesFrom split fieldsOf fieldFrom numeral unsigned negative digitsInForm
+    allDigits valueAfter value readLines walk lineFault inForm hasForm outOfRange outOfWalls outOfRoof roofOf tooLong
+    beyond zoneOn
 cases-right = refl

@@ -2,6 +2,7 @@
 -- carries, and the same way back.
 use Prim.Native.Nat.{ℕ}
 use mathlib.Core.List.{List}
+use Rattle.verdict.specs.Verdict.{accepted}
 use Rattle.page.specs.declared.Writing.{Writing}
 use Rattle.page.specs.declared.Writing.the-variants as written
 use Rattle.lines.specs.Lines.{linesIn, textOfLines}
@@ -17,10 +18,10 @@ use Rattle.sheet.specs.declared.read.Read.{Read}
 unfoldable pub reading : List ℕ → Reading
 reading s = readLines (linesIn s)
 
--- as an answer: the number and line of a refusal with a record that is all zero, or the record of what was read
+-- as an answer: a refusal with a record that is all zero, or the record of what was read
 abbrev pub answer : Reading → Read
-answer (Accepted c) = record { number = 0; line = 0; job = recorded c }
-answer (Refused number line) = record { number = number; line = line; job = recorded nothing }
+answer (Accepted c) = record { verdict = accepted; job = recorded c }
+answer (Refused v) = record { verdict = v; job = recorded nothing }
 
 -- ---- written
 
@@ -30,8 +31,8 @@ sheetText c = textOfLines (linesOf c)
 -- a text about a job put into a buffer: the job's own refusal first, and then 7
 abbrev pub jobWriting : (Carried → List ℕ) → Reading → List ℕ → Writing
 jobWriting text (Accepted c) buf = writing (text c) buf
-jobWriting text (Refused number line) buf = written.Refused number line
+jobWriting text (Refused v) buf = written.Refused v
 
 abbrev pub jobBuffer : (Carried → List ℕ) → Reading → List ℕ → List ℕ
 jobBuffer text (Accepted c) buf = bufferAfter (text c) buf
-jobBuffer text (Refused number line) buf = buf
+jobBuffer text (Refused v) buf = buf

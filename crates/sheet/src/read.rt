@@ -16,27 +16,31 @@ use lines::line_at;
 use rules::Kind;
 use rules::Section;
 use rules::faults::line_fault;
+use verdict::Verdict;
 ghost use mathlib.Core.Path.{_≡_};
+ghost use Rattle.verdict.specs.Verdict.{accepted};
 ghost use Rattle.job.specs.Walk.{Refused};
 ghost use Rattle.sheet.specs.Sheet.{reading, answer};
 
-// What comes of reading: the number of the fault and the line that has it, both 0 where the sheet is accepted; and
-// the job, all zero where it is refused.
+// What comes of reading: accepted or refused, and the job, all zero where it is refused.
 pub struct Read {
-    pub number: u32,
-    pub line: u32,
+    pub verdict: Verdict,
     pub job: Job,
 }
 
-fn refused(number: u32, line: u32) -> Read
-    ensures { λ r. ⌜ r ≡ answer (Refused number line) ⌝ }
+fn refused(verdict: Verdict) -> Read
+    ensures { λ r. ⌜ r ≡ answer (Refused verdict) ⌝ }
 {
     let job = no_job();
-    Read { number, line, job }
+    Read { verdict, job }
 }
 
 fn accepted(building: Building, winds: Winds, internals: Internals, faces: Faces) -> Read
-    ensures { λ r. ⌜ r ≡ record { number = 0; line = 0; job = record { building = building; winds = winds; internals = internals; faces = faces } } ⌝ }
+    ensures { λ r. ⌜ r ≡ record {
+      verdict = accepted;
+      job =
+          record { building = building; winds = winds; internals = internals; faces = faces };
+    } ⌝ }
 {
     let job = Job {
         building,
@@ -45,8 +49,7 @@ fn accepted(building: Building, winds: Winds, internals: Internals, faces: Faces
         faces,
     };
     Read {
-        number: 0,
-        line: 0,
+        verdict: Verdict { number: 0, line: 0 },
         job,
     }
 }
@@ -71,7 +74,7 @@ pub fn read_sheet(s: &[u8]) -> Read
         let x = line_at(s, next);
         let n = line_fault(Kind::Count(sec), building, x);
         if n != 0 {
-            return refused(n, line);
+            return refused(Verdict { number: n, line });
         }
         line += 1;
         next = x.next;
@@ -80,7 +83,7 @@ pub fn read_sheet(s: &[u8]) -> Read
             let x = line_at(s, next);
             let n = line_fault(Kind::Entry(sec), building, x);
             if n != 0 {
-                return refused(n, line);
+                return refused(Verdict { number: n, line });
             }
             line += 1;
             next = x.next;
@@ -103,7 +106,7 @@ pub fn read_sheet(s: &[u8]) -> Read
         }
     }
     if next < s.len() {
-        return refused(1, line);
+        return refused(Verdict { number: 1, line });
     }
     accepted(building, winds, internals, faces)
 }

@@ -5,12 +5,13 @@ use mathlib.Core.Path.{_≡_, refl}
 use mathlib.Core.List.{List}
 use native.Mathlib.Omega.{arith}
 use lib.ListN.{length, take}
+use Rattle.verdict.specs.declared.Verdict.{Verdict}
+use Rattle.verdict.specs.Verdict.{Refuses}
 use Rattle.page.specs.declared.Writing.{Writing}
 use Rattle.page.specs.declared.Writing.the-variants as written
 use Rattle.page.specs.Writing.{Put, writing, bufferAfter}
 use Rattle.page.proofs.Put.{emitted}
 use Rattle.job.specs.declared.Job.{Job}
-use Rattle.job.specs.declared.Verdict.{Verdict}
 use Rattle.job.specs.Carried.{carried}
 use Rattle.job.specs.Lines.{linesOf}
 use Rattle.job.specs.Walk.{Accepted, verdict, judged}
@@ -22,8 +23,8 @@ use Rattle.sheet.proofs.Part.{longest-sheet}
 use Rattle.sheet.proofs.RoundTrip.{written-read}
 
 module _ (j : Job) (v : Verdict) (e : v ≡ verdict (judged j)) where
-  pub job-refused : (v .number ≡ 0 → ⊥) → (buf : List ℕ)
-      → (written.Refused (v .number) (v .line) ≡ jobWriting sheetText (judged j) buf)
+  pub job-refused : Refuses v → (buf : List ℕ)
+      → (written.Refused v ≡ jobWriting sheetText (judged j) buf)
       × (buf ≡ jobBuffer sheetText (judged j) buf)
   job-refused h buf =
       rw (judged-refused j v e h) (refl, refl)

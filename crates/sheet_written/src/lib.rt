@@ -73,7 +73,7 @@ pub fn write_sheet(j: Job, buf: &mut [u8]) -> Writing
 {
     let v = judge(j);
     if v.number != 0 {
-        return Writing::Refused(v.number, v.line);
+        return Writing::Refused(v);
     }
     let mut page = [0u8; 827];
     let n = put_sheet(&mut page, j);

@@ -5,6 +5,7 @@ use mathlib.Core.Bool.{true, false, cond}
 use Prim.Native.Nat.{ℕ, _-_}
 use lib.IntN.{ℤ, pos}
 use lib.ListN.{length, getD}
+use Rattle.verdict.specs.declared.Verdict.{Verdict}
 use Rattle.building.specs.declared.Building.{Building}
 use Rattle.book.specs.declared.Answer.{Answer}
 use Rattle.book.specs.declared.Answer.the-variants.{One, Two, Refused}
@@ -33,8 +34,8 @@ module _ (b : Building) (d : ℤ) (f : Face) where
     surface-two v u q =
         ap (λ t. cond t (surfaceWith v u f) noSurface) (sym e) ∙ ap (λ a. surfaceOf (valuesOf a) d f) (sym q)
 
-    pub surface-none : (number line : ℕ) → answered (Refused number line)
+    pub surface-none : (v : Verdict) → answered (Refused v)
         → surfaceWith (pos 0) (pos 0) f ≡ surfaceOn b d f
-    surface-none number line q =
+    surface-none v q =
         ap (λ t. cond t (surfaceWith (pos 0) (pos 0) f) noSurface) (sym e)
         ∙ ap (λ a. surfaceOf (valuesOf a) d f) (sym q)

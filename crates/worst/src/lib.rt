@@ -3,6 +3,7 @@
 ghost use mathlib.Core.Path.{_≡_};
 ghost use Rattle.worst.specs.Worst.{worstOf};
 use job::Job;
+use verdict::Verdict;
 
 mod surface; // a face as a wind's direction meets it
 mod sums; // the faces of a direction, added up
@@ -45,10 +46,9 @@ pub struct Six {
     pub z: Extremes,
 }
 
-// The number and line of a job's refusal, with zeros for extremes; or 0, 0 and the six.
+// A job's refusal, with zeros for extremes; or the six of one that is accepted.
 pub struct Reckoning {
-    pub number: u32,
-    pub line: u32,
+    pub verdict: Verdict,
     pub six: Six,
 }
 

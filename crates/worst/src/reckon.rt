@@ -8,7 +8,7 @@ use crate::Reckoning;
 use crate::Six;
 use crate::engine::six_of;
 use job::Job;
-use job::Verdict;
+use verdict::Verdict;
 
 fn no_extreme() -> Extreme
     ensures { λ r. ⌜ r ≡ noExtreme ⌝ }
@@ -24,7 +24,7 @@ fn no_extreme() -> Extreme
 }
 
 fn refused(v: Verdict) -> Reckoning
-    ensures { λ r. ⌜ r ≡ reckoned (Reading.Refused (v .number) (v .line)) ⌝ }
+    ensures { λ r. ⌜ r ≡ reckoned (Reading.Refused v) ⌝ }
 {
     let none = no_extreme();
     let pair = Extremes {
@@ -36,11 +36,7 @@ fn refused(v: Verdict) -> Reckoning
         y: pair,
         z: pair,
     };
-    Reckoning {
-        number: v.number,
-        line: v.line,
-        six,
-    }
+    Reckoning { verdict: v, six }
 }
 
 pub(crate) fn reckon_by(job: Job, v: Verdict) -> Reckoning
@@ -52,8 +48,7 @@ pub(crate) fn reckon_by(job: Job, v: Verdict) -> Reckoning
     }
     let six = six_of(job);
     Reckoning {
-        number: 0,
-        line: 0,
+        verdict: Verdict { number: 0, line: 0 },
         six,
     }
 }

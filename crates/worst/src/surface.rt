@@ -50,7 +50,7 @@ fn looked_up(b: Building, direction: i64, f: Face) -> Surface
     match answer {
         Answer::One(v) => with_outside(f, v, v),
         Answer::Two(v, w) => with_outside(f, v, w),
-        Answer::Refused(_, _) => with_outside(f, 0, 0),
+        Answer::Refused(_) => with_outside(f, 0, 0),
     }
 }
 

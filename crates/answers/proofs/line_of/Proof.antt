@@ -6,6 +6,7 @@ use mir.Syntax.{w64}
 use mir.Val.{toZ, ofZ}
 use mir.Facts.{toZ-ofZ}
 use Rattle.whole.proofs.Tests.{tests}
+use Rattle.verdict.specs.Verdict.{refusal}
 use Rattle.worst.specs.declared.Six.{Six}
 use Rattle.answers.specs.Answers.{noHostExtreme, reportLine, hostLine}
 use borrow.Author.Needs.{needs}
@@ -20,7 +21,7 @@ line t n e = ap (hostLine (t .args .six)) (sym (ap (toZ w64) e) ∙ toZ-ofZ (t .
 -- none of the six
 no-line : (s : Six) (z : ℤ) → (ofZ w64 z ≡ 1 → ⊥) → (ofZ w64 z ≡ 2 → ⊥) → (ofZ w64 z ≡ 3 → ⊥) → (ofZ w64 z ≡ 4 → ⊥)
     → (ofZ w64 z ≡ 5 → ⊥) → (ofZ w64 z ≡ 6 → ⊥)
-    → noHostExtreme 3 0 ≡ hostLine s z
+    → noHostExtreme (refusal 3 0) ≡ hostLine s z
 unfolding reportLine
 no-line s (pos n) a b c d e f = search tests
 no-line s (negsuc n) a b c d e f = refl

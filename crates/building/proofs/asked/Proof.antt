@@ -5,6 +5,7 @@ use Prim.Native.Nat.{ℕ}
 use lib.IntN.{ℤ}
 use borrow.Author.Tests.{not-true, not-false}
 use borrow.Author.Needs.{needs}
+use Rattle.verdict.specs.Verdict.{refusal}
 use Rattle.building.specs.declared.Question.the-variants.{Of, Refused}
 use Rattle.building.specs.Building.{buildingFault}
 use Rattle.building.specs.Places.{knows, zoneOn, localOn}
@@ -38,7 +39,7 @@ where-it-is c =
 returns : tie.Need-returns
 returns c =
     let a = c .before .before .args in
-    ap (λ (n : ℕ). Refused n 2) (c .before .given-fault .ensures)
+    ap (λ (n : ℕ). Refused (refusal n 2)) (c .before .given-fault .ensures)
     ∙ sym (bad-building (a .g) (a .direction) (a .place) (λ e. c .if1 .taken (c .before .given-fault .ensures ∙ e)))
 
 returns-2 : tie.Need-returns-2

@@ -11,7 +11,7 @@ use Rattle.report.proofs.write_report.Tie as tie
 
 returns : tie.Need-returns
 returns c =
-    let w = c .before .before in
+    let w = c .before .before .before in
     let a = w .before .before .args in
     report-refused (a .j) (w .worst-cases .result) (w .worst-cases .ensures) (now (a .buf)) (c .if1 .taken)
 
@@ -20,7 +20,7 @@ returns-2 c =
     let e = c .before .before in
     let p = e .before .before .before .before in
     let i = p .before .before in
-    let w = i .before .before in
+    let w = i .before .before .before in
     let a = w .before .before .args in
     let k = report-accepted (a .j) (w .worst-cases .result) (w .worst-cases .ensures) (i .if1 .left) in
     rw (k .accepted)

@@ -5,8 +5,8 @@ use borrow.Author.Needs.{needs}
 use Rattle.page.specs.Writing.{writing, bufferAfter}
 use Rattle.job.specs.Walk.{Reading}
 use Rattle.sheet.specs.Sheet.{jobWriting, jobBuffer}
+use Rattle.sheet.proofs.Answered.{read-refused, read-accepted}
 use Rattle.report.specs.Report.{reportText, totalsText}
-use Rattle.report.proofs.Reports.{totals-refused, totals-accepted}
 use Rattle.report.proofs.write_totals.Statement.{statement}
 use Rattle.report.proofs.write_totals.Tie as tie
 
@@ -17,7 +17,7 @@ returns c =
     let r = t .before .before in
     let a = r .before .before .before .args in
     let b = now (a .buf) in
-    let e = totals-refused (now (a .s)) (r .read-sheet .result) (r .read-sheet .ensures) (t .if1 .taken) in
+    let e = read-refused (now (a .s)) (r .read-sheet .result) (r .read-sheet .ensures) (t .if1 .taken) in
     rw e (w .write-refused .ensures)
 
 returns-2 : tie.Need-returns-2
@@ -27,7 +27,7 @@ returns-2 c =
     let r = t .before .before in
     let a = r .before .before .before .args in
     let b = now (a .buf) in
-    let e = totals-accepted (now (a .s)) (r .read-sheet .result) (r .read-sheet .ensures) (t .if1 .left) in (
+    let e = read-accepted (now (a .s)) (r .read-sheet .result) (r .read-sheet .ensures) (t .if1 .left) in (
       w .write-report .ensures .0
           ∙ ap (λ (x : Reading). jobWriting reportText x b) (e .2)
           ∙ sym (ap (λ (x : Reading). writing (totalsText x) b) (e .1)),

@@ -5,7 +5,8 @@ use mathlib.Core.Path.{_≡_, _∙_, ap}
 use native.Mathlib.Omega.{arith}
 use Rattle.rules.specs.declared.Section.the-variants.{B, W, I, F}
 use Rattle.job.specs.declared.Job.{Job}
-use Rattle.job.specs.declared.Verdict.{Verdict}
+use Rattle.verdict.specs.declared.Verdict.{Verdict}
+use Rattle.verdict.specs.Verdict.{Refuses}
 use Rattle.job.specs.Carried.{carried}
 use Rattle.job.proofs.Sheet.{lineOf, Reached, reached-first}
 use Rattle.job.proofs.Alone.{alone, winds-counted, internals-counted}
@@ -17,7 +18,7 @@ use Rattle.job.proofs.judge.judge.Tie as tie
 none : {v w : Verdict} → v ≡ w → v .number ≡ 0 → w .number ≡ 0
 none e z = rw (← e) z
 
-some : {v w : Verdict} → v ≡ w → (v .number ≡ 0 → ⊥) → w .number ≡ 0 → ⊥
+some : {v w : Verdict} → v ≡ w → Refuses v → Refuses w
 some e h z = h (rw e z)
 
 -- behind the building

@@ -11,8 +11,10 @@ returns c =
     let e = c .before .before in
     let p = e .before .before .before .before in
     let s = p .before .before .before in
+    -- that the two numbers have 32 bits
+    let two = s .good .0 .1 .1 in
     emitted (p .put-refused .ensures)
-    (refused-most (s .args .number) (s .args .line) (s .fits .number) (s .fits .line)) (now (s .args .buf))
+    (refused-most (s .args .v) (record { fits = two .0 .1 }) (record { fits = two .1 .0 .1 })) (now (s .args .buf))
     (e .emit .ensures)
 
 pub write-refused-spec : {M : Type 1} → statement M

@@ -3,6 +3,7 @@ use Prim.Native.Nat.{ℕ, suc, _≤_, _<_, _-_}
 use mathlib.Core.Path.{_≡_, ap, _∙_, sym}
 use mathlib.Core.List.{List}
 use native.Mathlib.Omega.{arith}
+use Rattle.verdict.specs.Verdict.{accepted}
 use Rattle.rules.specs.declared.Section.{Section}
 use Rattle.rules.specs.declared.Section.the-variants.{B}
 use Rattle.sheet.specs.Sheet.{answer}
@@ -137,7 +138,7 @@ returns-4 c =
     let i : l .before .loop .i ≡ 4 = omega arith in
     let r = l .before .loop .inv .1 .1 in
     c .accepted .ensures
-    ∙ ap (λ (j : Job). record { number = 0; line = 0; job = j }) (r .records)
+    ∙ ap (λ (j : Job). record { verdict = accepted; job = j }) (r .records)
     ∙ ap answer (sym (end-accepted r i (c .before .if3 .left)))
 
 pub read-sheet-spec : {M : Type 1} → statement M

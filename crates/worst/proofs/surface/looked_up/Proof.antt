@@ -49,7 +49,7 @@ returns-3 c =
     let o = c .before .before .before in
     let a = o .before in
     c .with-outside3 .ensures
-    ∙ surface-none (a .args .b) (a .args .direction) (a .args .f) (a .pre) _ _
+    ∙ surface-none (a .args .b) (a .args .direction) (a .args .f) (a .pre) _
     (asked o ∙ c .before .enum-told .given .1)
 
 pub looked-up-spec : {M : Type 1} → statement M
