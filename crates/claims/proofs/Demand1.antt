@@ -53,7 +53,8 @@ pub record BadGetsFirstFault : Type 0 where
   pub write-sheet : GetsFault of.write-sheet.Post (λ κ a. linesOf (carried (a .0))) (λ κ a v. written.Refused v)
   pub write-report : GetsFault of.write-report.Post (λ κ a. linesOf (carried (a .0))) (λ κ a v. written.Refused v)
 
--- Where there is no fault, the number and the line are 0: accepted. What is then written and shown is said by demands 2 and 3.
+-- Where there is no fault, it is accepted: number 0, line 0. What is then written and shown is said by demands 2 and
+-- 3.
 pub record GoodIsAccepted : Type 0 where
   pub read-sheet : GetsAccepted of.read-sheet.Post (λ κ a. linesIn (now (a .0))) (λ κ r. r .verdict ≡ accepted)
   pub aral-read : GetsAccepted of.aral-read.Post (λ κ a. linesIn (now (a .0))) (λ κ r. r ≡ accepted)
@@ -125,7 +126,8 @@ accepted-is-faultless =
       job = λ j. (fault.job-faultless j, fault.job-accepted j);
     }
 
-no-line : (six : Six) (l : ℤ) → ((n : ℕ) → 1 ≤ n → n ≤ 6 → l ≡ pos n → ⊥) → hostLine six l ≡ noHostExtreme (refusal 3 0)
+no-line : (six : Six) (l : ℤ) → ((n : ℕ) → 1 ≤ n → n ≤ 6 → l ≡ pos n → ⊥)
+    → hostLine six l ≡ noHostExtreme (refusal 3 0)
 unfolding reportLine
 no-line six (negsuc n) h = refl
 no-line six (pos n) h =

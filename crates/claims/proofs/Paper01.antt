@@ -93,7 +93,8 @@ told-length : (x : Reading) (buf : List ℕ) → ((c : Carried) → x ≡ Accept
     → hostText (jobWriting reportText x buf) .length ≤ 474
 told-length (Accepted c) buf h = go (leb (length (reportText c)) (length buf))
   where
-    go : (t : Bool) → hostText (cond t (written.Length (length (reportText c))) (written.Refused (refusal 7 0))) .length ≤ 474
+    go : (t : Bool)
+        → hostText (cond t (written.Length (length (reportText c))) (written.Refused (refusal 7 0))) .length ≤ 474
     go true = h c refl
     go false = omega arith
 told-length (Refused v) buf h = omega arith

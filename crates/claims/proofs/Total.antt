@@ -35,7 +35,8 @@ not-too-great (pos n) h = le-ltb 100 n h
 not-too-great (negsuc n) h = rw (le-ltb 99 n (omega arith))
 
 net-values : (r : book.Answer) (internal : ℤ) → tooGreat internal ≡ false
-    → valuesOf (then r (cond (tooGreat internal) (Refused (refusal 3 0)) (minus r internal))) ≡ map (λ v. net v internal)
+    → valuesOf (then r (cond (tooGreat internal) (Refused (refusal 3 0)) (minus r internal)))
+    ≡ map (λ v. net v internal)
     (valuesOf r)
 net-values (One v) internal e = rw e
 net-values (Two v w) internal e = rw e

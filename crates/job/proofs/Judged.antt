@@ -50,7 +50,9 @@ module _ (k : Kind) (ks ls : List Kind) (c d : Carried) (line : ℕ) (x : List F
       (λ t.
       let q = eqb-false _ _ t in
       ap verdict
-      (walk-refused k ks d line x ys (λ y. q (sym e ∙ y)) ∙ ap (λ (n : ℕ). Refused (refusal n line)) e ∙ sym (walk-refused k ls c line x xs q)))
+      (walk-refused k ks d line x ys (λ y. q (sym e ∙ y))
+      ∙ ap (λ (n : ℕ). Refused (refusal n line)) e
+      ∙ sym (walk-refused k ls c line x xs q)))
 
 module _ (s : Section) (g : Building) (ks : List Kind) where
   entries-refused : (xs rest : List (List Field)) (c d : Carried) (line : ℕ) → JudgesAs s g c → JudgesAs s g d

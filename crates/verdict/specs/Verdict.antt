@@ -1,5 +1,5 @@
--- Accepted is number 0 and line 0; a refusal has a number of paper 01's table and the line at fault, or 0 where no line
--- is.
+-- Accepted is number 0 and line 0; a refusal has a number of paper 01's table, and the line at fault or, where no
+-- line is, 0.
 use mathlib.Core.Path.{_≡_}
 use Prim.Native.Nat.{ℕ}
 use Rattle.verdict.specs.declared.Verdict.{Verdict}
