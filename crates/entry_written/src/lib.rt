@@ -8,8 +8,8 @@ use lines::Line;
 use lines::Slot;
 ghost use mathlib.Core.Path.{_≡_};
 ghost use Rattle.lines.specs.Held.{slot, heldLine};
-ghost use Rattle.entry_written.specs.Fields.{numberField, markField, buildingFields, windFields, internalFields};
-ghost use Rattle.entry_written.specs.Fields.{faceFields};
+ghost use Rattle.entry_written.specs.Fields.{numberField, markField, buildingFields, windFields};
+ghost use Rattle.entry_written.specs.Fields.{internalFields, faceFields};
 
 fn slot(f: Field) -> Slot
     ensures { λ r. ⌜ r ≡ slot f ⌝ }

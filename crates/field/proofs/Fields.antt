@@ -164,9 +164,11 @@ module _ (s : List ℕ) where
 
     pub field-high : (firstByte s ≡ 45 → ⊥) → 65 ≤ firstByte s → 90 < firstByte s → numeral s ≡ fieldFrom s
     unfolding fieldFrom
-    field-high d k m = rw (eq-eqb (length s) 1 h, ne-eqb (firstByte s) 45 d, le-leb 65 (firstByte s) k, lt-leb (firstByte s) 90 m)
+    field-high d k m =
+        rw (eq-eqb (length s) 1 h, ne-eqb (firstByte s) 45 d, le-leb 65 (firstByte s) k, lt-leb (firstByte s) 90 m)
 
-    pub field-letter : (firstByte s ≡ 45 → ⊥) → 65 ≤ firstByte s → firstByte s ≤ 90 → Letter (firstByte s) ≡ fieldFrom s
+    pub field-letter : (firstByte s ≡ 45 → ⊥) → 65 ≤ firstByte s → firstByte s ≤ 90
+        → Letter (firstByte s) ≡ fieldFrom s
     unfolding fieldFrom
     field-letter d k m =
         rw (eq-eqb (length s) 1 h, ne-eqb (firstByte s) 45 d, le-leb 65 (firstByte s) k, le-leb (firstByte s) 90 m)

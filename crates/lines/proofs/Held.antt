@@ -29,8 +29,10 @@ module _ (s : List ℕ) (at : ℕ) where
   unfolding lineAt firstLine
   line-in h =
       rw (split-more 10 (drop at s) (rw length-drop (omega arith)))
-      (rw
-      (split-until 10 (drop (suc (until 10 (drop at s))) (drop at s)), length-take-le (until 10 (drop at s)) (drop at s) (until-le 10 (drop at s))))
+      (rw (
+        split-until 10 (drop (suc (until 10 (drop at s))) (drop at s)),
+        length-take-le (until 10 (drop at s)) (drop at s) (until-le 10 (drop at s)),
+      ))
 
 -- ---- the fields that are held
 
@@ -67,7 +69,11 @@ module _ (next : ℕ) (fs : List Field) where
   held-all h =
       let n : length (map slot fs) ≡ length fs = length-map fs slot in
       rw (le-leb (length fs) 6 h) (
-        rw (sets-eq (map slot fs) blank 0 (omega arith), take-at (map slot fs) (drop (0 + length (map slot fs)) blank) (length fs) n) (map-slots fs),
+        rw (
+          sets-eq (map slot fs) blank 0 (omega arith),
+          take-at (map slot fs) (drop (0 + length (map slot fs)) blank) (length fs) n,
+        )
+            (map-slots fs),
         refl,
       )
 

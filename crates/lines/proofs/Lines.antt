@@ -151,7 +151,9 @@ split-joined b (x ∷ xs) =
     by-test (eqb x b)
     (λ e.
     rw e
-    (joined-more b [] xs ∙ ap (λ (l : List ℕ). b ∷ l) (split-joined b xs) ∙ ap (λ (y : ℕ). y ∷ xs) (sym (eqb-true x b e))))
+    (joined-more b [] xs
+    ∙ ap (λ (l : List ℕ). b ∷ l) (split-joined b xs)
+    ∙ ap (λ (y : ℕ). y ∷ xs) (sym (eqb-true x b e))))
     (λ e. rw e (joined-onto b x (split b xs) ∙ ap (λ (l : List ℕ). x ∷ l) (split-joined b xs)))
 
 -- ---- lines

@@ -14,7 +14,8 @@ use Rattle.field.specs.declared.Field.the-variants.{Bad, Plus, Minus, Letter, D
 use Rattle.whole.specs.Digits.{digits, isDigit, allDigits, valueAfter, value}
 use Rattle.field.specs.Field.{firstByte, digitsInForm, unsigned, negative, numeral, fieldFrom, loneDash, loneCapital}
 use Rattle.whole.specs.Lists.{Every}
-use Rattle.lines.specs.Lines.{split, fieldsOf, linesFrom, linesIn, fieldText, lineText, textOfLines, InForm, LinesInForm}
+use Rattle.lines.specs.Lines.{split, fieldsOf, linesFrom, linesIn, fieldText, lineText, textOfLines}
+use Rattle.lines.specs.Lines.{InForm, LinesInForm}
 use Rattle.lines.specs.Lines.{NotBad}
 use Rattle.whole.proofs.Digits.{by-tens, digits-small, digits-more, digits-length}
 use Rattle.whole.proofs.AreDigits.{digits-back}
@@ -91,7 +92,8 @@ negative-text s h =
     by-test (digitsInForm s && ltb 0 (value s))
     (λ t.
     rw t
-    (let p = form-parts s (and-true (digitsInForm s) (ltb 0 (value s)) t .0) in ap (λ (l : List ℕ). 45 ∷ l) (digits-back s (p .some) (p .lead) (p .all))))
+    (let p = form-parts s (and-true (digitsInForm s) (ltb 0 (value s)) t .0) in
+    ap (λ (l : List ℕ). 45 ∷ l) (digits-back s (p .some) (p .lead) (p .all))))
     (λ t. absurd (rw t at h))
 
 number-text : (s : List ℕ) → NotBad (numeral s) → fieldText (numeral s) ≡ s
@@ -115,7 +117,8 @@ field-back s h =
     rw t (alone s 45 (e .0) (sym (eqb-true (firstByte s) 45 (e .1)))))
     (λ t. by-test (loneCapital s)
     (λ u.
-    rw (t, u) (alone s (firstByte s) (and-true (eqb (length s) 1) (leb 65 (firstByte s) && leb (firstByte s) 90) u .0) refl))
+    let one = and-true (eqb (length s) 1) (leb 65 (firstByte s) && leb (firstByte s) 90) u .0 in
+    rw (t, u) (alone s (firstByte s) one refl))
     (λ u. rw (t, u) (number-text s (rw (t, u) at h))))
 
 parts-text : (ps : List (List ℕ)) → Every NotBad (map fieldFrom ps) → lineText (map fieldFrom ps) ≡ joined 32 ps

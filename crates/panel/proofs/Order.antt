@@ -134,7 +134,8 @@ no-room n (pos j) q k h a b l g = go (decLt j k)
         omega arith
 
 pub none-between : (q k : ℕ) → 2 ^ 52 ≤ q → 1 ≤ k
-    → (x : Float) → IsDouble x → T (lt (numberItself (pos (q * 2 ^ k))) x) → T (lt x (numberItself (pos ((q + 1) * 2 ^ k)))) → ⊥
+    → (x : Float) → IsDouble x → T (lt (numberItself (pos (q * 2 ^ k))) x)
+    → T (lt x (numberItself (pos ((q + 1) * 2 ^ k)))) → ⊥
 unfolding lt
 none-between q k a b nan d l h = l
 none-between q k a b (inf true) d l h = l

@@ -80,7 +80,8 @@ size-only n p h r = go (ℕ-discrete (n % gap n) 0) p r
         (exact-worth (pos n) (double n) s))
         ∙ sym (size-exact n e)
     go (yes e) (Between low high) r = absurd (not-both (pos n) (double n) low high (exact-right n h e) r)
-    go (no f) (Exact x) r = absurd (not-both (pos n) x (double (stepBelow n)) (double (stepAbove n)) r (between-right n h f))
+    go (no f) (Exact x) r =
+        absurd (not-both (pos n) x (double (stepBelow n)) (double (stepAbove n)) r (between-right n h f))
     go (no f) (Between low high) r =
         (λ i. Between (low-is n h f low high r i) (high-is n h f low high r i)) ∙ sym (size-between n f)
 

@@ -142,7 +142,8 @@ module _ (axis : Axis) (s : Side) (c : Carried) (o : InOrder c) where
       rw (h .best .reached) at (caseTotal-small (given c) (given-in-range c o) axis (h .case))
 
   -- the letter, the word, a total of 20 bytes at most, the numbers and the end
-  line-most : (letter : ℕ) (word : List ℕ) → length word ≡ 5 → length (extremeText letter word (extreme axis s c)) ≤ 79
+  line-most : (letter : ℕ) (word : List ℕ) → length word ≡ 5
+      → length (extremeText letter word (extreme axis s c)) ≤ 79
   line-most letter word h =
       rw line-parts
       (simp length-append (omega (arith, h, case-most, total-length (extreme axis s c .total) total-small)))

@@ -69,7 +69,10 @@ digits-back (d ∷ ds) some lead all =
     go [] l a lo hi one = one
     go (x ∷ es) l a lo hi one =
         after-digits (d - 48) (x ∷ es)
-        (by-test (eqb d 48) (λ t. absurd (true≢false (rw (lt-ltb 1 (length (d ∷ x ∷ es)) (omega arith), t) at l))) (λ t. omega (arith, eqb-false d 48 t))) a
+        (by-test (eqb d 48)
+        (λ t. absurd (true≢false (rw (lt-ltb 1 (length (d ∷ x ∷ es)) (omega arith), t) at l)))
+        (λ t. omega (arith, eqb-false d 48 t)))
+        a
         ∙ ap (λ (p : List ℕ). p ++ (x ∷ es)) one
 
 pub digits-only : (n : ℕ) (ds : List ℕ) → AreDigits n ds → ds ≡ digits n

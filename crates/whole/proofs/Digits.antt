@@ -11,7 +11,8 @@ use lib.ListN.{length, length-append}
 use lib.Signed.{mag, ltZ}
 use borrow.Author.Tests.{le-leb, ltb-true, ltb-false, ne-eqb}
 use Rattle.whole.proofs.Tests.{by-test, and-true}
-use Rattle.whole.specs.Digits.{digitsWithin, digits, decimal, isDigit, allDigits, valueAfter, value, signedValue}
+use Rattle.whole.specs.Digits.{digitsWithin, digits, decimal, isDigit, allDigits, valueAfter, value}
+use Rattle.whole.specs.Digits.{signedValue}
 
 -- ---- what they are
 

@@ -1,6 +1,6 @@
 -- `asked`: the checks in their order.
 use mathlib.Core.Path.{_≡_, sym, ap, ap₂, _∙_}
-use mathlib.Core.Bool.{_||_}
+use mathlib.Core.Bool.{true, _||_}
 use Prim.Native.Nat.{ℕ}
 use lib.IntN.{ℤ}
 use borrow.Author.Tests.{not-true, not-false}
@@ -18,23 +18,35 @@ use Rattle.building.proofs.asked.Tie as tie
 good : (c : tie.Else1) → buildingFault (c .before .before .args .g) ≡ 0
 good c = none-given (c .before .before .args .g) (sym (c .before .given-fault .ensures) ∙ c .if1 .left)
 
+-- the places: the start, the test of the direction, the branch past it
+abbrev start : tie.After-knows → tie.Start
+start c = c .before .before .before .before
+
+abbrev known : tie.After-either → tie.Else2
+known c = c .before .before .before .before .before
+
 -- what the tests answered, said of the question
 direction : (c : tie.After-knows)
-    → let a = c .before .before .before .before .args in c .knows .result ≡ knows (a .g .kind) (a .direction)
+    → let a = start c .args in c .knows .result ≡ knows (a .g .kind) (a .direction)
 direction c =
-    let s = c .before .before .before .before in
+    let s = start c in
     said (knows (s .args .g .kind)) (s .args .direction) (c .knows .ensures) (s .fits .direction .sfits)
 
+known-direction : (c : tie.Else2)
+    → let a = start (c .before) .args in knows (a .g .kind) (a .direction) ≡ true
+known-direction c = sym (direction (c .before)) ∙ not-false _ (c .if2 .left)
+
 where-it-is : (c : tie.After-either)
-    → let a = c .before .before .before .before .before .before .before .before .before .before .args in c .either .result ≡ (zoneOn (a .g .kind) (a .place) || localOn (a .g .kind) (a .place))
+    → let a = start (known c .before) .args in
+    c .either .result ≡ (zoneOn (a .g .kind) (a .place) || localOn (a .g .kind) (a .place))
 where-it-is c =
     let l = c .before in
     let z = l .before .before in
-    let a = z .before .before .before .before .before .before .before .args in
-    let told = l .before .struct-told3 .given .1 .1 .1 .1 .0 .1 in
+    let a = start (known c .before) .args in
+    let bounds = l .before .struct-told3 .given .1 .1 .1 .1 .0 .1 in
     c .either .ensures
-    ∙ ap₂ _||_ (said (λ (k : ℤ). zoneOn k (a .place)) (a .g .kind) (z .zone-on .ensures) told)
-    (said (λ (k : ℤ). localOn k (a .place)) (a .g .kind) (l .local-on .ensures) told)
+    ∙ ap₂ _||_ (said (λ (k : ℤ). zoneOn k (a .place)) (a .g .kind) (z .zone-on .ensures) bounds)
+    (said (λ (k : ℤ). localOn k (a .place)) (a .g .kind) (l .local-on .ensures) bounds)
 
 returns : tie.Need-returns
 returns c =
@@ -44,30 +56,38 @@ returns c =
 
 returns-2 : tie.Need-returns-2
 returns-2 c =
-    let a = c .before .before .before .before .before .args in
+    let a = start (c .before) .args in
     sym
-    (bad-direction (a .g) (a .direction) (a .place) (good (c .before .before .before)) (sym (direction (c .before)) ∙ not-true _ (c .if2 .taken)))
+    (bad-direction (a .g) (a .direction) (a .place)
+    (good (c .before .before .before))
+    (sym (direction (c .before)) ∙ not-true _ (c .if2 .taken)))
 
 returns-3 : tie.Need-returns-3
 returns-3 c =
-    let k = c .before .before .before .before .before .before .before in
-    let a = k .before .before .before .before .args in
+    let k = known (c .before) in
+    let a = start (k .before) .args in
     sym
-    (bad-place (a .g) (a .direction) (a .place) (good (k .before .before)) (sym (direction k) ∙ not-false _ (c .before .before .before .before .before .before .if2 .left)) (sym (where-it-is (c .before)) ∙ not-true _ (c .if3 .taken)))
+    (bad-place (a .g) (a .direction) (a .place)
+    (good (k .before .before .before))
+    (known-direction k)
+    (sym (where-it-is (c .before)) ∙ not-true _ (c .if3 .taken)))
 
 sizes-of-requires : tie.Need-sizes-of-requires
 sizes-of-requires c κs =
-    let k = c .before .before .before .before .before .before .before in
-    in-range (k .before .before .before .before .args .g) (good (k .before .before))
+    let k = known (c .before) .before in
+    in-range (start k .args .g) (good (k .before .before))
 
 returns-4 : tie.Need-returns-4
 returns-4 c =
     let t = c .before in
-    let k = t .before .before .before .before .before .before .before in
-    let a = k .before .before .before .before .args in
+    let k = known (t .before) in
+    let a = start (k .before) .args in
     ap Of (c .sizes-of .ensures)
     ∙ sym
-    (in-question (a .g) (a .direction) (a .place) (good (k .before .before)) (sym (direction k) ∙ not-false _ (t .before .before .before .before .before .before .if2 .left)) (sym (where-it-is (t .before)) ∙ not-false _ (t .if3 .left)))
+    (in-question (a .g) (a .direction) (a .place)
+    (good (k .before .before .before))
+    (known-direction k)
+    (sym (where-it-is (t .before)) ∙ not-false _ (t .if3 .left)))
 
 pub asked-spec : {M : Type 1} → statement M
 asked-spec =

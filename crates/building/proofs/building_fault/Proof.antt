@@ -28,7 +28,8 @@ walls : (c : tie.After-out-of-walls)
 walls c = c .out-of-walls .ensures ∙ ap outOfWalls (sized (c .before))
 
 roof : (c : tie.After-out-of-roof)
-    → c .out-of-roof .result ≡ outOfRoof (sizes (c .before .before .before .before .before .before .args .g))
+    → let s = c .before .before .before in
+    c .out-of-roof .result ≡ outOfRoof (sizes (s .before .before .before .args .g))
 roof c = c .out-of-roof .ensures ∙ ap outOfRoof (sized (c .before .before .before))
 
 returns : tie.Need-returns
@@ -49,15 +50,21 @@ returns-3 : tie.Need-returns-3
 unfolding buildingFault
 returns-3 c =
     let w = c .before .before in
-    rw
-    (in-range (w .before .before .before), sym (walls (w .before)) ∙ w .if2 .left, sym (roof (c .before)) ∙ c .if3 .taken)
+    rw (
+      in-range (w .before .before .before),
+      sym (walls (w .before)) ∙ w .if2 .left,
+      sym (roof (c .before)) ∙ c .if3 .taken,
+    )
 
 returns-4 : tie.Need-returns-4
 unfolding buildingFault
 returns-4 c =
     let w = c .before .before in
-    rw
-    (in-range (w .before .before .before), sym (walls (w .before)) ∙ w .if2 .left, sym (roof (c .before)) ∙ c .if3 .left)
+    rw (
+      in-range (w .before .before .before),
+      sym (walls (w .before)) ∙ w .if2 .left,
+      sym (roof (c .before)) ∙ c .if3 .left,
+    )
 
 pub building-fault-spec : {M : Type 1} → statement M
 building-fault-spec =

@@ -21,7 +21,8 @@ returns c =
     let s = t .before in
     c .slot .ensures
     ∙ ap slot
-    (number-long (s .args .z) (sym (said tooLong (s .args .z) (t .too-long .ensures) (s .fits .z .sfits)) ∙ c .before .if1 .taken))
+    (number-long (s .args .z)
+    (sym (said tooLong (s .args .z) (t .too-long .ensures) (s .fits .z .sfits)) ∙ c .before .if1 .taken))
 
 -- behind the test of its length
 module _ (c : tie.After-magnitude) where

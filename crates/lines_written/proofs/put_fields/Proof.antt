@@ -43,7 +43,8 @@ loop-again c =
       l .loop .inv .0,
       omega arith,
       λ m a p. rw (line-next (held x) (l .loop .i) (l .loop .inv .1) few)
-          (then (l .loop .inv .2 m a p) (then (b .put-byte .ensures) (rw (g .field-at2 .ensures) at (q .put-field2 .ensures)))),
+          (then (l .loop .inv .2 m a p)
+          (then (b .put-byte .ensures) (rw (g .field-at2 .ensures) at (q .put-field2 .ensures)))),
     )
 
 -- the first field, and with it all of them
@@ -55,7 +56,9 @@ one l =
     rw (line-first (held (start l .args .x))) (rw (p .before .before .field-at .ensures) at (p .put-field .ensures))
 
 all : (c : tie.After-loop Inv-loop μ-loop)
-    → (let l = c .before in Put (now (start l .args .buf)) (start l .args .at) (lineText (held (start l .args .x))) (l .loop .buf) (l .loop .next))
+    → (let l = c .before in
+    let a = start l .args in
+    Put (now (a .buf)) (a .at) (lineText (held (a .x))) (l .loop .buf) (l .loop .next))
 all c =
     let l = c .before in
     rw (take-all (l .loop .i) (held (start l .args .x)) (omega (arith, l .loop .inv .0, c .loop-test .left)))

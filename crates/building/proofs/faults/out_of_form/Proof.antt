@@ -17,14 +17,14 @@ returns c =
     let c₂ = c₃ .before .before in
     let c₁ = c₂ .before .before in
     let g = c₁ .before .before .args .g in
-    let told = c₆ .before .struct-told6 .given in
+    let bounds = c₆ .before .struct-told6 .given in
     any-same (c .any .ensures)
-    (said tooLong (g .h) (c₁ .too-long .ensures) (told .0 .1))
-    (said tooLong (g .a) (c₂ .too-long2 .ensures) (told .1 .0 .1))
-    (said tooLong (g .b) (c₃ .too-long3 .ensures) (told .1 .1 .0 .1))
-    (said tooLong (g .density) (c₄ .too-long4 .ensures) (told .1 .1 .1 .0 .1))
-    (said tooLong (g .kind) (c₅ .too-long5 .ensures) (told .1 .1 .1 .1 .0 .1))
-    (said tooLong (g .x) (c₆ .too-long6 .ensures) (told .1 .1 .1 .1 .1 .0 .1))
+    (said tooLong (g .h) (c₁ .too-long .ensures) (bounds .0 .1))
+    (said tooLong (g .a) (c₂ .too-long2 .ensures) (bounds .1 .0 .1))
+    (said tooLong (g .b) (c₃ .too-long3 .ensures) (bounds .1 .1 .0 .1))
+    (said tooLong (g .density) (c₄ .too-long4 .ensures) (bounds .1 .1 .1 .0 .1))
+    (said tooLong (g .kind) (c₅ .too-long5 .ensures) (bounds .1 .1 .1 .1 .0 .1))
+    (said tooLong (g .x) (c₆ .too-long6 .ensures) (bounds .1 .1 .1 .1 .1 .0 .1))
 
 pub out-of-form-spec : {M : Type 1} → statement M
 out-of-form-spec =

@@ -18,14 +18,14 @@ returns c =
     let c₂ = c₃ .before .before in
     let c₁ = c₂ .before .before in
     let g = c₁ .before .before .args .g in
-    let told = c₆ .before .struct-told6 .given in
+    let bounds = c₆ .before .struct-told6 .given in
     any-same (c .any .ensures)
-    (said (beyond (pos 100) (pos 30000)) (g .h) (c₁ .beyond .ensures) (told .0 .1))
-    (said (beyond (pos 100) (pos 30000)) (g .a) (c₂ .beyond2 .ensures) (told .1 .0 .1))
-    (said (beyond (pos 100) (pos 30000)) (g .b) (c₃ .beyond3 .ensures) (told .1 .1 .0 .1))
-    (said (beyond (pos 1000) (pos 1500)) (g .density) (c₄ .beyond4 .ensures) (told .1 .1 .1 .0 .1))
-    (said (beyond (pos 0) (pos 5)) (g .kind) (c₅ .beyond5 .ensures) (told .1 .1 .1 .1 .0 .1))
-    (said (beyond (pos 0) (pos 30000)) (g .x) (c₆ .beyond6 .ensures) (told .1 .1 .1 .1 .1 .0 .1))
+    (said (beyond (pos 100) (pos 30000)) (g .h) (c₁ .beyond .ensures) (bounds .0 .1))
+    (said (beyond (pos 100) (pos 30000)) (g .a) (c₂ .beyond2 .ensures) (bounds .1 .0 .1))
+    (said (beyond (pos 100) (pos 30000)) (g .b) (c₃ .beyond3 .ensures) (bounds .1 .1 .0 .1))
+    (said (beyond (pos 1000) (pos 1500)) (g .density) (c₄ .beyond4 .ensures) (bounds .1 .1 .1 .0 .1))
+    (said (beyond (pos 0) (pos 5)) (g .kind) (c₅ .beyond5 .ensures) (bounds .1 .1 .1 .1 .0 .1))
+    (said (beyond (pos 0) (pos 30000)) (g .x) (c₆ .beyond6 .ensures) (bounds .1 .1 .1 .1 .1 .0 .1))
 
 pub out-of-range-spec : {M : Type 1} → statement M
 out-of-range-spec =

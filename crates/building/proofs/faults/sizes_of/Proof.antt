@@ -16,20 +16,34 @@ use Rattle.building.proofs.Accepted.{fields}
 use Rattle.building.proofs.faults.sizes_of.Statement.{statement}
 use Rattle.building.proofs.faults.sizes_of.Tie as tie
 
+-- the sizes are taken in the order h, b, kind, a, x: the place of each, and the start
+abbrev at-a : tie.After-magnitude5 → tie.After-magnitude4
+at-a c = c .before .before
+
+abbrev at-kind : tie.After-magnitude4 → tie.After-magnitude3
+at-kind c = c .before .before
+
+abbrev at-b : tie.After-magnitude3 → tie.After-magnitude2
+at-b c = c .before .before
+
+abbrev at-h : tie.After-magnitude2 → tie.After-magnitude
+at-h c = c .before .before
+
+abbrev start : tie.After-magnitude3 → tie.Start
+start c = at-h (at-b c) .before .before
+
 abbrev building : tie.After-magnitude5 → Building
-building c = c .before .before .before .before .before .before .before .before .before .before .args .g
+building c = start (at-kind (at-a c)) .args .g
 
 -- the sizes, said of the building
-h : (c : tie.After-magnitude5)
-    → c .before .before .before .before .before .before .before .before .magnitude .result ≡ natAbs (building c .h)
+h : (c : tie.After-magnitude5) → at-h (at-b (at-kind (at-a c))) .magnitude .result ≡ natAbs (building c .h)
 h c =
-    said natAbs (building c .h)
-    (c .before .before .before .before .before .before .before .before .magnitude .ensures)
+    said natAbs (building c .h) (at-h (at-b (at-kind (at-a c))) .magnitude .ensures)
     (c .before .struct-told5 .given .0 .1)
 
-kind : (c : tie.After-magnitude5) → c .before .before .before .before .magnitude3 .result ≡ natAbs (building c .kind)
+kind : (c : tie.After-magnitude5) → at-kind (at-a c) .magnitude3 .result ≡ natAbs (building c .kind)
 kind c =
-    said natAbs (building c .kind) (c .before .before .before .before .magnitude3 .ensures)
+    said natAbs (building c .kind) (at-kind (at-a c) .magnitude3 .ensures)
     (c .before .struct-told5 .given .1 .1 .1 .1 .0 .1)
 
 x : (c : tie.After-magnitude5) → c .magnitude5 .result ≡ natAbs (building c .x)
@@ -41,32 +55,32 @@ narrow z e h k = omega (arith, said natAbs z e h)
 
 cast-t5 : tie.Need-cast-t5
 cast-t5 c =
-    let s = c .before .before .before .before .before .before in
-    narrow (s .args .g .h) (c .before .before .before .before .magnitude .ensures)
-    (c .before .struct-told3 .given .0 .1) (fields (s .args .g) (s .pre) .h .to)
+    let s = start c in
+    narrow (s .args .g .h) (at-h (at-b c) .magnitude .ensures) (c .before .struct-told3 .given .0 .1)
+    (fields (s .args .g) (s .pre) .h .to)
 
 cast-t7 : tie.Need-cast-t7
 cast-t7 c =
-    let s = c .before .before .before .before .before .before .before .before in
+    let s = start (at-kind c) in
     narrow (s .args .g .a) (c .magnitude4 .ensures) (c .before .struct-told4 .given .1 .0 .1)
     (fields (s .args .g) (s .pre) .a .to)
 
 cast-t8 : tie.Need-cast-t8
 cast-t8 c =
-    let s = c .before .before .before .before .before .before .before .before in
-    narrow (s .args .g .b) (c .before .before .before .before .magnitude2 .ensures)
-    (c .before .struct-told4 .given .1 .1 .0 .1) (fields (s .args .g) (s .pre) .b .to)
+    let s = start (at-kind c) in
+    narrow (s .args .g .b) (at-b (at-kind c) .magnitude2 .ensures) (c .before .struct-told4 .given .1 .1 .0 .1)
+    (fields (s .args .g) (s .pre) .b .to)
 
 along-requires : tie.Need-along-requires
 along-requires c κs =
-    let s = c .before .before .before .before .before .before .before .before .before .before in
+    let s = start (at-kind (at-a c)) in
     let f = fields (s .args .g) (s .pre) in
     (omega (arith, kind c, f .kind .to), omega (arith, x c, f .x .to))
 
 across-requires : tie.Need-across-requires
 across-requires c κs =
     let d = c .before in
-    let s = d .before .before .before .before .before .before .before .before .before .before in
+    let s = start (at-kind (at-a d)) in
     omega (arith, kind d, fields (s .args .g) (s .pre) .kind .to)
 
 abbrev six : ℕ → ℕ → ℕ → ℕ → ℕ → ℕ → Sizes
@@ -80,10 +94,10 @@ returns : tie.Need-returns
 returns c =
     let d = c .before .before in
     let g = building d in
-    let told = d .before .struct-told5 .given in
+    let bounds = d .before .struct-told5 .given in
     same (h d)
-    (said natAbs (g .a) (d .before .before .magnitude4 .ensures) (told .1 .0 .1))
-    (said natAbs (g .b) (d .before .before .before .before .before .before .magnitude2 .ensures) (told .1 .1 .0 .1))
+    (said natAbs (g .a) (at-a d .magnitude4 .ensures) (bounds .1 .0 .1))
+    (said natAbs (g .b) (at-b (at-kind (at-a d)) .magnitude2 .ensures) (bounds .1 .1 .0 .1))
     (kind d)
     (c .before .along .ensures ∙ ap₂ alongOf (kind d) (x d))
     (c .across .ensures ∙ ap₂ acrossOf (kind d) (h d))
