@@ -44,6 +44,7 @@ pub use Rattle.rules.proofs.entries.wind_fault.Reads as wind-fault
 pub use Rattle.rules.proofs.entries.internal_fault.Reads as internal-fault
 pub use Rattle.rules.proofs.entries.face_fault.Reads as face-fault
 pub use Rattle.rules.proofs.faults.line_fault.Reads as line-fault
+pub use Rattle.job.proofs.entry_count.Reads as entry-count
 pub use Rattle.job.proofs.judge.judge.Reads as judge
 pub use Rattle.sheet.proofs.read.read_sheet.Reads as read-sheet
 pub use Rattle.sheet_written.proofs.write_sheet.Reads as write-sheet

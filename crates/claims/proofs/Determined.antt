@@ -169,6 +169,9 @@ line-fault-determined κ a r r′ s s′ p q = same p q
 
 -- ---- job
 
+entry-count-determined : OneAnswer of.entry-count.Post
+entry-count-determined κ a r r′ s s′ p q = same p q
+
 judge-determined : OneAnswer of.judge.Post
 judge-determined κ a r r′ s s′ p q = same p q
 

@@ -152,6 +152,9 @@ line-fault-asks κ a = tt
 
 -- ---- job
 
+entry-count-asks : AsksNothing of.entry-count.Asked
+entry-count-asks κ a = tt
+
 judge-asks : AsksNothing of.judge.Asked
 judge-asks κ a = tt
 

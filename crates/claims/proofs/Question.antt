@@ -27,6 +27,7 @@ use Rattle.book.specs.Question.{outsideOf, net, tooGreat, then, minus, netOf}
 use Rattle.book.proofs.Answers.{same-answer}
 use Rattle.book.proofs.Coefficients.{coefficient-unique, outside-is}
 use Rattle.claims.specs.Question.{Judged, not-asked, asked-of}
+use Rattle.job.specs.Carried.{nothing, before}
 use Rattle.claims.specs.Question.{Refusal, bad-building, bad-direction, bad-place, InQuestion, Outside, refused}
 use Rattle.claims.specs.Question.{told, Net, as-outside, bad-internal, less-internal, sheetFault}
 
@@ -36,7 +37,7 @@ clash e f = absurd (subst T (sym e ∙ f) tt)
 
 module _ (g : Building) (direction : ℤ) (place : ℕ) where
   sheet-fault : givenFault g ≡ sheetFault g
-  sheet-fault = building-given g g
+  sheet-fault = building-given g (before nothing)
 
   -- ---- the refusals come in one order, and not where the question is in order
 

@@ -15,15 +15,16 @@ use Rattle.rules.specs.declared.Section.the-variants.{B}
 use Rattle.rules.specs.declared.Kind.the-variants.{Entry}
 use Rattle.rules.specs.Sections.{lineFault}
 use Rattle.entry_written.specs.Fields.{buildingFields}
+use Rattle.job.specs.Carried.{nothing, before}
 use Rattle.book.specs.declared.Answer as book
 use Rattle.book.specs.declared.Answer.the-variants.{Refused}
 use Rattle.book.specs.Answer.{verdictOf, valuesOf}
 use Rattle.book.specs.Coefficient.{IsCoefficient}
 use Rattle.book.specs.Question.{net, tooGreat}
 
--- the number that the building's line would get in its sheet, where it stands on line 2
+-- the number that the building's line would get in its sheet, where it stands on line 2 and nothing is carried yet
 abbrev pub sheetFault : Building → ℕ
-sheetFault g = lineFault (Entry B) g (buildingFields g)
+sheetFault g = lineFault (Entry B) (before nothing) (buildingFields g)
 
 module _ (g : Building) (direction : ℤ) (place : ℕ) where
   -- "the building, with the number and line that its sheet would get; then the direction, 3 with line 0, for locals

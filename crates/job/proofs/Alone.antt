@@ -2,12 +2,13 @@
 use Prim.Native.Nat.{ℕ, zero, suc, _+_, _≤_, _<_}
 use mathlib.Core.Path.{_≡_, refl, ap, _∙_, sym, subst}
 use mathlib.Core.List.{List, [], _∷_, _++_, map, append-nil}
+use native.Mathlib.Numerals.{add-one}
 use native.Mathlib.Omega.{arith}
 use lib.IntN.{pos}
 use lib.ListN.{length, getD, take, length-map}
 use lib.Seq.{take-all}
 use Rattle.whole.specs.Lists.{firstOf}
-use Rattle.whole.proofs.Lists.{every-take, getD-map, firstOf-length, firstOf-getD}
+use Rattle.whole.proofs.Lists.{getD-map, firstOf-length, firstOf-getD}
 use Rattle.verdict.specs.declared.Verdict.{Verdict}
 use Rattle.verdict.specs.Verdict.{accepted, refusal}
 use Rattle.field.specs.declared.Field.{Field}
@@ -15,12 +16,12 @@ use Rattle.rules.specs.declared.Section.{Section}
 use Rattle.rules.specs.declared.Section.the-variants.{B, W, I, F}
 use Rattle.rules.specs.declared.Kind.the-variants.{Count, Entry}
 use Rattle.job.specs.declared.Job.{Job}
-use Rattle.job.specs.Carried.{Carried, noWind, noFace, carried}
+use Rattle.job.specs.Carried.{Carried, noWind, noFace, before, carried}
 use Rattle.rules.specs.Sections.{about, lineFault}
 use Rattle.entry_written.specs.Fields.{buildingFields, windFields, internalFields, faceFields}
 use Rattle.job.specs.Lines.{entriesOf, sectionOf}
 use Rattle.job.specs.Walk.{verdict, walk}
-use Rattle.job.proofs.Walk.{EntriesInOrder}
+use Rattle.job.proofs.Walk.{learnAll, EntriesInOrder, entries-next}
 use Rattle.job.proofs.Sections.{Counted, countLine, count-counted, count-refused, section-refused}
 use Rattle.job.proofs.Sections.{section-walk}
 
@@ -74,30 +75,30 @@ module _ (s : Section) (c : Carried) (line : ℕ) (xs : List (List Field)) where
   nothing-behind = rw append-nil
 
   -- n is the fault of its count
-  module _ (n : ℕ) (en : n ≡ lineFault (Count s) (c .building) (countLine s (length xs))) where
+  module _ (n : ℕ) (en : n ≡ lineFault (Count s) (before c) (countLine s (length xs))) where
     pub alone-count : (n ≡ 0 → ⊥) → refusal n line ≡ alone
     alone-count z = sym (nothing-behind ∙ ap verdict (count-refused s [] c line xs [] (λ e. z (en ∙ e))) ∙ rw (← en))
 
     pub alone-counted : n ≡ 0 → Counted s (length xs)
-    alone-counted z = count-counted s (c .building) (length xs) (sym en ∙ z)
+    alone-counted z = count-counted s (before c) (length xs) (sym en ∙ z)
 
   -- n is the fault of entry i, where those before it have none
-  module _ (w : Counted s (length xs)) (i n : ℕ) (h : i < length xs) (o : EntriesInOrder s (c .building) (take i xs))
-      (en : n ≡ lineFault (Entry s) (c .building) (getD xs i [])) where
+  module _ (w : Counted s (length xs)) (i n : ℕ) (h : i < length xs) (o : EntriesInOrder s c (take i xs))
+      (en : n ≡ lineFault (Entry s) (before (learnAll s (take i xs) c)) (getD xs i [])) where
     pub alone-entry : (n ≡ 0 → ⊥) → refusal n (line + 1 + i) ≡ alone
     alone-entry z =
         sym (nothing-behind ∙ ap verdict (section-refused s [] c line xs [] i w h o (λ e. z (en ∙ e))) ∙ rw (← en))
 
-    pub alone-next : n ≡ 0 → EntriesInOrder s (c .building) (take (i + 1) xs)
-    alone-next z = every-take (λ x. lineFault (Entry s) (c .building) x ≡ 0) xs [] i o (sym en ∙ z)
+    pub alone-next : n ≡ 0 → EntriesInOrder s c (take (i + 1) xs)
+    alone-next z = rw add-one (entries-next s xs i c h o (sym en ∙ z))
 
   -- all have none
-  pub alone-passed : Counted s (length xs) → (i : ℕ) → length xs ≤ i → EntriesInOrder s (c .building) (take i xs)
+  pub alone-passed : Counted s (length xs) → (i : ℕ) → length xs ≤ i → EntriesInOrder s c (take i xs)
       → accepted ≡ alone
   unfolding walk
   alone-passed w i h o =
       sym
-      (nothing-behind ∙ ap verdict (section-walk s [] c line xs [] w (subst (EntriesInOrder s (c .building)) (take-all i xs h) o)))
+      (nothing-behind ∙ ap verdict (section-walk s [] c line xs [] w (subst (EntriesInOrder s c) (take-all i xs h) o)))
 
 pub most-24 : (s : Section) → about s .most ≤ 24
 most-24 B = omega arith

@@ -10,7 +10,7 @@ use Rattle.verdict.specs.Verdict.{refusal}
 use Rattle.field.specs.declared.Field.{Field}
 use Rattle.rules.specs.declared.Kind.{Kind}
 use Rattle.job.specs.declared.Job.{Job}
-use Rattle.job.specs.Carried.{Carried, nothing, carried}
+use Rattle.job.specs.Carried.{Carried, nothing, before, carried}
 use Rattle.job.specs.Lines.{linesOf}
 use Rattle.rules.specs.Sections.{lineFault}
 use Rattle.job.specs.Walk.{calls, learn, Reading, Refused, verdict, walk, sheet, readLines, judged}
@@ -23,9 +23,9 @@ none-left c (suc i) m f = f
 
 -- a line in order, and the rest
 module _ (k : Kind) (ks : List Kind) (c : Carried) (line : ℕ) (x : List Field) (xs : List (List Field))
-    (z : lineFault k (c .building) x ≡ 0) where
-  none-here : (m : ℕ) → 0 < m → HasFault m (c .building) x k → ⊥
-  none-here m h f = omega (arith, fault-lowest k (c .building) x f .0)
+    (z : lineFault k (before c) x ≡ 0) where
+  none-here : (m : ℕ) → 0 < m → HasFault m (before c) x k → ⊥
+  none-here m h f = omega (arith, fault-lowest k (before c) x f .0)
 
   later : (r : Reading) → Answers (calls k x ++ ks) (learn k x c) xs (line + 1) r → Answers (k ∷ ks) c (x ∷ xs) line r
   later r (in-order d none) = in-order d go
@@ -55,15 +55,15 @@ walk-answers [] c line [] = in-order c (λ i m z f. none-left c i m f)
 walk-answers [] c line (x ∷ xs) = at-once [] c line (x ∷ xs) 1 (omega arith) refl (λ m z h f. omega arith)
 walk-answers (k ∷ ks) c line [] = at-once (k ∷ ks) c line [] 1 (omega arith) refl (λ m z h f. omega arith)
 walk-answers (k ∷ ks) c line (x ∷ xs) =
-    let n = lineFault k (c .building) x in
+    let n = lineFault k (before c) x in
     by-test (eqb n 0)
     (λ e.
     rw e
     (later k ks c line x xs (eqb-true n 0 e) (walk (calls k x ++ ks) (learn k x c) (line + 1) xs) (walk-answers (calls k x ++ ks) (learn k x c) (line + 1) xs)))
     (λ e.
     let p : 0 < n = omega (arith, eqb-false n 0 e) in
-    rw e (at-once (k ∷ ks) c line (x ∷ xs) n p (fault-has k (c .building) x p)
-    (λ m y h f. omega (arith, fault-lowest k (c .building) x f .1))))
+    rw e (at-once (k ∷ ks) c line (x ∷ xs) n p (fault-has k (before c) x p)
+    (λ m y h f. omega (arith, fault-lowest k (before c) x f .1))))
 
 -- the answer to lines is their first fault
 pub lines-answer : (xs : List (List Field)) → Answers sheet nothing xs 1 (readLines xs)

@@ -12,16 +12,16 @@ use Rattle.whole.proofs.Lists.{every-by}
 use Rattle.field.specs.declared.Field.{Field}
 use Rattle.field.specs.declared.Field.the-variants.{Bad, Plus, Minus, Letter, Dash}
 use Rattle.lines.specs.Lines.{NotBad, InForm, LinesInForm}
-use Rattle.building.specs.declared.Building.{Building}
 use Rattle.building.specs.Places.{A, H}
 use Rattle.building.specs.Test.{among}
 use Rattle.building.proofs.Places.{among-yes}
+use Rattle.rules.specs.declared.Before.{Before}
 use Rattle.rules.specs.declared.FieldForm.the-variants.{Number, Mark}
 use Rattle.rules.specs.declared.Section.{Section}
 use Rattle.rules.specs.declared.Section.the-variants.{B, W, I, F}
 use Rattle.rules.specs.declared.Kind.{Kind}
 use Rattle.rules.specs.declared.Kind.the-variants.{Count, Entry}
-use Rattle.job.specs.Carried.{Carried, nothing}
+use Rattle.job.specs.Carried.{Carried, nothing, before}
 use Rattle.entry.specs.Says as say
 use Rattle.entry.specs.Says.{at}
 use Rattle.rules.specs.Form.{numberForms}
@@ -64,21 +64,21 @@ letter-form W = (omega arith, omega arith)
 letter-form I = (omega arith, omega arith)
 letter-form F = (omega arith, omega arith)
 
-line-form : (k : Kind) (g : Building) (x : List Field) → lineFault k g x ≡ 0 → LineInForm x
-line-form (Count s) g x z =
-    let t = count-says s g x z in
+line-form : (k : Kind) (b : Before) (x : List Field) → lineFault k b x ≡ 0 → LineInForm x
+line-form (Count s) b x z =
+    let t = count-says s b x z in
     subst LineInForm (sym (t .is)) (omega arith, (letter-form s, (omega (arith, t .counted .high, most-24 s), tt)))
-line-form (Entry B) g x z = some-number 5 (in-order (Entry B) g x z .formed)
-line-form (Entry W) g x z = some-number 1 (in-order (Entry W) g x z .formed)
-line-form (Entry I) g x z = some-number 0 (in-order (Entry I) g x z .formed)
-line-form (Entry F) g x z = let o = in-order (Entry F) g x z in face-form (o .formed) (o .none .0)
+line-form (Entry B) b x z = some-number 5 (in-order (Entry B) b x z .formed)
+line-form (Entry W) b x z = some-number 1 (in-order (Entry W) b x z .formed)
+line-form (Entry I) b x z = some-number 0 (in-order (Entry I) b x z .formed)
+line-form (Entry F) b x z = let o = in-order (Entry F) b x z in face-form (o .formed) (o .none .0)
 
 walk-form : (ks : List Kind) (c e : Carried) (line : ℕ) (xs : List (List Field)) → walk ks c line xs ≡ Accepted e
     → LinesInForm xs
 walk-form ks c e line [] a = tt
 walk-form [] c e line (x ∷ xs) a = absurd (accepted-no-more c e line x xs a)
 walk-form (k ∷ ks) c e line (x ∷ xs) a = (
-  line-form k (c .building) x (accepted-line k ks c line x xs a),
+  line-form k (before c) x (accepted-line k ks c line x xs a),
   walk-form (calls k x ++ ks) (learn k x c) e (line + 1) xs (accepted-next k ks c line x xs a),
 )
 

@@ -21,13 +21,14 @@ use Rattle.building.proofs.Accepted.{within, given-none}
 use Rattle.building.proofs.Machine.{is-same}
 use Rattle.building.proofs.Places.{among-yes, known-within}
 use Rattle.building.proofs.Ranges.{not-beyond, is-within, not-larger, is-small}
+use Rattle.rules.specs.declared.Before.{Before}
 use Rattle.rules.specs.declared.Section.{Section}
 use Rattle.rules.specs.declared.Section.the-variants.{B, W, I, F}
 use Rattle.rules.specs.declared.Kind.the-variants.{Entry}
 use Rattle.entry.specs.declared.Wind.{Wind}
 use Rattle.entry.specs.declared.Face.{Face}
-use Rattle.job.specs.Carried.{Carried}
-use Rattle.entry.specs.Says.{both, buildingOf, windOf, internalOf, faceOf}
+use Rattle.job.specs.Carried.{Carried, before}
+use Rattle.entry.specs.Says.{both, windOf, internalOf, faceOf}
 use Rattle.rules.specs.Faults.{windFaults, faceFaults}
 use Rattle.rules.specs.Sections.{about, lineFault}
 use Rattle.rules.proofs.Rising.{found-none}
@@ -36,8 +37,7 @@ use Rattle.entry_written.specs.Fields.{buildingFields, windFields, internalFiel
 use Rattle.job.specs.Lines.{entriesOf, linesOf}
 use Rattle.job.specs.Walk.{Accepted, readLines}
 use Rattle.job.specs.InOrder.{Within, WindInOrder, InternalInOrder, FaceInOrder, InOrder}
-use Rattle.job.proofs.Walk.{EntriesInOrder}
-use Rattle.job.proofs.Sheet.{saidBy, SheetInOrder, sheet-accepted, accepted-sheet}
+use Rattle.job.proofs.Sheet.{saidBy, SheetInOrder, in-order-all, all-in-order, sheet-accepted, accepted-sheet}
 use Rattle.job.proofs.Lines.{small-short, building-back}
 use Rattle.job.proofs.RoundTrip.{said-back}
 use Rattle.job.proofs.Written.{markTooLong, building-given, wind-given, internal-given, face-given}
@@ -47,23 +47,23 @@ use Rattle.job.proofs.Written.{markTooLong, building-given, wind-given,
 abbrev NoneFound : List Fault → Type 0
 NoneFound fs = Every (λ (f : Fault). f .found ≡ false) fs
 
-module _ (g : Building) where
-  wind-sound : (w : Wind) → NoneFound (windFaults g w) → WindInOrder g w
+module _ (b : Before) where
+  wind-sound : (w : Wind) → NoneFound (windFaults (b .building) w) → WindInOrder (b .building) w
   wind-sound w n =
       let t = not-beyond (pos 1) (pos 1000) (w .speed) (n .1 .0) in
       record { direction = not-false _ (n .0); least-speed = t .0; greatest-speed = t .1 }
 
-  pub wind-line : (x : List Field) → lineFault (Entry W) g x ≡ 0 → WindInOrder g (windOf x)
-  wind-line x z = wind-sound (windOf x) (in-order (Entry W) g x z .none)
+  pub wind-line : (x : List Field) → lineFault (Entry W) b x ≡ 0 → WindInOrder (b .building) (windOf x)
+  wind-line x z = wind-sound (windOf x) (in-order (Entry W) b x z .none)
 
-  pub internal-line : (x : List Field) → lineFault (Entry I) g x ≡ 0 → InternalInOrder (internalOf x)
-  internal-line x z = not-larger 100 (internalOf x) (in-order (Entry I) g x z .none .0)
+  pub internal-line : (x : List Field) → lineFault (Entry I) b x ≡ 0 → InternalInOrder (internalOf x)
+  internal-line x z = not-larger 100 (internalOf x) (in-order (Entry I) b x z .none .0)
 
-  wind-none : (w : Wind) → WindInOrder g w → NoneFound (windFaults g w)
+  wind-none : (w : Wind) → WindInOrder (b .building) w → NoneFound (windFaults (b .building) w)
   wind-none w o =
       (ap not (o .direction), (is-within (pos 1) (pos 1000) (w .speed) (o .least-speed) (o .greatest-speed), tt))
 
-  face-sound : (f : Face) → NoneFound (faceFaults g f) → FaceInOrder g f
+  face-sound : (f : Face) → NoneFound (faceFaults (b .building) f) → FaceInOrder (b .building) f
   face-sound f n =
       let t = among-yes A H (f .zone) (not-false _ (n .0)) in
       record {
@@ -77,14 +77,14 @@ module _ (g : Building) where
         z = not-larger 100000 (f .z) (n .1 .1 .1 .1 .0);
       }
 
-  pub face-line : (x : List Field) → lineFault (Entry F) g x ≡ 0 → FaceInOrder g (faceOf x)
-  face-line x z = face-sound (faceOf x) (in-order (Entry F) g x z .none)
+  pub face-line : (x : List Field) → lineFault (Entry F) b x ≡ 0 → FaceInOrder (b .building) (faceOf x)
+  face-line x z = face-sound (faceOf x) (in-order (Entry F) b x z .none)
 
-  marked : (z : ℤ) → (z ≡ both) ⊎ (knows (g .kind) z ≡ true) → not (is both z || knows (g .kind) z) ≡ false
+  marked : (z : ℤ) → (z ≡ both) ⊎ (knows (b .building .kind) z ≡ true) → not (is both z || knows (b .building .kind) z) ≡ false
   marked z (inl e) = rw e
   marked z (inr e) = by-test (is both z) (λ q. rw q) (λ q. rw (q, e))
 
-  face-none : (f : Face) → FaceInOrder g f → NoneFound (faceFaults g f)
+  face-none : (f : Face) → FaceInOrder (b .building) f → NoneFound (faceFaults (b .building) f)
   face-none f o = (
     rw (le-leb A (f .zone) (o .zone .low), le-leb (f .zone) H (o .zone .high)),
     (
@@ -100,25 +100,25 @@ counted-map : {A C : Type 0} {least most : ℕ} (f : A → C) (l : List A) → W
 counted-map f l w = rw (length-map l f) w
 
 module _ (es : Section → List (List Field)) (o : SheetInOrder es) where
-  abbrev g : Building
-  g = saidBy es .building
+  abbrev b : Before
+  b = before (saidBy es)
 
   all-said : {A : Type 0} (P : A → Type 0) (s : Section) (of : List Field → A)
-      → ((x : List Field) → lineFault (Entry s) g x ≡ 0 → P (of x)) → Every P (map of (es s))
-  all-said P s of said = map-every P of (es s) (every-by said (es s) (o .entries s))
+      → ((x : List Field) → lineFault (Entry s) b x ≡ 0 → P (of x)) → Every P (map of (es s))
+  all-said P s of said = map-every P of (es s) (every-by said (es s) (in-order-all es o s))
 
   said-in-order : InOrder (saidBy es)
   unfolding buildingFault
   said-in-order = record {
     building =
-        found-none (faults g)
-        (in-order (Entry B) g _ (every-at _ (es B) [] 0 (omega (arith, o .counted B .low)) (o .entries B)) .none);
+        found-none (faults (b .building))
+        (in-order (Entry B) b _ (every-at _ (es B) [] 0 (omega (arith, o .counted B .low)) (in-order-all es o B)) .none);
     winds-counted = counted-map windOf (es W) (o .counted W);
-    winds = all-said (WindInOrder g) W windOf (wind-line g);
+    winds = all-said (WindInOrder (b .building)) W windOf (wind-line b);
     internals-counted = counted-map internalOf (es I) (o .counted I);
-    internals = all-said InternalInOrder I internalOf (internal-line g);
+    internals = all-said InternalInOrder I internalOf (internal-line b);
     faces-counted = counted-map faceOf (es F) (o .counted F);
-    faces = all-said (FaceInOrder g) F faceOf (face-line g);
+    faces = all-said (FaceInOrder (b .building)) F faceOf (face-line b);
   }
 
 pub accepted-in-order : (xs : List (List Field)) (c : Carried) → readLines xs ≡ Accepted c → InOrder c
@@ -132,42 +132,43 @@ accepted-in-order xs c a =
 known-short : (kind z : ℤ) → knows kind z ≡ true → tooLong z ≡ false
 known-short kind z e = small-short z (omega (arith, known-within kind z e .to))
 
-module _ (g : Building) where
-  wind-entry : (w : Wind) → WindInOrder g w → lineFault (Entry W) g (windFields w) ≡ 0
+module _ (b : Before) where
+  wind-entry : (w : Wind) → WindInOrder (b .building) w → lineFault (Entry W) b (windFields w) ≡ 0
   wind-entry w o =
       let v =
       within 1 1000 (w .speed) (is-within (pos 1) (pos 1000) (w .speed) (o .least-speed) (o .greatest-speed)) in
-      wind-given g w
-      ∙ rw (known-short (g .kind) (w .direction) (o .direction), small-short (w .speed) (omega (arith, v .to)))
-      (found-none (windFaults g w) (wind-none g w o))
+      wind-given b w
+      ∙ rw (known-short (b .building .kind) (w .direction) (o .direction), small-short (w .speed) (omega (arith, v .to)))
+      (found-none (windFaults (b .building) w) (wind-none b w o))
 
-  internal-entry : (z : ℤ) → InternalInOrder z → lineFault (Entry I) g (internalFields z) ≡ 0
-  internal-entry z h = internal-given g z ∙ rw (small-short z (omega arith), is-small 100 z h)
+  internal-entry : (z : ℤ) → InternalInOrder z → lineFault (Entry I) b (internalFields z) ≡ 0
+  internal-entry z h = internal-given b z ∙ rw (small-short z (omega arith), is-small 100 z h)
 
-  mark-short : (z : ℤ) → (z ≡ both) ⊎ (knows (g .kind) z ≡ true) → markTooLong z ≡ false
+  mark-short : (z : ℤ) → (z ≡ both) ⊎ (knows (b .building .kind) z ≡ true) → markTooLong z ≡ false
   mark-short z (inl e) = rw e
-  mark-short z (inr e) = by-test (is both z) (λ q. rw q) (λ q. rw (q, known-short (g .kind) z e))
+  mark-short z (inr e) = by-test (is both z) (λ q. rw q) (λ q. rw (q, known-short (b .building .kind) z e))
 
-  face-entry : (f : Face) → FaceInOrder g f → lineFault (Entry F) g (faceFields f) ≡ 0
+  face-entry : (f : Face) → FaceInOrder (b .building) f → lineFault (Entry F) b (faceFields f) ≡ 0
   face-entry f o =
-      face-given g f
+      face-given b f
       ∙ rw (
         mark-short (f .mark) (o .mark),
         small-short (f .x) (omega (arith, o .x)),
         small-short (f .y) (omega (arith, o .y)),
         small-short (f .z) (omega (arith, o .z)),
       )
-      (found-none (faceFaults g f) (face-none g f o))
+      (found-none (faceFaults (b .building) f) (face-none b f o))
 
 module _ (c : Carried) (o : InOrder c) where
-  entries-in-order : (e : Building) → e ≡ c .building → (s : Section) → EntriesInOrder s e (entriesOf c s)
-  entries-in-order e q B = (sym (building-given (c .building) e) ∙ given-none (c .building) (o .building), tt)
-  entries-in-order e q W =
-      rw q (map-every _ windFields (c .winds) (every-by (wind-entry (c .building)) (c .winds) (o .winds)))
-  entries-in-order e q I =
-      map-every _ internalFields (c .internals) (every-by (internal-entry e) (c .internals) (o .internals))
-  entries-in-order e q F =
-      rw q (map-every _ faceFields (c .faces) (every-by (face-entry (c .building)) (c .faces) (o .faces)))
+  entry-in-order : (b : Before) → b ≡ before c → (s : Section)
+      → Every (λ x. lineFault (Entry s) b x ≡ 0) (entriesOf c s)
+  entry-in-order b q B = (sym (building-given (c .building) b) ∙ given-none (c .building) (o .building), tt)
+  entry-in-order b q W =
+      rw q (map-every _ windFields (c .winds) (every-by (wind-entry (before c)) (c .winds) (o .winds)))
+  entry-in-order b q I =
+      map-every _ internalFields (c .internals) (every-by (internal-entry b) (c .internals) (o .internals))
+  entry-in-order b q F =
+      rw q (map-every _ faceFields (c .faces) (every-by (face-entry (before c)) (c .faces) (o .faces)))
 
   counted : (s : Section) → Within (about s .least) (about s .most) (length (entriesOf c s))
   counted B = record { low = omega arith; high = omega arith }
@@ -178,10 +179,10 @@ module _ (c : Carried) (o : InOrder c) where
   sheet-sound : SheetInOrder (entriesOf c)
   sheet-sound =
       let g = c .building in
-      let q =
-      building-back g
-      (in-order (Entry B) g (buildingFields g) (sym (building-given g g) ∙ given-none g (o .building)) .formed) in
-      record { counted = counted; entries = entries-in-order (buildingOf (buildingFields g)) q }
+      let none = sym (building-given g (before c)) ∙ given-none g (o .building) in
+      let q = building-back g (in-order (Entry B) (before c) (buildingFields g) none .formed) in
+      all-in-order (entriesOf c) counted
+      (entry-in-order (before (saidBy (entriesOf c))) (ap (λ (h : Building). record { building = h }) q))
 
 pub in-order-accepted : (c : Carried) → InOrder c → readLines (linesOf c) ≡ Accepted c
 unfolding linesOf

@@ -17,7 +17,7 @@ use Rattle.entry_written.specs.Fields.{windFields, internalFields, faceFields}
 use Rattle.job.specs.Lines.{entriesOf, sheetOf, linesOf}
 use Rattle.job.specs.Walk.{Accepted, readLines, judged}
 use Rattle.rules.proofs.Form.{AllFormed}
-use Rattle.rules.proofs.Line.{in-order}
+use Rattle.job.proofs.Walk.{entries-formed}
 use Rattle.job.proofs.Sheet.{saidBy, SheetInOrder, sheet-in-order, sheet-said, accepted-sheet}
 use Rattle.job.proofs.Lines.{building-again, wind-again, internal-again, face-again, building-back, wind-back}
 use Rattle.job.proofs.Lines.{internal-back, face-back}
@@ -25,7 +25,7 @@ use Rattle.job.proofs.Lines.{internal-back, face-back}
 module _ (es : Section → List (List Field)) (o : SheetInOrder es) where
   -- the entries are in form
   says : (s : Section) → Every (AllFormed (forms (Entry s))) (es s)
-  says s = every-by (λ x z. in-order (Entry s) (saidBy es .building) x z .formed) (es s) (o .entries s)
+  says s = entries-formed s (es s) _ (o .entries s)
 
   -- ---- entries, read, and written again
 
@@ -54,13 +54,13 @@ accepted-lines xs c a =
 
 -- ---- values, written, and read again
 
-module _ (d : Carried) (o : SheetInOrder (entriesOf d)) where
-  all-back : {A : Type 0} (s : Section) (fields : A → List Field) (of : List Field → A)
-      → ((v : A) → AllFormed (forms (Entry s)) (fields v) → of (fields v) ≡ v)
-      → (l : List A) → Every (AllFormed (forms (Entry s))) (map fields l) → map of (map fields l) ≡ l
-  all-back s fields of back l a =
-      map-back fields of l (every-by back l (every-map (AllFormed (forms (Entry s))) fields l a))
+pub all-back : {A : Type 0} (s : Section) (fields : A → List Field) (of : List Field → A)
+    → ((v : A) → AllFormed (forms (Entry s)) (fields v) → of (fields v) ≡ v)
+    → (l : List A) → Every (AllFormed (forms (Entry s))) (map fields l) → map of (map fields l) ≡ l
+all-back s fields of back l a =
+    map-back fields of l (every-by back l (every-map (AllFormed (forms (Entry s))) fields l a))
 
+module _ (d : Carried) (o : SheetInOrder (entriesOf d)) where
   pub said-back : saidBy (entriesOf d) ≡ d
   said-back =
       λ i. record {

@@ -13,14 +13,14 @@ use Rattle.whole.proofs.Parts.{le-by}
 use Rattle.verdict.specs.Verdict.{refusal}
 use Rattle.field.specs.declared.Field.{Field}
 use Rattle.field.specs.declared.Field.the-variants.{Plus, Letter}
-use Rattle.building.specs.declared.Building.{Building}
 use Rattle.building.specs.Test.{beyond}
 use Rattle.building.proofs.Accepted.{within}
 use Rattle.building.proofs.Ranges.{is-within}
+use Rattle.rules.specs.declared.Before.{Before}
 use Rattle.rules.specs.declared.Section.{Section}
 use Rattle.rules.specs.declared.Kind.{Kind}
 use Rattle.rules.specs.declared.Kind.the-variants.{Count, Entry}
-use Rattle.job.specs.Carried.{Carried}
+use Rattle.job.specs.Carried.{Carried, before}
 use Rattle.entry.specs.Says as say
 use Rattle.entry.specs.Says.{number, at}
 use Rattle.rules.specs.Sections.{about, forms, lineFault}
@@ -41,12 +41,12 @@ Counted s n = Within (about s .least) (about s .most) n
 abbrev pub countLine : Section → ℕ → List Field
 countLine s n = Letter (about s .letter) ∷ Plus n ∷ []
 
-count-in-order : (s : Section) (g : Building) (n : ℕ) → Counted s n → lineFault (Count s) g (countLine s n) ≡ 0
-count-in-order s g n w =
+count-in-order : (s : Section) (b : Before) (n : ℕ) → Counted s n → lineFault (Count s) b (countLine s n) ≡ 0
+count-in-order s b n w =
     let l = about s .letter in
     let low : pos (about s .least) ≤ℤ pos n = le-by _ _ (omega (arith, w .low)) in
     let high : pos n ≤ℤ pos (about s .most) = le-by _ _ (omega (arith, w .high)) in
-    order-in (Count s) g (countLine s n)
+    order-in (Count s) b (countLine s n)
     (record {
       formed = more letter (more count none);
       none =
@@ -73,50 +73,50 @@ count-of s (more (letter {b = b}) (more (count-below {m = zero} p) none)) e h = 
 count-of s (more (letter {b = b}) (more (count-below {m = suc n} p) none)) e h =
     absurd (let q : _≡_ {A = ℕ} 0 1 = cc (within (about s .least) (about s .most) (negsuc n) h .plain) in omega arith)
 
-pub count-says : (s : Section) (g : Building) (x : List Field) → lineFault (Count s) g x ≡ 0 → CountLine s x
-count-says s g x z = let o = in-order (Count s) g x z in count-of s (o .formed) (o .none .0) (o .none .1 .0)
+pub count-says : (s : Section) (b : Before) (x : List Field) → lineFault (Count s) b x ≡ 0 → CountLine s x
+count-says s b x z = let o = in-order (Count s) b x z in count-of s (o .formed) (o .none .0) (o .none .1 .0)
 
-pub count-counted : (s : Section) (g : Building) (n : ℕ) → lineFault (Count s) g (countLine s n) ≡ 0 → Counted s n
-count-counted s g n z =
-    let t = count-says s g (countLine s n) z in
+pub count-counted : (s : Section) (b : Before) (n : ℕ) → lineFault (Count s) b (countLine s n) ≡ 0 → Counted s n
+count-counted s b n z =
+    let t = count-says s b (countLine s n) z in
     let e : n ≡ t .count = cc (t .is) in
     subst (Counted s) (sym e) (t .counted)
 
 -- ---- a section
 
 module _ (s : Section) (ks : List Kind) (c : Carried) (line : ℕ) where
-  pub section-walk : (xs rest : List (List Field)) → Counted s (length xs) → EntriesInOrder s (c .building) xs
+  pub section-walk : (xs rest : List (List Field)) → Counted s (length xs) → EntriesInOrder s c xs
       → walk (Count s ∷ ks) c line (sectionOf s xs ++ rest) ≡ walk ks (learnAll s xs c) (line + 1 + length xs) rest
   section-walk xs rest w h =
       walk-on (Count s) ks c line (countLine s (length xs)) (xs ++ rest)
-      (count-in-order s (c .building) (length xs) w)
-      ∙ entries-walk s ks (c .building) xs rest c (line + 1) (λ x. refl) h
+      (count-in-order s (before c) (length xs) w)
+      ∙ entries-walk s ks xs rest c (line + 1) h
 
   -- refused at its count, or at the first entry that is not in order
   pub count-refused : (xs rest : List (List Field))
-      → (lineFault (Count s) (c .building) (countLine s (length xs)) ≡ 0 → ⊥)
+      → (lineFault (Count s) (before c) (countLine s (length xs)) ≡ 0 → ⊥)
       → walk (Count s ∷ ks) c line (sectionOf s xs ++ rest) ≡ Refused
-      (refusal (lineFault (Count s) (c .building) (countLine s (length xs))) line)
+      (refusal (lineFault (Count s) (before c) (countLine s (length xs))) line)
   count-refused xs rest z = walk-refused (Count s) ks c line (countLine s (length xs)) (xs ++ rest) z
 
   pub section-refused : (xs rest : List (List Field)) (i : ℕ) → Counted s (length xs) → i < length xs
-      → EntriesInOrder s (c .building) (take i xs)
-      → (lineFault (Entry s) (c .building) (getD xs i []) ≡ 0 → ⊥)
+      → EntriesInOrder s c (take i xs)
+      → (lineFault (Entry s) (before (learnAll s (take i xs) c)) (getD xs i []) ≡ 0 → ⊥)
       → walk (Count s ∷ ks) c line (sectionOf s xs ++ rest) ≡ Refused
-      (refusal (lineFault (Entry s) (c .building) (getD xs i [])) (line + 1 + i))
+      (refusal (lineFault (Entry s) (before (learnAll s (take i xs) c)) (getD xs i [])) (line + 1 + i))
   section-refused xs rest i w n h z =
       walk-on (Count s) ks c line (countLine s (length xs)) (xs ++ rest)
-      (count-in-order s (c .building) (length xs) w)
-      ∙ entries-refused s ks (c .building) xs rest i c (line + 1) (λ x. refl) n h z
+      (count-in-order s (before c) (length xs) w)
+      ∙ entries-refused s ks xs rest i c (line + 1) n h z
 
   module _ (e : Carried) where
     pub section-in-order : (xs rest : List (List Field))
         → walk (Count s ∷ ks) c line (sectionOf s xs ++ rest) ≡ Accepted e
-        → Counted s (length xs) × EntriesInOrder s (c .building) xs
+        → Counted s (length xs) × EntriesInOrder s c xs
     section-in-order xs rest a =
         let x = countLine s (length xs) in (
-          count-counted s (c .building) (length xs) (accepted-line (Count s) ks c line x (xs ++ rest) a),
-          entries-in-order s ks (c .building) xs rest c e (line + 1) (λ y. refl)
+          count-counted s (before c) (length xs) (accepted-line (Count s) ks c line x (xs ++ rest) a),
+          entries-in-order s ks xs rest c e (line + 1)
               (accepted-next (Count s) ks c line x (xs ++ rest) a),
         )
 
@@ -129,7 +129,7 @@ module _ (s : Section) (ks : List Kind) (c : Carried) (line : ℕ) where
     section-there : (xs : List (List Field)) → walk (Count s ∷ ks) c line xs ≡ Accepted e → Begun xs
     section-there [] a = absurd (accepted-some (Count s) ks c e line a)
     section-there (x ∷ xs) a =
-        let t = count-says s (c .building) x (accepted-line (Count s) ks c line x xs a) in
+        let t = count-says s (before c) x (accepted-line (Count s) ks c line x xs a) in
         let b : walk (entries s (t .count) ++ ks) c (line + 1) xs ≡ Accepted e =
         rw (t .is) at (accepted-next (Count s) ks c line x xs a) in
         let u = entries-there s ks (t .count) c e (line + 1) xs b in

@@ -1,50 +1,55 @@
--- Lines are accepted exactly if they are the four sections, each in order; what is read is then what the entries say.
--- Else the answer is at the first count or entry that is not in order.
-use Prim.Native.Nat.{ℕ, zero, suc, _+_, _<_}
+-- Lines are accepted exactly if they are the sections of a sheet, each in order; what is read is then what their
+-- entries say.
+use Prim.Native.Nat.{ℕ, zero, suc, _+_}
 use mathlib.Core.Path.{_≡_, refl, ap, _∙_, sym, subst}
 use mathlib.Core.List.{List, [], _∷_, _++_, map, append-assoc, append-nil}
 use native.Mathlib.Omega.{arith}
-use lib.ListN.{length, getD, take, drop}
+use lib.ListN.{length, getD, take}
+use Rattle.whole.specs.Lists.{Every}
 use Rattle.whole.proofs.Lists.{every-by, only-one}
-use Rattle.verdict.specs.Verdict.{refusal}
 use Rattle.field.specs.declared.Field.{Field}
 use Rattle.rules.specs.declared.Section.{Section}
 use Rattle.rules.specs.declared.Section.the-variants.{B, W, I, F}
-use Rattle.rules.specs.declared.Kind.{Kind}
 use Rattle.rules.specs.declared.Kind.the-variants.{Count, Entry}
-use Rattle.job.specs.Carried.{Carried, nothing}
+use Rattle.rules.specs.Sections.{sections, lineFault}
 use Rattle.entry.specs.Says.{buildingOf, windOf, internalOf, faceOf}
-use Rattle.rules.specs.Sections.{lineFault}
-use Rattle.job.specs.Lines.{sections, sectionOf, sectionsOf, sheetOf}
-use Rattle.job.specs.Walk.{entries, learn, Accepted, Refused, walk, readLines}
-use Rattle.job.proofs.Sections.{Counted, section-refused, section-walk, section-in-order, section-begun}
-use Rattle.job.proofs.Walk.{accepted-end, learnAll, EntriesInOrder}
+use Rattle.job.specs.Carried.{Carried, nothing, before}
+use Rattle.job.specs.Lines.{sectionOf, sectionsOf, sheetOf}
+use Rattle.job.specs.Walk.{learn, Accepted, walk, readLines}
+use Rattle.job.proofs.Sections.{Counted, section-walk, section-in-order, section-begun}
+use Rattle.job.proofs.Walk.{accepted-end, learnAll, EntriesInOrder, entries-every, every-entry}
 
-pub by-section : (P : Section → Type 0) → P B → P W → P I → P F → (s : Section) → P s
-by-section P b w i f B = b
-by-section P b w i f W = w
-by-section P b w i f I = i
-by-section P b w i f F = f
+-- ---- what a section adds to what was read before it
 
--- how many sections stand before one
-abbrev earlier : Section → ℕ
-earlier B = 0
-earlier W = 1
-earlier I = 2
-earlier F = 3
-
--- what the entries of the sections say
-abbrev pub saidBy : (Section → List (List Field)) → Carried
-saidBy es = record {
-  building = buildingOf (getD (es B) 0 []);
-  winds = map windOf (es W);
-  internals = map internalOf (es I);
-  faces = map faceOf (es F);
-}
-
-pub record SheetInOrder (es : Section → List (List Field)) : Type 0 where
-  pub counted : (s : Section) → Counted s (length (es s))
-  pub entries : (s : Section) → EntriesInOrder s (saidBy es .building) (es s)
+abbrev pub gained : Section → List (List Field) → Carried → Carried
+gained B xs c =
+    record {
+      building = buildingOf (getD xs 0 []);
+      winds = c .winds;
+      internals = c .internals;
+      faces = c .faces;
+    }
+gained W xs c =
+    record {
+      building = c .building;
+      winds = c .winds ++ map windOf xs;
+      internals = c .internals;
+      faces = c .faces;
+    }
+gained I xs c =
+    record {
+      building = c .building;
+      winds = c .winds;
+      internals = c .internals ++ map internalOf xs;
+      faces = c .faces;
+    }
+gained F xs c =
+    record {
+      building = c .building;
+      winds = c .winds;
+      internals = c .internals;
+      faces = c .faces ++ map faceOf xs;
+    }
 
 -- entries are learned one after the other, at the end of the list that they make
 learn-list : {A : Type 0} (s : Section) (of : List Field → A) (put : List A → Carried)
@@ -54,125 +59,140 @@ learn-list s of put step l [] = ap put (sym (append-nil l))
 learn-list s of put step l (x ∷ xs) =
     rw (step l x) (learn-list s of put step (l ++ (of x ∷ [])) xs ∙ ap put (append-assoc l (of x ∷ []) (map of xs)))
 
+pub section-learned : (s : Section) (xs : List (List Field)) (c : Carried) → Counted s (length xs)
+    → learnAll s xs c ≡ gained s xs c
+section-learned B xs c w =
+    ap (λ (ys : List (List Field)). learnAll B ys c) (only-one xs [] (omega (arith, w .low, w .high)))
+section-learned W xs c w =
+    learn-list W windOf
+    (λ l. record { building = c .building; winds = l; internals = c .internals; faces = c .faces }) (λ l x. refl)
+    (c .winds) xs
+section-learned I xs c w =
+    learn-list I internalOf
+    (λ l. record { building = c .building; winds = c .winds; internals = l; faces = c .faces }) (λ l x. refl)
+    (c .internals) xs
+section-learned F xs c w =
+    learn-list F faceOf
+    (λ l. record { building = c .building; winds = c .winds; internals = c .internals; faces = l }) (λ l x. refl)
+    (c .faces) xs
+
+-- ---- sections, one after the other
+
+-- how many sections stand before one
+abbrev earlier : Section → ℕ
+earlier B = 0
+earlier W = 1
+earlier I = 2
+earlier F = 3
+
 module _ (es : Section → List (List Field)) where
-  -- what is known before a section and after it
-  abbrev pub before : Section → Carried
-  before B = nothing
-  before W = record { building = saidBy es .building; winds = []; internals = []; faces = [] }
-  before I = record { building = saidBy es .building; winds = map windOf (es W); internals = []; faces = [] }
-  before F =
-      record {
-        building = saidBy es .building;
-        winds = map windOf (es W);
-        internals = map internalOf (es I);
-        faces = [];
-      }
+  abbrev gainedAll : List Section → Carried → Carried
+  gainedAll [] c = c
+  gainedAll (s ∷ ss) c = gainedAll ss (gained s (es s) c)
 
-  abbrev pub after : Section → Carried
-  after B = before W
-  after W = before I
-  after I = before F
-  after F = saidBy es
+  abbrev SectionsInOrder : List Section → Carried → Type 0
+  SectionsInOrder [] c = Unit
+  SectionsInOrder (s ∷ ss) c =
+      Counted s (length (es s)) × EntriesInOrder s c (es s) × SectionsInOrder ss (gained s (es s) c)
 
-  section-learned : (s : Section) → Counted s (length (es s)) → learnAll s (es s) (before s) ≡ after s
-  section-learned B w =
-      ap (λ (xs : List (List Field)). learnAll B xs nothing) (only-one (es B) [] (omega (arith, w .low, w .high)))
-  section-learned W w =
-      learn-list W windOf (λ l. record { building = saidBy es .building; winds = l; internals = []; faces = [] })
-      (λ l x. refl) [] (es W)
-  section-learned I w =
-      learn-list I internalOf
-      (λ l. record { building = saidBy es .building; winds = map windOf (es W); internals = l; faces = [] })
-      (λ l x. refl) [] (es I)
-  section-learned F w =
-      learn-list F faceOf
-      (λ l. record { building = saidBy es .building; winds = map windOf (es W); internals = map internalOf (es I); faces = l })
-      (λ l x. refl) [] (es F)
+  -- a section in order, and what is called for behind it
+  pub section-passed : (s : Section) (ss : List Section) (c : Carried) (line : ℕ) → Counted s (length (es s))
+      → EntriesInOrder s c (es s)
+      → walk (map Count (s ∷ ss)) c line (sectionsOf es (s ∷ ss)) ≡ walk (map Count ss) (gained s (es s) c)
+      (line + 1 + length (es s)) (sectionsOf es ss)
+  section-passed s ss c line w h =
+      section-walk s (map Count ss) c line (es s) (sectionsOf es ss) w h
+      ∙ ap (λ (d : Carried). walk (map Count ss) d (line + 1 + length (es s)) (sectionsOf es ss))
+      (section-learned s (es s) c w)
 
-  -- the building's line is judged by itself
-  pub section-judged : (s : Section) (x : List Field)
-      → lineFault (Entry s) (before s .building) x ≡ lineFault (Entry s) (saidBy es .building) x
-  unfolding lineFault
-  section-judged B x = refl
-  section-judged W x = refl
-  section-judged I x = refl
-  section-judged F x = refl
-
-  -- what is called for behind a section, the lines that stand there, and the number of the section's first line
-  abbrev pub later : Section → List Kind
-  later s = map Count (drop (suc (earlier s)) sections)
-
-  abbrev pub behind : Section → List (List Field)
-  behind s = sectionsOf es (drop (suc (earlier s)) sections)
-
-  abbrev lineAfter : List Section → ℕ → ℕ
-  lineAfter [] line = line
-  lineAfter (s ∷ ss) line = lineAfter ss (line + 1 + length (es s))
-
-  abbrev pub lineOf : Section → ℕ
-  lineOf s = lineAfter (take (earlier s) sections) 1
-
-  -- the walk has come to a section, and to its end
-  abbrev pub Reached : Section → Type 0
-  Reached s = readLines (sheetOf es) ≡ walk (Count s ∷ later s) (before s) (lineOf s) (sectionOf s (es s) ++ behind s)
-
-  abbrev pub Passed : Section → Type 0
-  Passed s = readLines (sheetOf es) ≡ walk (later s) (after s) (lineOf s + 1 + length (es s)) (behind s)
-
-  pub reached-first : Reached B
-  unfolding readLines
-  reached-first = refl
-
-  -- `passed B` reaches W, `passed W` reaches I, and `passed I` reaches F
-  pub passed : (s : Section) → Reached s → Counted s (length (es s)) → EntriesInOrder s (saidBy es .building) (es s)
-      → Passed s
-  passed s r w h =
-      r
-      ∙ section-walk s (later s) (before s) (lineOf s) (es s) (behind s) w
-      (every-by (λ x e. section-judged s x ∙ e) (es s) h)
-      ∙ ap (λ (c : Carried). walk (later s) c (lineOf s + 1 + length (es s)) (behind s)) (section-learned s w)
-
-  pub passed-last : Passed F → readLines (sheetOf es) ≡ Accepted (saidBy es)
+  sections-accepted : (ss : List Section) (c : Carried) (line : ℕ) → SectionsInOrder ss c
+      → walk (map Count ss) c line (sectionsOf es ss) ≡ Accepted (gainedAll ss c)
   unfolding walk
-  passed-last p = p
+  sections-accepted [] c line o = refl
+  sections-accepted (s ∷ ss) c line o =
+      section-passed s ss c line (o .0) (o .1)
+      ∙ sections-accepted ss (gained s (es s) c) (line + 1 + length (es s)) (o .2)
 
-  pub sheet-accepted : SheetInOrder es → readLines (sheetOf es) ≡ Accepted (saidBy es)
-  sheet-accepted o = passed-last (on F (on I (on W (on B reached-first))))
+  sections-in-order : (ss : List Section) (c e : Carried) (line : ℕ)
+      → walk (map Count ss) c line (sectionsOf es ss) ≡ Accepted e → SectionsInOrder ss c
+  sections-in-order [] c e line a = tt
+  sections-in-order (s ∷ ss) c e line a =
+      let t = section-in-order s (map Count ss) c line e (es s) (sectionsOf es ss) a in (
+        t .0,
+        t .1,
+        sections-in-order ss (gained s (es s) c) e (line + 1 + length (es s))
+            (sym (section-passed s ss c line (t .0) (t .1)) ∙ a),
+      )
+
+  -- ---- the sections of a sheet
+
+  -- what the entries say
+  abbrev pub saidBy : Carried
+  saidBy = record {
+    building = buildingOf (getD (es B) 0 []);
+    winds = map windOf (es W);
+    internals = map internalOf (es I);
+    faces = map faceOf (es F);
+  }
+
+  -- what those before a section say
+  abbrev readBefore : Section → Carried
+  readBefore s = gainedAll (take (earlier s) sections) nothing
+
+  pub record SheetInOrder : Type 0 where
+    pub counted : (s : Section) → Counted s (length (es s))
+    pub entries : (s : Section) → EntriesInOrder s (readBefore s) (es s)
+
+  pub sheet-accepted : SheetInOrder → readLines (sheetOf es) ≡ Accepted saidBy
+  unfolding readLines
+  sheet-accepted o =
+      sections-accepted sections nothing 1 (
+        o .counted B,
+        o .entries B,
+        (o .counted W, o .entries W, (o .counted I, o .entries I, (o .counted F, o .entries F, tt))),
+      )
+
+  pub sheet-in-order : (e : Carried) → readLines (sheetOf es) ≡ Accepted e → SheetInOrder
+  unfolding readLines
+  sheet-in-order e a = record { counted = counted-in o; entries = entries-in o }
     where
-      on : (s : Section) → Reached s → Passed s
-      on s r = passed s r (o .counted s) (o .entries s)
+      o : SectionsInOrder sections nothing
+      o = sections-in-order sections nothing e 1 a
 
-  pub sheet-in-order : (e : Carried) → readLines (sheetOf es) ≡ Accepted e → SheetInOrder es
-  sheet-in-order e a =
-      let b = here B reached-first in
-      let at-w = passed B reached-first (b .0) (b .1) in
-      let w = here W at-w in
-      let at-i = passed W at-w (w .0) (w .1) in
-      let i = here I at-i in
-      let f = here F (passed I at-i (i .0) (i .1)) in
-      record {
-        counted = by-section (λ s. Counted s (length (es s))) (b .0) (w .0) (i .0) (f .0);
-        entries = by-section (λ s. EntriesInOrder s (saidBy es .building) (es s)) (b .1) (w .1) (i .1) (f .1);
-      }
+      counted-in : SectionsInOrder sections nothing → (s : Section) → Counted s (length (es s))
+      counted-in o B = o .0
+      counted-in o W = o .2 .0
+      counted-in o I = o .2 .2 .0
+      counted-in o F = o .2 .2 .2 .0
+
+      entries-in : SectionsInOrder sections nothing → (s : Section) → EntriesInOrder s (readBefore s) (es s)
+      entries-in o B = o .1
+      entries-in o W = o .2 .1
+      entries-in o I = o .2 .2 .1
+      entries-in o F = o .2 .2 .2 .1
+
+  -- the sections behind tell one nothing, and the building's line is judged by itself
+  behind-tell : (s : Section) (x : List Field)
+      → lineFault (Entry s) (before (readBefore s)) x ≡ lineFault (Entry s) (before saidBy) x
+  unfolding lineFault
+  behind-tell B x = refl
+  behind-tell W x = refl
+  behind-tell I x = refl
+  behind-tell F x = refl
+
+  -- so each entry is in order by all that is said
+  abbrev pub AllInOrder : Section → Type 0
+  AllInOrder s = Every (λ x. lineFault (Entry s) (before saidBy) x ≡ 0) (es s)
+
+  pub in-order-all : SheetInOrder → (s : Section) → AllInOrder s
+  in-order-all o s =
+      every-by (λ x e. sym (behind-tell s x) ∙ e) (es s) (entries-every s (es s) (readBefore s) (o .entries s))
+
+  pub all-in-order : ((s : Section) → Counted s (length (es s))) → ((s : Section) → AllInOrder s) → SheetInOrder
+  all-in-order w h = record { counted = w; entries = at }
     where
-      here : (s : Section) → Reached s → Counted s (length (es s)) × EntriesInOrder s (saidBy es .building) (es s)
-      here s r =
-          let t = section-in-order s (later s) (before s) (lineOf s) e (es s) (behind s) (sym r ∙ a) in
-          (t .0, every-by (λ x q. sym (section-judged s x) ∙ q) (es s) (t .1))
-
-  -- the first line that is not in order: the count of a section that was reached, or an entry of it
-  module _ (s : Section) (r : Reached s) where
-    pub sheet-refused : (i : ℕ) → Counted s (length (es s)) → i < length (es s)
-        → EntriesInOrder s (saidBy es .building) (take i (es s))
-        → (lineFault (Entry s) (saidBy es .building) (getD (es s) i []) ≡ 0 → ⊥)
-        → readLines (sheetOf es) ≡ Refused
-        (refusal (lineFault (Entry s) (saidBy es .building) (getD (es s) i [])) (lineOf s + 1 + i))
-    sheet-refused i w n h z =
-        let x = getD (es s) i [] in
-        r
-        ∙ section-refused s (later s) (before s) (lineOf s) (es s) (behind s) i w n
-        (every-by (λ y e. section-judged s y ∙ e) (take i (es s)) h) (λ e. z (sym (section-judged s x) ∙ e))
-        ∙ ap (λ (f : ℕ). Refused (refusal f (lineOf s + 1 + i))) (section-judged s x)
+      at : (s : Section) → EntriesInOrder s (readBefore s) (es s)
+      at s = every-entry s (es s) (readBefore s) (every-by (λ x e. behind-tell s x ∙ e) (es s) (h s))
 
 -- ---- lines that are accepted are some sections
 

@@ -8,34 +8,36 @@ use lib.ListN.{length, getD, take}
 use lib.Dec.{eqb}
 use borrow.Author.Tests.{eq-eqb, ne-eqb, eqb-true, eqb-false}
 use Rattle.whole.specs.Lists.{Every}
+use Rattle.whole.proofs.Lists.{every-by}
 use Rattle.whole.proofs.Tests.{by-test}
 use Rattle.verdict.specs.Verdict.{refusal}
 use Rattle.field.specs.declared.Field.{Field}
-use Rattle.building.specs.declared.Building.{Building}
 use Rattle.rules.specs.declared.Section.{Section}
 use Rattle.rules.specs.declared.Section.the-variants.{B, W, I, F}
 use Rattle.rules.specs.declared.Kind.{Kind}
 use Rattle.rules.specs.declared.Kind.the-variants.{Entry}
-use Rattle.job.specs.Carried.{Carried}
-use Rattle.rules.specs.Sections.{lineFault}
+use Rattle.job.specs.Carried.{Carried, before}
+use Rattle.rules.specs.Sections.{forms, lineFault}
+use Rattle.rules.proofs.Form.{AllFormed}
+use Rattle.rules.proofs.Line.{in-order}
 use Rattle.job.specs.Walk.{entries, calls, learn, Accepted, Refused, walk}
 
 -- ---- one line
 
 module _ (k : Kind) (ks : List Kind) (c : Carried) (line : ℕ) (x : List Field) (xs : List (List Field)) where
-  pub walk-refused : (lineFault k (c .building) x ≡ 0 → ⊥)
-      → walk (k ∷ ks) c line (x ∷ xs) ≡ Refused (refusal (lineFault k (c .building) x) line)
+  pub walk-refused : (lineFault k (before c) x ≡ 0 → ⊥)
+      → walk (k ∷ ks) c line (x ∷ xs) ≡ Refused (refusal (lineFault k (before c) x) line)
   unfolding walk
   walk-refused h = rw (ne-eqb _ _ h)
 
-  pub walk-on : lineFault k (c .building) x ≡ 0
+  pub walk-on : lineFault k (before c) x ≡ 0
       → walk (k ∷ ks) c line (x ∷ xs) ≡ walk (calls k x ++ ks) (learn k x c) (line + 1) xs
   unfolding walk
   walk-on h = rw (eq-eqb _ _ h)
 
-  pub accepted-line : {e : Carried} → walk (k ∷ ks) c line (x ∷ xs) ≡ Accepted e → lineFault k (c .building) x ≡ 0
+  pub accepted-line : {e : Carried} → walk (k ∷ ks) c line (x ∷ xs) ≡ Accepted e → lineFault k (before c) x ≡ 0
   accepted-line {e} a =
-      by-test (eqb (lineFault k (c .building) x) 0) (λ q. eqb-true _ _ q)
+      by-test (eqb (lineFault k (before c) x) 0) (λ q. eqb-true _ _ q)
       (λ q. absurd (let z : _≡_ {A = ℕ} 0 1 = cc (walk-refused (eqb-false _ _ q)) in omega arith))
 
   pub accepted-next : {e : Carried} → walk (k ∷ ks) c line (x ∷ xs) ≡ Accepted e
@@ -61,58 +63,93 @@ abbrev pub learnAll : Section → List (List Field) → Carried → Carried
 learnAll s [] c = c
 learnAll s (x ∷ xs) c = learnAll s xs (learn (Entry s) x c)
 
--- lines in order as entries of a section
-abbrev pub EntriesInOrder : Section → Building → List (List Field) → Type 0
-EntriesInOrder s g xs = Every (λ x. lineFault (Entry s) g x ≡ 0) xs
+-- lines in order as entries of a section, each by what was read before it
+abbrev pub EntriesInOrder : Section → Carried → List (List Field) → Type 0
+EntriesInOrder s c [] = Unit
+EntriesInOrder s c (x ∷ xs) = (lineFault (Entry s) (before c) x ≡ 0) × EntriesInOrder s (learn (Entry s) x c) xs
 
--- what is known judges the entries of a section as this building does
-abbrev pub JudgesAs : Section → Building → Carried → Type 0
-JudgesAs s g c = (x : List Field) → lineFault (Entry s) (c .building) x ≡ lineFault (Entry s) g x
-
--- entries change nothing that entries after them are judged by: a building's line is judged by itself
-pub entry-judges : (s : Section) (g : Building) (c : Carried) (y : List Field) → JudgesAs s g c
-    → JudgesAs s g (learn (Entry s) y c)
-unfolding lineFault
-entry-judges B g c y same x = same x
-entry-judges W g c y same x = same x
-entry-judges I g c y same x = same x
-entry-judges F g c y same x = same x
-
-module _ (s : Section) (ks : List Kind) (g : Building) where
-  pub entries-walk : (xs rest : List (List Field)) (c : Carried) (line : ℕ) → JudgesAs s g c → EntriesInOrder s g xs
+module _ (s : Section) (ks : List Kind) where
+  pub entries-walk : (xs rest : List (List Field)) (c : Carried) (line : ℕ) → EntriesInOrder s c xs
       → walk (entries s (length xs) ++ ks) c line (xs ++ rest) ≡ walk ks (learnAll s xs c) (line + length xs) rest
-  entries-walk [] rest c line same h = rw add-zero
-  entries-walk (x ∷ xs) rest c line same h =
+  entries-walk [] rest c line h = rw add-zero
+  entries-walk (x ∷ xs) rest c line h =
       let l : line + 1 + length xs ≡ line + suc (length xs) = omega arith in
-      walk-on (Entry s) (entries s (length xs) ++ ks) c line x (xs ++ rest) (same x ∙ h .0)
-      ∙ entries-walk xs rest (learn (Entry s) x c) (line + 1) (entry-judges s g c x same) (h .1)
+      walk-on (Entry s) (entries s (length xs) ++ ks) c line x (xs ++ rest) (h .0)
+      ∙ entries-walk xs rest (learn (Entry s) x c) (line + 1) (h .1)
       ∙ ap (λ (n : ℕ). walk ks (learnAll s (x ∷ xs) c) n rest) l
 
-  pub entries-in-order : (xs rest : List (List Field)) (c e : Carried) (line : ℕ) → JudgesAs s g c
-      → walk (entries s (length xs) ++ ks) c line (xs ++ rest) ≡ Accepted e → EntriesInOrder s g xs
-  entries-in-order [] rest c e line same a = tt
-  entries-in-order (x ∷ xs) rest c e line same a =
+  pub entries-in-order : (xs rest : List (List Field)) (c e : Carried) (line : ℕ)
+      → walk (entries s (length xs) ++ ks) c line (xs ++ rest) ≡ Accepted e → EntriesInOrder s c xs
+  entries-in-order [] rest c e line a = tt
+  entries-in-order (x ∷ xs) rest c e line a =
       let ls = entries s (length xs) ++ ks in (
-        sym (same x) ∙ accepted-line (Entry s) ls c line x (xs ++ rest) a,
-        entries-in-order xs rest (learn (Entry s) x c) e (line + 1) (entry-judges s g c x same)
+        accepted-line (Entry s) ls c line x (xs ++ rest) a,
+        entries-in-order xs rest (learn (Entry s) x c) e (line + 1)
             (accepted-next (Entry s) ls c line x (xs ++ rest) a),
       )
 
   -- the first entry that is not in order
-  pub entries-refused : (xs rest : List (List Field)) (i : ℕ) (c : Carried) (line : ℕ) → JudgesAs s g c
-      → i < length xs → EntriesInOrder s g (take i xs)
-      → (lineFault (Entry s) g (getD xs i []) ≡ 0 → ⊥)
+  pub entries-refused : (xs rest : List (List Field)) (i : ℕ) (c : Carried) (line : ℕ) → i < length xs
+      → EntriesInOrder s c (take i xs)
+      → (lineFault (Entry s) (before (learnAll s (take i xs) c)) (getD xs i []) ≡ 0 → ⊥)
       → walk (entries s (length xs) ++ ks) c line (xs ++ rest) ≡ Refused
-      (refusal (lineFault (Entry s) g (getD xs i [])) (line + i))
-  entries-refused [] rest i c line same n h z = absurd (omega arith)
-  entries-refused (x ∷ xs) rest zero c line same n h z =
-      walk-refused (Entry s) (entries s (length xs) ++ ks) c line x (xs ++ rest) (λ e. z (sym (same x) ∙ e))
-      ∙ rw (same x, add-zero)
-  entries-refused (x ∷ xs) rest (suc i) c line same n h z =
+      (refusal (lineFault (Entry s) (before (learnAll s (take i xs) c)) (getD xs i [])) (line + i))
+  entries-refused [] rest i c line n h z = absurd (omega arith)
+  entries-refused (x ∷ xs) rest zero c line n h z =
+      walk-refused (Entry s) (entries s (length xs) ++ ks) c line x (xs ++ rest) z ∙ rw add-zero
+  entries-refused (x ∷ xs) rest (suc i) c line n h z =
+      let d = learn (Entry s) x c in
       let l : line + 1 + i ≡ line + suc i = omega arith in
-      walk-on (Entry s) (entries s (length xs) ++ ks) c line x (xs ++ rest) (same x ∙ h .0)
-      ∙ entries-refused xs rest i (learn (Entry s) x c) (line + 1) (entry-judges s g c x same) (omega arith) (h .1) z
-      ∙ ap (λ (m : ℕ). Refused (refusal (lineFault (Entry s) g (getD xs i [])) m)) l
+      walk-on (Entry s) (entries s (length xs) ++ ks) c line x (xs ++ rest) (h .0)
+      ∙ entries-refused xs rest i d (line + 1) (omega arith) (h .1) z
+      ∙ ap (λ (m : ℕ). Refused (refusal (lineFault (Entry s) (before (learnAll s (take i xs) d)) (getD xs i [])) m)) l
+
+module _ (s : Section) where
+  -- one entry more that is
+  pub entries-next : (xs : List (List Field)) (i : ℕ) (c : Carried) → i < length xs
+      → EntriesInOrder s c (take i xs)
+      → lineFault (Entry s) (before (learnAll s (take i xs) c)) (getD xs i []) ≡ 0
+      → EntriesInOrder s c (take (suc i) xs)
+  entries-next [] i c n h z = absurd (omega arith)
+  entries-next (x ∷ xs) zero c n h z = (z, tt)
+  entries-next (x ∷ xs) (suc i) c n h z = (h .0, entries-next xs i (learn (Entry s) x c) (omega arith) (h .1) z)
+
+-- entries in order are in form
+pub entries-formed : (s : Section) (xs : List (List Field)) (c : Carried) → EntriesInOrder s c xs
+    → Every (AllFormed (forms (Entry s))) xs
+entries-formed s [] c h = tt
+entries-formed s (x ∷ xs) c h =
+    (in-order (Entry s) (before c) x (h .0) .formed, entries-formed s xs (learn (Entry s) x c) (h .1))
+
+-- ---- what the entries of a section tell each other
+
+-- nothing: a building's line is judged by itself, and the others by the building
+entry-tells : (s : Section) (y : List Field) (c : Carried) (x : List Field)
+    → lineFault (Entry s) (before (learn (Entry s) y c)) x ≡ lineFault (Entry s) (before c) x
+unfolding lineFault
+entry-tells B y c x = refl
+entry-tells W y c x = refl
+entry-tells I y c x = refl
+entry-tells F y c x = refl
+
+module _ (s : Section) where
+  pub entries-tell : (ys : List (List Field)) (c : Carried) (x : List Field)
+      → lineFault (Entry s) (before (learnAll s ys c)) x ≡ lineFault (Entry s) (before c) x
+  entries-tell [] c x = refl
+  entries-tell (y ∷ ys) c x = entries-tell ys (learn (Entry s) y c) x ∙ entry-tells s y c x
+
+  -- so each of them is in order by what was read before all
+  pub entries-every : (xs : List (List Field)) (c : Carried) → EntriesInOrder s c xs
+      → Every (λ x. lineFault (Entry s) (before c) x ≡ 0) xs
+  entries-every [] c h = tt
+  entries-every (x ∷ xs) c h =
+      (h .0, every-by (λ y e. sym (entry-tells s x c y) ∙ e) xs (entries-every xs (learn (Entry s) x c) (h .1)))
+
+  pub every-entry : (xs : List (List Field)) (c : Carried) → Every (λ x. lineFault (Entry s) (before c) x ≡ 0) xs
+      → EntriesInOrder s c xs
+  every-entry [] c h = tt
+  every-entry (x ∷ xs) c h =
+      (h .0, every-entry xs (learn (Entry s) x c) (every-by (λ y e. entry-tells s x c y ∙ e) xs (h .1)))
 
 -- the first n lines, and the rest
 pub record Split (n : ℕ) (xs : List (List Field)) : Type 0 where

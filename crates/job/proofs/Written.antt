@@ -14,6 +14,7 @@ use Rattle.building.specs.declared.Building.{Building}
 use Rattle.building.specs.Test.{is, tooLong}
 use Rattle.building.specs.Fault.{first}
 use Rattle.building.specs.Building.{faults, outOfForm, buildingFault, givenFault}
+use Rattle.rules.specs.declared.Before.{Before}
 use Rattle.rules.specs.declared.FieldForm.the-variants.{Capital, Number, Mark}
 use Rattle.rules.specs.declared.Section.the-variants.{B, W, I, F}
 use Rattle.rules.specs.declared.Kind.{Kind}
@@ -74,21 +75,21 @@ none-any (true ∷ ts) = refl
 none-any (false ∷ ts) = none-any ts
 
 -- it is in form where none of its numbers is too long, and its entry then has number n
-given-by : (k : Kind) (g : Building) (fs : List Field) (ts : List Bool) (n : ℕ) → inForm (forms k) fs ≡ none ts
-    → (inForm (forms k) fs ≡ true → first (faultsOf k g fs) ≡ n) → lineFault k g fs ≡ cond (any ts) 1 n
-given-by k g fs ts n e h =
-    by-test (any ts) (λ q. fault-out k g fs (e ∙ none-any ts ∙ ap not q) ∙ rw q)
-    (λ q. let y = e ∙ none-any ts ∙ ap not q in fault-in k g fs y ∙ h y ∙ rw q)
+given-by : (k : Kind) (b : Before) (fs : List Field) (ts : List Bool) (n : ℕ) → inForm (forms k) fs ≡ none ts
+    → (inForm (forms k) fs ≡ true → first (faultsOf k b fs) ≡ n) → lineFault k b fs ≡ cond (any ts) 1 n
+given-by k b fs ts n e h =
+    by-test (any ts) (λ q. fault-out k b fs (e ∙ none-any ts ∙ ap not q) ∙ rw q)
+    (λ q. let y = e ∙ none-any ts ∙ ap not q in fault-in k b fs y ∙ h y ∙ rw q)
 
 -- the building of a record has the fault of its line
-pub building-given : (g k : Building) → givenFault g ≡ lineFault (Entry B) k (buildingFields g)
+pub building-given : (g : Building) (b : Before) → givenFault g ≡ lineFault (Entry B) b (buildingFields g)
 unfolding givenFault outOfForm buildingFault inForm
-building-given g k =
-    sym (given-by (Entry B) k (buildingFields g) long (first (faults g))
+building-given g b =
+    sym (given-by (Entry B) b (buildingFields g) long (first (faults g))
     (rw
     (number-form (g .h), number-form (g .a), number-form (g .b), number-form (g .density), number-form (g .kind), number-form (g .x)))
     (λ e.
-    ap (λ (b : Building). first (faults b)) (building-back g (in-formed (forms (Entry B)) (buildingFields g) e))))
+    ap (λ (h : Building). first (faults h)) (building-back g (in-formed (forms (Entry B)) (buildingFields g) e))))
   where
     long : List Bool
     long =
@@ -96,33 +97,33 @@ building-given g k =
         []
 
 -- so has each entry
-module _ (g : Building) where
+module _ (b : Before) where
   pub wind-given : (w : Wind)
-      → lineFault (Entry W) g (windFields w) ≡ cond (tooLong (w .direction) || (tooLong (w .speed) || false)) 1
-      (first (windFaults g w))
+      → lineFault (Entry W) b (windFields w) ≡ cond (tooLong (w .direction) || (tooLong (w .speed) || false)) 1
+      (first (windFaults (b .building) w))
   unfolding inForm
   wind-given w =
-      given-by (Entry W) g (windFields w) (tooLong (w .direction) ∷ tooLong (w .speed) ∷ []) (first (windFaults g w))
+      given-by (Entry W) b (windFields w) (tooLong (w .direction) ∷ tooLong (w .speed) ∷ []) (first (windFaults (b .building) w))
       (rw (number-form (w .direction), number-form (w .speed)))
-      (λ e. ap (λ (v : Wind). first (windFaults g v)) (wind-back w (in-formed (forms (Entry W)) (windFields w) e)))
+      (λ e. ap (λ (v : Wind). first (windFaults (b .building) v)) (wind-back w (in-formed (forms (Entry W)) (windFields w) e)))
 
   pub internal-given : (i : ℤ)
-      → lineFault (Entry I) g (internalFields i) ≡ cond (tooLong i || false) 1 (first (internalFaults i))
+      → lineFault (Entry I) b (internalFields i) ≡ cond (tooLong i || false) 1 (first (internalFaults i))
   unfolding inForm
   internal-given i =
-      given-by (Entry I) g (internalFields i) (tooLong i ∷ []) (first (internalFaults i)) (rw (number-form i))
+      given-by (Entry I) b (internalFields i) (tooLong i ∷ []) (first (internalFaults i)) (rw (number-form i))
       (λ e.
       ap (λ (z : ℤ). first (internalFaults z)) (internal-back i (in-formed (forms (Entry I)) (internalFields i) e)))
 
-  pub face-given : (f : Face) → lineFault (Entry F) g (faceFields f)
+  pub face-given : (f : Face) → lineFault (Entry F) b (faceFields f)
       ≡ cond (markTooLong (f .mark) || (tooLong (f .x) || (tooLong (f .y) || (tooLong (f .z) || false)))) 1
-      (first (faceFaults g f))
+      (first (faceFaults (b .building) f))
   unfolding inForm
   face-given f =
-      given-by (Entry F) g (faceFields f)
-      (markTooLong (f .mark) ∷ tooLong (f .x) ∷ tooLong (f .y) ∷ tooLong (f .z) ∷ []) (first (faceFaults g f))
+      given-by (Entry F) b (faceFields f)
+      (markTooLong (f .mark) ∷ tooLong (f .x) ∷ tooLong (f .y) ∷ tooLong (f .z) ∷ []) (first (faceFaults (b .building) f))
       (rw (letter-form (f .zone), mark-form (f .mark), number-form (f .x), number-form (f .y), number-form (f .z)))
-      (λ e. ap (λ (h : Face). first (faceFaults g h)) (face-back f (in-formed (forms (Entry F)) (faceFields f) e)))
+      (λ e. ap (λ (h : Face). first (faceFaults (b .building) h)) (face-back f (in-formed (forms (Entry F)) (faceFields f) e)))
 
 -- what the code finds, by what it goes by
 pub long-by : {t₁ t₂ t₃ t₄ u₁ u₂ u₃ u₄ : Bool} {n m r : ℕ} → t₁ ≡ u₁ → t₂ ≡ u₂ → t₃ ≡ u₃ → t₄ ≡ u₄ → n ≡ m

@@ -1,12 +1,16 @@
--- All that a sheet carries: the building, and the winds, internal coefficients and faces, each as a list.
+-- All that a sheet carries: the building, and the winds, internal coefficients and faces, each as a list; and what a
+-- line is judged by where this was read before it.
 use mathlib.Core.Path.{_≡_}
-use mathlib.Core.List.{List, []}
+use mathlib.Core.List.{List, [], _∷_}
 use lib.IntN.{ℤ, pos}
 use lib.ListN.{length}
 use Rattle.whole.specs.Lists.{firstOf}
 use Rattle.building.specs.declared.Building.{Building}
 use Rattle.entry.specs.declared.Wind.{Wind}
 use Rattle.entry.specs.declared.Face.{Face}
+use Rattle.rules.specs.declared.Before.{Before}
+use Rattle.rules.specs.declared.Section.{Section}
+use Rattle.rules.specs.declared.Section.the-variants.{B, W, I, F}
 use Rattle.job.specs.declared.Job.{Job}
 
 pub record Carried : Type 0 where
@@ -27,6 +31,26 @@ noFace = record { zone = 0; mark = pos 0; x = pos 0; y = pos 0; z = pos 0 }
 -- nothing read yet
 abbrev pub nothing : Carried
 nothing = record { building = noBuilding; winds = []; internals = []; faces = [] }
+
+-- what a line is judged by where this was read before it
+abbrev pub before : Carried → Before
+before c = record { building = c .building }
+
+-- d, with what c carries in one section
+abbrev pub withSection : Section → Carried → Carried → Carried
+withSection B c d =
+    record { building = c .building; winds = d .winds; internals = d .internals; faces = d .faces }
+withSection W c d =
+    record { building = d .building; winds = c .winds; internals = d .internals; faces = d .faces }
+withSection I c d =
+    record { building = d .building; winds = d .winds; internals = c .internals; faces = d .faces }
+withSection F c d =
+    record { building = d .building; winds = d .winds; internals = d .internals; faces = c .faces }
+
+-- what c carries in these sections, and nothing in others
+abbrev pub carriedIn : List Section → Carried → Carried
+carriedIn [] c = nothing
+carriedIn (s ∷ ss) c = withSection s c (carriedIn ss c)
 
 -- what the sheet of a record carries: its entries up to each count
 unfoldable pub carried : Job → Carried

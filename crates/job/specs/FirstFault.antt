@@ -5,19 +5,20 @@ use mathlib.Core.List.{List, [], _∷_, _++_, List·Memᴰ}
 use mathlib.Core.Bool.{true, false}
 use Rattle.verdict.specs.Verdict.{refusal}
 use Rattle.field.specs.declared.Field.{Field}
-use Rattle.building.specs.declared.Building.{Building}
 use Rattle.building.specs.Fault.{Fault}
+use Rattle.rules.specs.declared.Before.{Before}
 use Rattle.rules.specs.declared.Kind.{Kind}
 use Rattle.rules.specs.Form.{inForm}
 use Rattle.rules.specs.Sections.{forms, faultsOf}
-use Rattle.job.specs.Carried.{Carried}
+use Rattle.job.specs.Carried.{Carried, before}
 use Rattle.job.specs.Walk.{calls, learn, Reading, Accepted, Refused}
 
--- a line has fault n: it is out of form and n is 1, or it is in form and one of its faults of that number is found
-pub data HasFault (n : ℕ) (g : Building) (fs : List Field) (k : Kind) : Type 0 where
-  out-of-form : n ≡ 1 → inForm (forms k) fs ≡ false → HasFault n g fs k
-  found : inForm (forms k) fs ≡ true → (f : Fault) → List·Memᴰ f (faultsOf k g fs) → f .found ≡ true → f .number ≡ n
-      → HasFault n g fs k
+-- a line has fault n by what was read before it: it is out of form and n is 1, or it is in form and one of its faults
+-- of that number is found
+pub data HasFault (n : ℕ) (b : Before) (fs : List Field) (k : Kind) : Type 0 where
+  out-of-form : n ≡ 1 → inForm (forms k) fs ≡ false → HasFault n b fs k
+  found : inForm (forms k) fs ≡ true → (f : Fault) → List·Memᴰ f (faultsOf k b fs) → f .found ≡ true → f .number ≡ n
+      → HasFault n b fs k
 
 -- line i, counted from 0, has fault n, where each line before it is taken for what was called for: a line missing or
 -- extra has fault 1
@@ -25,7 +26,7 @@ abbrev pub FaultAt : ℕ → ℕ → List Kind → Carried → List (List Field)
 FaultAt zero n [] c [] = ⊥
 FaultAt zero n [] c (x ∷ xs) = n ≡ 1
 FaultAt zero n (k ∷ ks) c [] = n ≡ 1
-FaultAt zero n (k ∷ ks) c (x ∷ xs) = HasFault n (c .building) x k
+FaultAt zero n (k ∷ ks) c (x ∷ xs) = HasFault n (before c) x k
 FaultAt (suc i) n [] c [] = ⊥
 FaultAt (suc i) n [] c (x ∷ xs) = ⊥
 FaultAt (suc i) n (k ∷ ks) c [] = ⊥

@@ -1,5 +1,6 @@
 -- The lines of fields of what a sheet carries: sections B, W, I, F in that order, each after its count.
 use mathlib.Core.List.{List, [], _∷_, _++_, map}
+use Prim.Native.Nat.{ℕ, _+_}
 use lib.ListN.{length}
 use Rattle.field.specs.declared.Field.{Field}
 use Rattle.field.specs.declared.Field.the-variants.{Plus, Letter}
@@ -7,11 +8,7 @@ use Rattle.rules.specs.declared.Section.{Section}
 use Rattle.rules.specs.declared.Section.the-variants.{B, W, I, F}
 use Rattle.job.specs.Carried.{Carried}
 use Rattle.entry_written.specs.Fields.{buildingFields, windFields, internalFields, faceFields}
-use Rattle.rules.specs.Sections.{about}
-
--- the sections of a sheet, in order
-abbrev pub sections : List Section
-sections = B ∷ W ∷ I ∷ F ∷ []
+use Rattle.rules.specs.Sections.{about, sections}
 
 -- the entries of each section as fields
 abbrev pub entriesOf : Carried → Section → List (List Field)
@@ -28,6 +25,11 @@ sectionOf s entries = (Letter (about s .letter) ∷ Plus (length entries) ∷ []
 abbrev pub sectionsOf : (Section → List (List Field)) → List Section → List (List Field)
 sectionsOf es [] = []
 sectionsOf es (s ∷ ss) = sectionOf s (es s) ++ sectionsOf es ss
+
+-- the line on which the count of a section stands, by the sections before it
+abbrev pub lineBehind : (Section → List (List Field)) → List Section → ℕ
+lineBehind es [] = 1
+lineBehind es (s ∷ ss) = 1 + length (es s) + lineBehind es ss
 
 -- the lines of a sheet with these entries in its sections
 abbrev pub sheetOf : (Section → List (List Field)) → List (List Field)

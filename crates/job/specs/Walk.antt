@@ -12,9 +12,9 @@ use Rattle.rules.specs.declared.Kind.{Kind}
 use Rattle.rules.specs.declared.Kind.the-variants.{Count, Entry}
 use Rattle.entry.specs.Says.{size, at, buildingOf, windOf, internalOf, faceOf}
 use Rattle.job.specs.declared.Job.{Job}
-use Rattle.job.specs.Carried.{Carried, nothing, carried}
-use Rattle.rules.specs.Sections.{lineFault}
-use Rattle.job.specs.Lines.{sections, linesOf}
+use Rattle.job.specs.Carried.{Carried, nothing, before, carried}
+use Rattle.rules.specs.Sections.{sections, lineFault}
+use Rattle.job.specs.Lines.{linesOf}
 
 -- the lines that a line in order calls for: a count calls for as many entries
 abbrev pub entries : Section → ℕ → List Kind
@@ -69,9 +69,9 @@ walk [] c line [] = Accepted c
 walk [] c line (x ∷ xs) = Refused (refusal 1 line)
 walk (k ∷ ks) c line [] = Refused (refusal 1 line)
 walk (k ∷ ks) c line (x ∷ xs) =
-    cond (eqb (lineFault k (c .building) x) 0)
+    cond (eqb (lineFault k (before c) x) 0)
     (walk (calls k x ++ ks) (learn k x c) (line + 1) xs)
-    (Refused (refusal (lineFault k (c .building) x) line))
+    (Refused (refusal (lineFault k (before c) x) line))
 
 -- the counts of the sections, in order
 abbrev pub sheet : List Kind

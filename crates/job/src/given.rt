@@ -1,11 +1,11 @@
 // The fault of a count or an entry of a job given as a record, as its line would get it: a number too long is out of
 // form.
-use building::Building;
 use building::limits::too_long;
 use entry::BOTH;
 use entry::Face;
 use entry::Wind;
 use field::Field;
+use rules::Before;
 use rules::Kind;
 use rules::Section;
 use rules::entries;
@@ -19,7 +19,7 @@ ghost use Rattle.rules.specs.Sections.{about, lineFault};
 ghost use Rattle.entry_written.specs.Fields.{windFields, internalFields, faceFields};
 
 pub(crate) fn count_fault(s: Section, n: u32) -> u32
-    ensures { λ r. ⌜ ((g : Building) → r ≡ lineFault (Kind.Count s) g (Field.Letter (about s .letter) ∷ Field.Plus n ∷ [])) ⌝ }
+    ensures { λ r. ⌜ ((b : Before) → r ≡ lineFault (Kind.Count s) b (Field.Letter (about s .letter) ∷ Field.Plus n ∷ [])) ⌝ }
 {
     let l = shape::limits_of(s);
     entries::count_fault(s, l.letter, n as i64)
@@ -44,20 +44,20 @@ fn in_form(a: bool, b: bool, c: bool, d: bool, n: u32) -> u32
     n
 }
 
-pub(crate) fn wind_fault(g: Building, w: Wind) -> u32
-    ensures { λ r. ⌜ r ≡ lineFault (Kind.Entry Section.W) g (windFields w) ⌝ }
+pub(crate) fn wind_fault(b: Before, w: Wind) -> u32
+    ensures { λ r. ⌜ r ≡ lineFault (Kind.Entry Section.W) b (windFields w) ⌝ }
 {
     in_form(
         too_long(w.direction),
         too_long(w.speed),
         false,
         false,
-        entries::wind_fault(g, w),
+        entries::wind_fault(b.building, w),
     )
 }
 
 pub(crate) fn internal_fault(i: i64) -> u32
-    ensures { λ r. ⌜ ((g : Building) → r ≡ lineFault (Kind.Entry Section.I) g (internalFields i)) ⌝ }
+    ensures { λ r. ⌜ ((b : Before) → r ≡ lineFault (Kind.Entry Section.I) b (internalFields i)) ⌝ }
 {
     in_form(too_long(i), false, false, false, entries::internal_fault(i))
 }
@@ -72,14 +72,14 @@ fn mark_too_long(m: i64) -> bool
     too_long(m)
 }
 
-pub(crate) fn face_fault(g: Building, f: Face) -> u32
-    ensures { λ r. ⌜ r ≡ lineFault (Kind.Entry Section.F) g (faceFields f) ⌝ }
+pub(crate) fn face_fault(b: Before, f: Face) -> u32
+    ensures { λ r. ⌜ r ≡ lineFault (Kind.Entry Section.F) b (faceFields f) ⌝ }
 {
     in_form(
         mark_too_long(f.mark),
         too_long(f.x),
         too_long(f.y),
         too_long(f.z),
-        entries::face_fault(g, f),
+        entries::face_fault(b.building, f),
     )
 }

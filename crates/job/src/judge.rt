@@ -1,37 +1,32 @@
 // A job given as a record, judged as its sheet would be: section by section, line by line.
 use crate::Job;
+use crate::entry_count;
 use crate::given;
+use rules::Before;
 use rules::Kind;
 use rules::Section;
+use rules::shape::SECTIONS;
 use verdict::Verdict;
 ghost use mathlib.Core.Path.{_≡_};
 ghost use mathlib.Core.List.{[], _∷_};
-ghost use Prim.Native.Nat.{_≤_};
-ghost use lib.ListN.{length};
-ghost use Rattle.job.specs.Carried.{carried};
+ghost use Prim.Native.Nat.{_+_, _*_, _≤_, _<_};
+ghost use lib.ListN.{length, take};
+ghost use Rattle.rules.specs.Sections.{sections, sectionAt};
+ghost use Rattle.job.specs.Carried.{carried, carriedIn};
 ghost use Rattle.job.specs.Lines.{sectionOf, entriesOf};
 ghost use Rattle.job.specs.Walk.{verdict, walk, judged};
 
-// How many entries a section has.
-fn count_of(j: Job, s: Section) -> u32
-    ensures { λ r. ⌜ r ≡ length (entriesOf (carried j) s) ⌝ }
-{
-    match s {
-        Section::B => 1,
-        Section::W => j.winds.count,
-        Section::I => j.internals.count,
-        Section::F => j.faces.count,
-    }
-}
-
-// A section by itself, whose count stands on this line.
-fn judge_section(j: Job, s: Section, line: u32) -> Verdict
-    requires { ⌜ line ≤ 100 ⌝ }
+// The section behind the first `at` by itself, whose count stands on this line: no section has more than 25 lines.
+fn judge_section(j: Job, at: usize, line: u32) -> Verdict
+    requires { ⌜ (at < length sections) × (line ≤ 25 * at + 1) ⌝ }
     ensures { λ r. ⌜ r ≡ verdict
-        (walk (Kind.Count s ∷ []) (carried j) line (sectionOf s (entriesOf (carried j) s))) ⌝ }
+        (walk (Kind.Count (sectionAt at) ∷ []) (carriedIn (take at sections) (carried j)) line
+        (sectionOf (sectionAt at) (entriesOf (carried j) (sectionAt at)))) ⌝ }
 {
+    let s = SECTIONS[at];
     let g = j.building;
-    let n = count_of(j, s);
+    let b = Before { building: g };
+    let n = entry_count(j, s);
     let number = given::count_fault(s, n);
     if number != 0 {
         return Verdict { number, line };
@@ -46,7 +41,7 @@ fn judge_section(j: Job, s: Section, line: u32) -> Verdict
             Section::B => building::given_fault(g),
             Section::W => {
                 let w = winds.entry[k];
-                given::wind_fault(g, w)
+                given::wind_fault(b, w)
             }
             Section::I => {
                 let c = internals.entry[k];
@@ -54,7 +49,7 @@ fn judge_section(j: Job, s: Section, line: u32) -> Verdict
             }
             Section::F => {
                 let f = faces.entry[k];
-                given::face_fault(g, f)
+                given::face_fault(b, f)
             }
         };
         if number != 0 {
@@ -72,19 +67,13 @@ fn judge_section(j: Job, s: Section, line: u32) -> Verdict
 pub fn judge(j: Job) -> Verdict
     ensures { λ r. ⌜ r ≡ verdict (judged j) ⌝ }
 {
-    let b = judge_section(j, Section::B, 1);
-    if b.number != 0 {
-        return b;
+    let mut line: u32 = 1;
+    for i in 0..SECTIONS.len() {
+        let v = judge_section(j, i, line);
+        if v.number != 0 {
+            return v;
+        }
+        line += 1 + entry_count(j, SECTIONS[i]);
     }
-    let w = judge_section(j, Section::W, 3);
-    if w.number != 0 {
-        return w;
-    }
-    // after the two lines of the building and those of the winds
-    let line = 4 + j.winds.count;
-    let i = judge_section(j, Section::I, line);
-    if i.number != 0 {
-        return i;
-    }
-    judge_section(j, Section::F, line + 1 + j.internals.count)
+    Verdict { number: 0, line: 0 }
 }

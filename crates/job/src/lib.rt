@@ -2,6 +2,11 @@
 use building::Building;
 use entry::Face;
 use entry::Wind;
+use rules::Section;
+ghost use mathlib.Core.Path.{_≡_};
+ghost use lib.ListN.{length};
+ghost use Rattle.job.specs.Carried.{carried};
+ghost use Rattle.job.specs.Lines.{entriesOf};
 
 mod given;
 pub mod judge;
@@ -27,4 +32,16 @@ pub struct Job {
     pub winds: Winds,
     pub internals: Internals,
     pub faces: Faces,
+}
+
+// How many entries a section of a job has.
+pub fn entry_count(j: Job, s: Section) -> u32
+    ensures { λ r. ⌜ r ≡ length (entriesOf (carried j) s) ⌝ }
+{
+    match s {
+        Section::B => 1,
+        Section::W => j.winds.count,
+        Section::I => j.internals.count,
+        Section::F => j.faces.count,
+    }
 }

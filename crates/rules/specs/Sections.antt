@@ -4,11 +4,12 @@ use mathlib.Core.List.{List, [], _∷_}
 use mathlib.Core.Bool.{not, cond}
 use lib.Dec.{eqb}
 use lib.IntN.{ℤ, pos}
+use lib.ListN.{getD}
 use Rattle.field.specs.declared.Field.{Field}
-use Rattle.building.specs.declared.Building.{Building}
 use Rattle.building.specs.Test.{beyond}
 use Rattle.building.specs.Fault.{Fault, fault, first}
 use Rattle.building.specs.Building.{faults}
+use Rattle.rules.specs.declared.Before.{Before}
 use Rattle.rules.specs.declared.FieldForm.{FieldForm}
 use Rattle.rules.specs.declared.FieldForm.the-variants as form
 use Rattle.rules.specs.declared.Section.{Section}
@@ -31,6 +32,14 @@ about W = record { letter = 87; least = 1; most = 8 }
 about I = record { letter = 73; least = 1; most = 4 }
 about F = record { letter = 70; least = 1; most = 24 }
 
+-- the sections of a sheet, in order
+abbrev pub sections : List Section
+sections = B ∷ W ∷ I ∷ F ∷ []
+
+-- the one behind the first i
+abbrev pub sectionAt : ℕ → Section
+sectionAt i = getD sections i B
+
 -- ---- the form of a line
 
 -- letter and count; h a b density kind x; direction, speed; one coefficient; zone, mark and the areas on x, y, z
@@ -50,13 +59,14 @@ countFaults s l n =
     ∷ fault 2 (beyond (pos (about s .least)) (pos (about s .most)) n)
     ∷ []
 
-abbrev pub faultsOf : Kind → Building → List Field → List Fault
-faultsOf (Count s) g fs = countFaults s (letter (at fs 0)) (number (at fs 1))
-faultsOf (Entry B) g fs = faults (buildingOf fs)
-faultsOf (Entry W) g fs = windFaults g (windOf fs)
-faultsOf (Entry I) g fs = internalFaults (internalOf fs)
-faultsOf (Entry F) g fs = faceFaults g (faceOf fs)
+-- by what the lines before it say
+abbrev pub faultsOf : Kind → Before → List Field → List Fault
+faultsOf (Count s) b fs = countFaults s (letter (at fs 0)) (number (at fs 1))
+faultsOf (Entry B) b fs = faults (buildingOf fs)
+faultsOf (Entry W) b fs = windFaults (b .building) (windOf fs)
+faultsOf (Entry I) b fs = internalFaults (internalOf fs)
+faultsOf (Entry F) b fs = faceFaults (b .building) (faceOf fs)
 
--- the lowest fault of a line on a building, 0 where there is none: one out of form has 1
-unfoldable pub lineFault : Kind → Building → List Field → ℕ
-lineFault k g fs = cond (inForm (forms k) fs) (first (faultsOf k g fs)) 1
+-- the lowest fault of a line, 0 where there is none: one out of form has 1
+unfoldable pub lineFault : Kind → Before → List Field → ℕ
+lineFault k b fs = cond (inForm (forms k) fs) (first (faultsOf k b fs)) 1

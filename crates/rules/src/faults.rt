@@ -1,9 +1,9 @@
 // The lowest fault of one line: 1 where it is out of form, and else that of its entry.
+use crate::Before;
 use crate::Kind;
 use crate::Section;
 use crate::entries;
 use crate::form_of::in_form;
-use building::Building;
 use entry::says;
 use lines::Line;
 use lines::field_at;
@@ -14,7 +14,7 @@ ghost use Rattle.rules.specs.Sections.{faultsOf, lineFault};
 
 // A count line in form.
 fn count_fault(s: Section, x: Line) -> u32
-    ensures { λ r. ⌜ ((g : Building) → r ≡ first (faultsOf (Kind.Count s) g (held x))) ⌝ }
+    ensures { λ r. ⌜ ((b : Before) → r ≡ first (faultsOf (Kind.Count s) b (held x))) ⌝ }
 {
     entries::count_fault(
         s,
@@ -23,13 +23,14 @@ fn count_fault(s: Section, x: Line) -> u32
     )
 }
 
-// The lowest fault of a line of this kind on a building, 0 where there is none.
-pub fn line_fault(k: Kind, g: Building, x: Line) -> u32
-    ensures { λ r. ⌜ r ≡ lineFault k g (held x) ⌝ }
+// The lowest fault of a line of this kind by what was read before it, 0 where there is none.
+pub fn line_fault(k: Kind, b: Before, x: Line) -> u32
+    ensures { λ r. ⌜ r ≡ lineFault k b (held x) ⌝ }
 {
     if !in_form(k, x) {
         return 1;
     }
+    let g = b.building;
     match k {
         Kind::Count(s) => count_fault(s, x),
         Kind::Entry(s) => match s {

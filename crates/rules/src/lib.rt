@@ -1,4 +1,6 @@
 // The form of a line, the faults of an entry, and the lowest fault of a line.
+use building::Building;
+
 pub mod entries;
 pub mod faults;
 mod form_of;
@@ -16,6 +18,11 @@ pub enum Section {
 pub enum Kind {
     Count(Section),
     Entry(Section),
+}
+
+// What the lines before one say that it is judged by.
+pub struct Before {
+    pub building: Building,
 }
 
 // What one field of a line must be.

@@ -8,6 +8,9 @@ ghost use mathlib.Core.List.{[], _∷_};
 ghost use Rattle.lines.specs.Held.{heldLine};
 ghost use Rattle.rules.specs.Sections.{about};
 
+// The sections of a sheet, in order.
+pub const SECTIONS: [Section; 4] = [Section::B, Section::W, Section::I, Section::F];
+
 // The letter of a section, and its least and greatest count.
 pub struct Limits {
     pub letter: u8,

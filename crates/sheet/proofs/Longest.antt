@@ -21,6 +21,7 @@ use Rattle.building.specs.Places.{knows}
 use Rattle.building.proofs.Accepted.{within}
 use Rattle.building.proofs.Places.{known-within}
 use Rattle.building.proofs.Ranges.{is-within}
+use Rattle.rules.specs.declared.Before.{Before}
 use Rattle.rules.specs.declared.FieldForm.the-variants.{Number, Mark}
 use Rattle.rules.specs.declared.Section.{Section}
 use Rattle.rules.specs.declared.Section.the-variants.{B, W, I, F}
@@ -97,19 +98,19 @@ face-bytes g (more letter (more m (more a (more b (more d none))))) o =
 count-bytes : (s : Section) (x : List Field) → CountLine s x → fieldBytes x ≤ 3 + length (digits (about s .most))
 count-bytes s x t = rw (t .is) (omega (arith, digits-mono (about s .most) (t .count) (t .counted .high)))
 
-in-order-bytes : (k : Kind) (g : Building) (x : List Field) → lineFault k g x ≡ 0 → fieldBytes x ≤ longestLine k
+in-order-bytes : (k : Kind) (b : Before) (x : List Field) → lineFault k b x ≡ 0 → fieldBytes x ≤ longestLine k
 unfolding longestLine buildingFault
-in-order-bytes (Count s) g x z = count-bytes s x (count-says s g x z)
-in-order-bytes (Entry B) g x z =
-    let o = in-order (Entry B) g x z in building-bytes (o .formed) (found-none (faults (buildingOf x)) (o .none))
-in-order-bytes (Entry W) g x z = wind-bytes g (in-order (Entry W) g x z .formed) (wind-line g x z)
-in-order-bytes (Entry I) g x z = internal-bytes (in-order (Entry I) g x z .formed) (internal-line g x z)
-in-order-bytes (Entry F) g x z = face-bytes g (in-order (Entry F) g x z .formed) (face-line g x z)
+in-order-bytes (Count s) b x z = count-bytes s x (count-says s b x z)
+in-order-bytes (Entry B) b x z =
+    let o = in-order (Entry B) b x z in building-bytes (o .formed) (found-none (faults (buildingOf x)) (o .none))
+in-order-bytes (Entry W) b x z = wind-bytes (b .building) (in-order (Entry W) b x z .formed) (wind-line b x z)
+in-order-bytes (Entry I) b x z = internal-bytes (in-order (Entry I) b x z .formed) (internal-line b x z)
+in-order-bytes (Entry F) b x z = face-bytes (b .building) (in-order (Entry F) b x z .formed) (face-line b x z)
 
-pub in-order-short : (k : Kind) (g : Building) (l : List ℕ) → lineFault k g (fieldsOf l) ≡ 0
+pub in-order-short : (k : Kind) (b : Before) (l : List ℕ) → lineFault k b (fieldsOf l) ≡ 0
     → length l + 1 ≤ longestLine k
-in-order-short k g l z =
-    omega (arith, line-bytes l (all-not-bad (in-order k g (fieldsOf l) z .formed)), in-order-bytes k g (fieldsOf l) z)
+in-order-short k b l z =
+    omega (arith, line-bytes l (all-not-bad (in-order k b (fieldsOf l) z .formed)), in-order-bytes k b (fieldsOf l) z)
 
 -- ---- the lines that are called for
 
@@ -130,14 +131,14 @@ unfolding longest
 longest-entries s zero ks = omega arith
 longest-entries s (suc n) ks = omega (arith, longest-entries s n ks, suc-mul n (longestLine (Entry s)))
 
-pub count-most : (s : Section) (g : Building) (x : List Field) → lineFault (Count s) g x ≡ 0
+pub count-most : (s : Section) (b : Before) (x : List Field) → lineFault (Count s) b x ≡ 0
     → size (at x 1) ≤ about s .most
-count-most s g x z = let t = count-says s g x z in rw (t .is) (t .counted .high)
+count-most s b x z = let t = count-says s b x z in rw (t .is) (t .counted .high)
 
 -- a line in order leaves room for the lines that are then called for
-pub longest-on : (k : Kind) (ks : List Kind) (g : Building) (x : List Field) → lineFault k g x ≡ 0
+pub longest-on : (k : Kind) (ks : List Kind) (b : Before) (x : List Field) → lineFault k b x ≡ 0
     → longestLine k + longest (calls k x ++ ks) ≤ longest (k ∷ ks)
 unfolding longest
-longest-on (Count s) ks g x z =
-    omega (arith, longest-entries s (size (at x 1)) ks, mul-le-mul-right (longestLine (Entry s)) (count-most s g x z))
-longest-on (Entry s) ks g x z = omega arith
+longest-on (Count s) ks b x z =
+    omega (arith, longest-entries s (size (at x 1)) ks, mul-le-mul-right (longestLine (Entry s)) (count-most s b x z))
+longest-on (Entry s) ks b x z = omega arith

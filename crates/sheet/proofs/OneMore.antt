@@ -5,7 +5,7 @@ use mathlib.Core.Path.{_≡_}
 use mathlib.Core.List.{List, [], _∷_}
 use native.Mathlib.Omega.{arith}
 use lib.IntN.{pos}
-use lib.ListN.{length, drop, getD, set, length-append}
+use lib.ListN.{length, drop, set, length-append}
 use Rattle.whole.specs.Lists.{Every}
 use Rattle.whole.proofs.Lists.{firstOf-more}
 use Rattle.field.specs.declared.Field.{Field}
@@ -13,10 +13,9 @@ use Rattle.entry.specs.Says.{buildingOf, windOf, internalOf, faceOf}
 use Rattle.rules.specs.declared.Section.{Section}
 use Rattle.rules.specs.declared.Section.the-variants.{B, W, I, F}
 use Rattle.rules.specs.declared.Kind.the-variants.{Entry}
-use Rattle.rules.specs.Sections.{about}
+use Rattle.rules.specs.Sections.{about, sections, sectionAt}
 use Rattle.job.specs.declared.Job.{Job}
 use Rattle.job.specs.Carried.{Carried, noWind, noFace, recorded}
-use Rattle.job.specs.Lines.{sections}
 use Rattle.job.specs.Walk.{learn}
 
 -- ---- what it records
@@ -67,10 +66,6 @@ module _ (fs : List Field) {j : Job} (c : Carried) (e : j ≡ recorded c) where
   stored-records F few = let q : length (c .faces) < 24 = rw e at few in rw (e, length-append, firstOf-more noFace 24)
 
 -- ---- what it counts
-
--- the section after the first i
-abbrev pub sectionAt : ℕ → Section
-sectionAt i = getD sections i B
 
 pub one-more : (t : Section) (c : Carried) (fs : List Field)
     → countIn (recorded (learn (Entry t) fs c)) t ≤ countIn (recorded c) t + 1

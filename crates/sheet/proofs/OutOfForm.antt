@@ -10,7 +10,7 @@ use Rattle.whole.proofs.Tests.{by-test}
 use Rattle.field.specs.declared.Field.{Field}
 use Rattle.field.specs.declared.Field.the-variants.{Bad}
 use Rattle.lines.specs.Lines.{fieldsOf, NotBad}
-use Rattle.building.specs.declared.Building.{Building}
+use Rattle.rules.specs.declared.Before.{Before}
 use Rattle.rules.specs.declared.Section.the-variants.{B, W, I, F}
 use Rattle.rules.specs.declared.Kind.{Kind}
 use Rattle.rules.specs.declared.Kind.the-variants.{Count, Entry}
@@ -29,25 +29,25 @@ fields (Entry W) = (omega arith, omega arith)
 fields (Entry I) = (omega arith, omega arith)
 fields (Entry F) = (omega arith, omega arith)
 
-module _ (k : Kind) (g : Building) where
+module _ (k : Kind) (b : Before) where
   -- with a field out of form
-  bad-line : (x : List Field) → BadAt x → lineFault k g x ≡ 1
-  bad-line x b =
-      fault-out k g x (by-test (inForm (forms k) x)
-      (λ e. absurd (subst NotBad (b .bad) (every-at NotBad x Bad (b .place) (b .within) (all-not-bad (in-formed (forms k) x e)))))
+  bad-line : (x : List Field) → BadAt x → lineFault k b x ≡ 1
+  bad-line x y =
+      fault-out k b x (by-test (inForm (forms k) x)
+      (λ e. absurd (subst NotBad (y .bad) (every-at NotBad x Bad (y .place) (y .within) (all-not-bad (in-formed (forms k) x e)))))
       (λ e. e))
 
   -- not ended
-  pub bad-first : lineFault k g (Bad ∷ []) ≡ 1
+  pub bad-first : lineFault k b (Bad ∷ []) ≡ 1
   bad-first = bad-line (Bad ∷ []) (record { place = 0; within = omega arith; bad = refl })
 
   -- of no field, of more than six
-  pub none-held : lineFault k g [] ≡ 1
-  none-held = fault-out k g [] (uneven-out (forms k) [] (λ e. omega (arith, fields k .0)))
+  pub none-held : lineFault k b [] ≡ 1
+  none-held = fault-out k b [] (uneven-out (forms k) [] (λ e. omega (arith, fields k .0)))
 
-  pub many-held : (x : List Field) → 6 < length x → lineFault k g x ≡ 1
-  many-held x h = fault-out k g x (uneven-out (forms k) x (λ e. omega (arith, fields k .1)))
+  pub many-held : (x : List Field) → 6 < length x → lineFault k b x ≡ 1
+  many-held x h = fault-out k b x (uneven-out (forms k) x (λ e. omega (arith, fields k .1)))
 
   -- of more than 53 bytes: six fields of 8 with five spaces have no more
-  pub line-long : (l : List ℕ) → 53 < length l → lineFault k g (fieldsOf l) ≡ 1
+  pub line-long : (l : List ℕ) → 53 < length l → lineFault k b (fieldsOf l) ≡ 1
   line-long l h = ⊎-elim (bad-line (fieldsOf l)) (λ s. many-held (fieldsOf l) (omega arith)) (line-short l)

@@ -17,9 +17,9 @@ use Rattle.field.specs.declared.Field.the-variants.{Bad}
 use Rattle.lines.specs.Lines.{linesIn, fieldsOf}
 use Rattle.lines.specs.Held.{until}
 use Rattle.lines.proofs.Lines.{Free, rows-open, rows-seam}
-use Rattle.building.specs.declared.Building.{Building}
+use Rattle.rules.specs.declared.Before.{Before}
 use Rattle.rules.specs.declared.Kind.{Kind}
-use Rattle.job.specs.Carried.{Carried, nothing}
+use Rattle.job.specs.Carried.{Carried, nothing, before}
 use Rattle.rules.specs.Sections.{lineFault}
 use Rattle.job.specs.Walk.{calls, learn, Accepted, Refused, walk, sheet, readLines}
 use Rattle.job.proofs.Walk.{walk-on, walk-refused, accepted-line, accepted-no-more}
@@ -49,10 +49,10 @@ by-lines (x ∷ s) =
 
 -- a first line that no kind takes
 no-line : (ks : List Kind) (c : Carried) (n : ℕ) (x : List Field) (xs : List (List Field))
-    → ((k : Kind) (g : Building) → lineFault k g x ≡ 1) → walk ks c n (x ∷ xs) ≡ Refused (refusal 1 n)
+    → ((k : Kind) (b : Before) → lineFault k b x ≡ 1) → walk ks c n (x ∷ xs) ≡ Refused (refusal 1 n)
 unfolding walk
 no-line [] c n x xs h = refl
-no-line (k ∷ ks) c n x xs h = rw (h k (c .building))
+no-line (k ∷ ks) c n x xs h = rw (h k (before c))
 
 -- ---- what is accepted is short
 
@@ -76,8 +76,8 @@ walk-short (ended l t f b) (k ∷ ks) c e n a =
     omega (
       arith,
       length-append l (10 ∷ t),
-      in-order-short k (c .building) l z,
-      longest-on k ks (c .building)
+      in-order-short k (before c) l z,
+      longest-on k ks (before c)
           (fieldsOf l) z,
     )
 
@@ -110,15 +110,15 @@ take-line n l t h =
 
 -- lines that begin alike
 walk-alike : (k : Kind) (ks : List Kind) (c : Carried) (n : ℕ) (x : List Field) (xs ys : List (List Field))
-    → (lineFault k (c .building) x ≡ 0 → walk (calls k x ++ ks) (learn k x c) (n + 1) xs ≡ walk (calls k x ++ ks) (learn k x c) (n + 1) ys)
+    → (lineFault k (before c) x ≡ 0 → walk (calls k x ++ ks) (learn k x c) (n + 1) xs ≡ walk (calls k x ++ ks) (learn k x c) (n + 1) ys)
     → walk (k ∷ ks) c n (x ∷ xs) ≡ walk (k ∷ ks) c n (x ∷ ys)
 walk-alike k ks c n x xs ys h =
-    by-test (eqb (lineFault k (c .building) x) 0)
+    by-test (eqb (lineFault k (before c) x) 0)
     (λ e.
-    let z = eqb-true (lineFault k (c .building) x) 0 e in
+    let z = eqb-true (lineFault k (before c) x) 0 e in
     walk-on k ks c n x xs z ∙ h z ∙ sym (walk-on k ks c n x ys z))
     (λ e.
-    let z = eqb-false (lineFault k (c .building) x) 0 e in
+    let z = eqb-false (lineFault k (before c) x) 0 e in
     walk-refused k ks c n x xs z ∙ sym (walk-refused k ks c n x ys z))
 
 -- the first line ends in the part, or it is longer than any line in form
@@ -134,7 +134,7 @@ first-line l t f ks c n m h on =
     let k : m ≤ length l = ltb-false (length l) m e in
     rw (take-append-le m l (10 ∷ t) k, rows-part m l (omega arith) (omega arith) f, rows-seam l t f)
     (no-line ks c n (Bad ∷ []) [] bad-first ∙ sym
-    (no-line ks c n (fieldsOf l) (linesIn t) (λ i g. line-long i g l (omega arith)))))
+    (no-line ks c n (fieldsOf l) (linesIn t) (λ i b. line-long i b l (omega arith)))))
 
 walk-part : {s : List ℕ} → ByLines s → (ks : List Kind) (c : Carried) (n m : ℕ) → longest ks + 54 ≤ m
     → walk ks c n (linesIn (take m s)) ≡ walk ks c n (linesIn s)
@@ -146,7 +146,7 @@ walk-part (ended l t f b) (k ∷ ks) c n m h =
     first-line l t f (k ∷ ks) c n m (omega arith)
     (λ i. walk-alike k ks c n (fieldsOf l) (linesIn (take (m - suc (length l)) t)) (linesIn t)
     (λ z. walk-part b (calls k (fieldsOf l) ++ ks) (learn k (fieldsOf l) c) (n + 1) (m - suc (length l))
-    (omega (arith, in-order-short k (c .building) l z, longest-on k ks (c .building) (fieldsOf l) z))))
+    (omega (arith, in-order-short k (before c) l z, longest-on k ks (before c) (fieldsOf l) z))))
 
 -- the first 881 bytes, 827 and 54 more, decide
 pub part-decides : (s : List ℕ) (n : ℕ) → 881 ≤ n → reading (take n s) ≡ reading s

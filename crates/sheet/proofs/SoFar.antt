@@ -12,19 +12,19 @@ use Rattle.lines.specs.Lines.{linesIn}
 use Rattle.lines.specs.Held.{held, lineAt}
 use Rattle.lines.proofs.Lines.{rows-some, rows-end}
 use Rattle.entry.specs.Says.{size, at}
+use Rattle.rules.specs.declared.Before.{Before}
 use Rattle.rules.specs.declared.Section.{Section}
 use Rattle.rules.specs.declared.Section.the-variants.{B}
 use Rattle.rules.specs.declared.Kind.{Kind}
 use Rattle.rules.specs.declared.Kind.the-variants.{Count, Entry}
-use Rattle.rules.specs.Sections.{about, lineFault}
+use Rattle.rules.specs.Sections.{about, sections, sectionAt, lineFault}
 use Rattle.job.specs.declared.Job.{Job}
-use Rattle.job.specs.Carried.{Carried, nothing, recorded}
-use Rattle.job.specs.Lines.{sections}
+use Rattle.job.specs.Carried.{Carried, nothing, before, recorded}
 use Rattle.job.specs.Walk.{entries, calls, learn, Accepted, Refused, walk, readLines}
 use Rattle.job.proofs.Alone.{most-24}
 use Rattle.sheet.specs.Sheet.{reading}
 use Rattle.sheet.proofs.Longest.{count-most}
-use Rattle.sheet.proofs.OneMore.{stored, countIn, stored-records, sectionAt, one-more, Unread, none-later}
+use Rattle.sheet.proofs.OneMore.{stored, countIn, stored-records, one-more, Unread, none-later}
 use Rattle.sheet.proofs.Steps.{walk-stop, walk-go}
 
 -- s is read up to line `line`, which begins at `next`: j records all that was carried, and what comes of the rest is
@@ -37,7 +37,7 @@ pub record ReadSoFar (s : List ℕ) (sec : Section) (left begun : ℕ) (j : Job)
   pub room : countIn j sec + left ≤ about sec .most
   pub unread : Unread j (drop begun sections)
   -- no section has more than 25 lines
-  pub lines : line + left + 25 * length (drop begun sections) ≤ 101
+  pub lines : line + left ≤ 25 * begun + 1
 
 -- nothing read yet
 pub read-start : (s : List ℕ) {j : Job} → j ≡ recorded nothing → ReadSoFar s B 0 0 j 1 0
@@ -54,15 +54,19 @@ read-start s e =
 
 -- ---- one line more
 
+-- what the next line is judged by, as the code has it
+abbrev beforeIn : Job → Before
+beforeIn j = record { building = j .building }
+
 -- x is the line at `next`, and f its fault as a line of kind k
 module _
     (s : List ℕ) (k : Kind) (ks : List Kind) {j : Job} (c : Carried) (e : j ≡ recorded c) (line next : ℕ) {x : Line}
     (hx : x ≡ lineAt s next)
-    {f : ℕ} (hf : f ≡ lineFault k (j .building) (held x))
+    {f : ℕ} (hf : f ≡ lineFault k (beforeIn j) (held x))
     (rest : walk (k ∷ ks) c line (linesIn (drop next s)) ≡ reading s) where
-  fault-is : f ≡ lineFault k (c .building) (held x)
+  fault-is : f ≡ lineFault k (before c) (held x)
   unfolding recorded
-  fault-is = hf ∙ ap (λ (i : Job). lineFault k (i .building) (held x)) e
+  fault-is = hf ∙ ap (λ (i : Job). lineFault k (beforeIn i) (held x)) e
 
   line-stops : (f ≡ 0 → ⊥) → reading s ≡ Refused (refusal f line)
   line-stops h = sym rest ∙ walk-stop k ks c line s next x hx f fault-is h
@@ -73,9 +77,9 @@ module _
 
 -- ---- the count of the next section
 
-module _ {s : List ℕ} {sec : Section} {i : ℕ} {j : Job} {line next : ℕ} (r : ReadSoFar s sec 0 i j line next) (few : i < 4)
-    {x : Line} (hx : x ≡ lineAt s next) {f : ℕ}
-    (hf : f ≡ lineFault (Count (sectionAt i)) (j .building) (held x)) where
+module _ {s : List ℕ} {sec : Section} {i : ℕ} {j : Job} {line next : ℕ} (r : ReadSoFar s sec 0 i j line next)
+    (few : i < length sections) {x : Line} (hx : x ≡ lineAt s next) {f : ℕ}
+    (hf : f ≡ lineFault (Count (sectionAt i)) (beforeIn j) (held x)) where
   abbrev later : List Section
   later = drop (suc i) sections
 
@@ -93,9 +97,8 @@ module _ {s : List ℕ} {sec : Section} {i : ℕ} {j : Job} {line next : ℕ} (r
       → ReadSoFar s (sectionAt i) left (suc i) j (line + 1) (x .next)
   count-read z {left} hl =
       let u : Unread j (sectionAt i ∷ later) = rw next-section at (r .unread) in
-      let l : line + 0 + 25 * suc (length later) ≤ 101 = rw next-section at (r .lines) in
       let m : left ≤ about (sectionAt i) .most =
-      rw hl (count-most (sectionAt i) (j .building) (held x) (sym hf ∙ z)) in
+      rw hl (count-most (sectionAt i) (beforeIn j) (held x) (sym hf ∙ z)) in
       record {
         carries = r .carries;
         records = r .records;
@@ -105,7 +108,7 @@ module _ {s : List ℕ} {sec : Section} {i : ℕ} {j : Job} {line next : ℕ} (r
             (r .records) line next hx hf count-called z);
         room = omega (arith, u .0);
         unread = u .1;
-        lines = omega (arith, most-24 (sectionAt i));
+        lines = omega (arith, r .lines, most-24 (sectionAt i));
       }
 
 -- ---- an entry of the section
@@ -125,7 +128,7 @@ module _ {s : List ℕ} {left i : ℕ} {j : Job} {line next : ℕ} (r : ReadSoFa
   entry-called = rw (entries-next (sectionAt i) left more) at (r .rest)
 
   pub entry-stops : {x : Line} → x ≡ lineAt s next → {f : ℕ}
-      → f ≡ lineFault (Entry (sectionAt i)) (j .building) (held x) → (f ≡ 0 → ⊥)
+      → f ≡ lineFault (Entry (sectionAt i)) (beforeIn j) (held x) → (f ≡ 0 → ⊥)
       → reading s ≡ Refused (refusal f line)
   entry-stops hx hf = line-stops s (Entry (sectionAt i)) behind (r .carries) (r .records) line next hx hf entry-called
 
@@ -134,7 +137,7 @@ pub record EntryLine (s : List ℕ) (left i : ℕ) (j : Job) (line next : ℕ) (
   pub so-far : ReadSoFar s (sectionAt i) left (suc i) j line next
   pub more : left ≡ 0 → ⊥
   pub is : x ≡ lineAt s next
-  pub in-order : 0 ≡ lineFault (Entry (sectionAt i)) (j .building) (held x)
+  pub in-order : 0 ≡ lineFault (Entry (sectionAt i)) (beforeIn j) (held x)
 
 module _ {s : List ℕ} {left i : ℕ} {j : Job} {line next : ℕ} {x : Line} (o : EntryLine s left i j line next x) where
   abbrev here : Carried
@@ -174,7 +177,7 @@ pub section-end : {s : List ℕ} {sec : Section} {left i : ℕ} {j : Job} {line 
 section-end r z = rw add-one (rw z at r)
 
 module _ {s : List ℕ} {sec : Section} {i : ℕ} {j : Job} {line next : ℕ} (r : ReadSoFar s sec 0 i j line next)
-    (all : i ≡ 4) where
+    (all : i ≡ length sections) where
   nothing-called : walk [] (r .carries) line (linesIn (drop next s)) ≡ reading s
   nothing-called = rw all at (r .rest)
 

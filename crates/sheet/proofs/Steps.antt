@@ -12,7 +12,7 @@ use Rattle.lines.specs.Lines.{linesIn}
 use Rattle.lines.specs.Held.{held, lineAt}
 use Rattle.lines.proofs.Held.{At, taken, gone, unended, long, at-is}
 use Rattle.rules.specs.declared.Kind.{Kind}
-use Rattle.job.specs.Carried.{Carried}
+use Rattle.job.specs.Carried.{Carried, before}
 use Rattle.rules.specs.Sections.{lineFault}
 use Rattle.job.specs.Walk.{calls, learn, Refused, walk}
 use Rattle.job.proofs.Walk.{walk-on, walk-refused}
@@ -21,11 +21,11 @@ use Rattle.sheet.proofs.OutOfForm.{bad-first, none-held, many-held}
 -- x is the line that begins at p, and f its fault as a line of kind k
 module _
     (k : Kind) (ks : List Kind) (c : Carried) (n : ℕ) (s : List ℕ) (p : ℕ) (x : Line) (hx : x ≡ lineAt s p)
-    (f : ℕ) (hf : f ≡ lineFault k (c .building) (held x)) where
+    (f : ℕ) (hf : f ≡ lineFault k (before c) (held x)) where
   f-one : held x ≡ [] → f ≡ 1
-  f-one e = hf ∙ ap (lineFault k (c .building)) e ∙ none-held k (c .building)
+  f-one e = hf ∙ ap (lineFault k (before c)) e ∙ none-held k (before c)
 
-  refused-at : (y : List Field) (ys : List (List Field)) → f ≡ lineFault k (c .building) y → (f ≡ 0 → ⊥)
+  refused-at : (y : List Field) (ys : List (List Field)) → f ≡ lineFault k (before c) y → (f ≡ 0 → ⊥)
       → walk (k ∷ ks) c n (y ∷ ys) ≡ Refused (refusal f n)
   refused-at y ys e h = walk-refused k ks c n y ys (λ z. h (e ∙ z)) ∙ ap (λ (g : ℕ). Refused (refusal g n)) (sym e)
 
@@ -39,8 +39,8 @@ module _
       go : At s p x → walk (k ∷ ks) c n (linesIn (drop p s)) ≡ Refused (refusal f n)
       go (taken e) = rw e (refused-at (held x) (linesIn (drop (x .next) s)) hf h)
       go (gone eh e) = rw e (missing (f-one eh))
-      go (unended eh e) = rw e (refused-at (Bad ∷ []) [] (f-one eh ∙ sym (bad-first k (c .building))) h)
-      go (long fs rest eh e m) = rw e (refused-at fs rest (f-one eh ∙ sym (many-held k (c .building) fs m)) h)
+      go (unended eh e) = rw e (refused-at (Bad ∷ []) [] (f-one eh ∙ sym (bad-first k (before c))) h)
+      go (long fs rest eh e m) = rw e (refused-at fs rest (f-one eh ∙ sym (many-held k (before c) fs m)) h)
 
   pub walk-go : f ≡ 0
       → walk (k ∷ ks) c n (linesIn (drop p s)) ≡ walk (calls k (held x) ++ ks) (learn k (held x) c) (n + 1)

@@ -13,9 +13,11 @@ use job::Job;
 use job::Winds;
 use lines::field_at;
 use lines::line_at;
+use rules::Before;
 use rules::Kind;
 use rules::Section;
 use rules::faults::line_fault;
+use rules::shape::SECTIONS;
 use verdict::Verdict;
 ghost use mathlib.Core.Path.{_≡_};
 ghost use Rattle.verdict.specs.Verdict.{accepted};
@@ -54,25 +56,23 @@ fn accepted(building: Building, winds: Winds, internals: Internals, faces: Faces
     }
 }
 
-// The sections, in order.
-const SECTIONS: [Section; 4] = [Section::B, Section::W, Section::I, Section::F];
-
 // What the text s says.
 pub fn read_sheet(s: &[u8]) -> Read
     ensures { λ r. ⌜ r ≡ answer (reading (now (s .entry))) ⌝ }
 {
     let none = no_job();
-    let mut building = none.building;
+    let building = none.building;
+    let mut b = Before { building };
     let mut winds = none.winds;
     let mut internals = none.internals;
     let mut faces = none.faces;
     let mut line: u32 = 1;
     let mut next: usize = 0;
-    for i in 0..4 {
+    for i in 0..SECTIONS.len() {
         // the count of the section, and as many entries
         let sec = SECTIONS[i];
         let x = line_at(s, next);
-        let n = line_fault(Kind::Count(sec), building, x);
+        let n = line_fault(Kind::Count(sec), b, x);
         if n != 0 {
             return refused(Verdict { number: n, line });
         }
@@ -81,7 +81,7 @@ pub fn read_sheet(s: &[u8]) -> Read
         let mut left = size_of(field_at(x, 1));
         while left != 0 {
             let x = line_at(s, next);
-            let n = line_fault(Kind::Entry(sec), building, x);
+            let n = line_fault(Kind::Entry(sec), b, x);
             if n != 0 {
                 return refused(Verdict { number: n, line });
             }
@@ -89,7 +89,7 @@ pub fn read_sheet(s: &[u8]) -> Read
             next = x.next;
             left -= 1;
             match sec {
-                Section::B => building = building_of(x),
+                Section::B => b.building = building_of(x),
                 Section::W => {
                     winds.entry[winds.count as usize] = wind_of(x);
                     winds.count += 1;
@@ -108,5 +108,5 @@ pub fn read_sheet(s: &[u8]) -> Read
     if next < s.len() {
         return refused(Verdict { number: 1, line });
     }
-    accepted(building, winds, internals, faces)
+    accepted(b.building, winds, internals, faces)
 }

@@ -13,9 +13,9 @@ use Rattle.page.specs.Writing.{Put, writing, bufferAfter}
 use Rattle.page.proofs.Put.{emitted}
 use Rattle.job.specs.declared.Job.{Job}
 use Rattle.job.specs.Carried.{carried}
-use Rattle.job.specs.Lines.{linesOf}
+use Rattle.job.specs.Lines.{entriesOf, linesOf}
 use Rattle.job.specs.Walk.{Accepted, verdict, judged}
-use Rattle.job.proofs.InOrder.{accepted-in-order}
+use Rattle.job.proofs.Sheet.{sheet-in-order}
 use Rattle.job.proofs.Verdicts.{judged-refused, judged-accepted}
 use Rattle.sheet.specs.Sheet.{sheetText, jobWriting, jobBuffer}
 use Rattle.sheet_written.specs.Roomed.{Roomed}
@@ -34,14 +34,9 @@ module _ (j : Job) (v : Verdict) (e : v ≡ verdict (judged j)) where
     judged-is = judged-accepted j v e z
 
     pub job-roomed : Roomed (carried j)
-    unfolding judged
+    unfolding judged linesOf
     job-roomed =
-        let o = accepted-in-order (linesOf (carried j)) (carried j) judged-is in
-        record {
-          winds = o .winds-counted .high;
-          internals = o .internals-counted .high;
-          faces = o .faces-counted .high;
-        }
+        λ s. sheet-in-order (entriesOf (carried j)) (carried j) judged-is .counted s .high
 
     -- the text on a page that has room for the longest, put into a buffer
     module _ {l page : List ℕ} {n : ℕ} (w : Put l 0 (sheetText (carried j)) page n) (room : length l ≡ 827) where

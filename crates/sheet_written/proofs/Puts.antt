@@ -1,7 +1,8 @@
--- Laws of a section written line by line: its count, and after that its entries, one behind the other.
+-- Laws of a section written line by line, its count and after that its entries, and of the sections one behind the
+-- other.
 use Prim.Native.Nat.{ℕ, _+_, _≤_, _<_}
-use mathlib.Core.Path.{_≡_, sym, _∙_}
-use mathlib.Core.List.{List, [], _∷_, _++_}
+use mathlib.Core.Path.{_≡_, sym, ap, _∙_, subst}
+use mathlib.Core.List.{List, [], _∷_, _++_, append-assoc, append-nil}
 use native.Mathlib.Numerals.{add-one}
 use native.Mathlib.Omega.{arith}
 use lib.ListN.{length, getD, take}
@@ -18,7 +19,8 @@ use Rattle.rules.specs.declared.Section.{Section}
 use Rattle.rules.specs.declared.Section.the-variants.{B, W, I, F}
 use Rattle.job.specs.declared.Job.{Job}
 use Rattle.job.specs.Carried.{carried}
-use Rattle.job.specs.Lines.{entriesOf, sectionOf}
+use Rattle.rules.specs.Sections.{sections, sectionAt}
+use Rattle.job.specs.Lines.{entriesOf, sectionOf, sectionsOf, sheetOf}
 use Rattle.job.proofs.Sections.{countLine}
 use Rattle.job.proofs.Alone.{entryOf, entry-is}
 
@@ -61,3 +63,35 @@ pub put-all : {l m n : List ℕ} {at r r′ : ℕ} (s : Section) (es : List (Lis
 put-all s es i x h e v w =
     let c : held x ≡ countLine s (length es) = rw e (held-all 0 (countLine s (length es)) (omega arith) .0) in
     then-lines (countLine s (length es) ∷ []) es (rw c at v) (rw (take-all i es h) at w)
+
+-- ---- the sections of a sheet
+
+module _ (es : Section → List (List Field)) where
+  sections-one : (ss : List Section) (s : Section)
+      → sectionsOf es ss ++ sectionOf s (es s) ≡ sectionsOf es (ss ++ (s ∷ []))
+  sections-one [] s = sym (append-nil (sectionOf s (es s)))
+  sections-one (t ∷ ss) s =
+      append-assoc (sectionOf t (es t)) (sectionsOf es ss) (sectionOf s (es s))
+      ∙ ap (λ (l : List (List Field)). sectionOf t (es t) ++ l) (sections-one ss s)
+
+  -- the first i of them
+  abbrev pub PutSections : ℕ → List ℕ → List ℕ → ℕ → Type 0
+  PutSections i l m r = Put l 0 (textOfLines (sectionsOf es (take i sections))) m r
+
+  pub no-section : (l : List ℕ) → PutSections 0 l l 0
+  unfolding textOfLines
+  no-section l = put-nothing l 0 (omega arith)
+
+  pub one-section : {l m n : List ℕ} {r r′ : ℕ} (i : ℕ) → i < length sections → PutSections i l m r
+      → Put m r (textOfLines (sectionOf (sectionAt i) (es (sectionAt i)))) n r′ → PutSections (i + 1) l n r′
+  one-section {l} {n = n} {r′ = r′} i h v w =
+      let s = sectionAt i in
+      let q : sectionsOf es (take i sections) ++ sectionOf s (es s) ≡ sectionsOf es (take (i + 1) sections) =
+      sections-one (take i sections) s
+      ∙ ap (sectionsOf es) (sym (take-suc sections i B h) ∙ ap (λ (k : ℕ). take k sections) (sym (add-one i))) in
+      subst (λ (xs : List (List Field)). Put l 0 (textOfLines xs) n r′) q
+      (then-lines (sectionsOf es (take i sections)) (sectionOf s (es s)) v w)
+
+  pub all-sections : {l m : List ℕ} {r i : ℕ} → i ≡ length sections → PutSections i l m r
+      → Put l 0 (textOfLines (sheetOf es)) m r
+  all-sections {l} {m} {r} e v = subst (λ (k : ℕ). PutSections k l m r) e v

@@ -4,10 +4,12 @@ use entry_written::face_line;
 use entry_written::internal_line;
 use entry_written::wind_line;
 use job::Job;
+use job::entry_count;
 use job::judge::judge;
 use lines_written::put_line;
 use page::Writing;
 use rules::Section;
+use rules::shape::SECTIONS;
 use rules::shape::count_line;
 ghost use mathlib.Core.Path.{_≡_};
 ghost use Prim.Native.Nat.{_≤_};
@@ -21,12 +23,13 @@ ghost use Rattle.job.specs.Walk.{judged};
 ghost use Rattle.sheet.specs.Sheet.{sheetText, jobWriting, jobBuffer};
 ghost use Rattle.sheet_written.specs.Roomed.{Roomed};
 
-// A section of n entries: its count, and the entries.
-fn put_section(buf: &mut [u8], at: usize, j: Job, sec: Section, n: u32) -> usize
-    requires { ⌜ (n ≡ length (entriesOf (carried j) sec)) × (n ≤ about sec .most) ⌝ }
+// A section: its count, and the entries.
+fn put_section(buf: &mut [u8], at: usize, j: Job, sec: Section) -> usize
+    requires { ⌜ length (entriesOf (carried j) sec) ≤ about sec .most ⌝ }
     ensures { λ r. ⌜ Put (now (buf .entry)) at (textOfLines (sectionOf sec (entriesOf (carried j) sec)))
         (now (buf .exit)) r ⌝ }
 {
+    let n = entry_count(j, sec);
     let g = j.building;
     let winds = j.winds;
     let internals = j.internals;
@@ -60,10 +63,11 @@ fn put_sheet(buf: &mut [u8], j: Job) -> usize
     requires { ⌜ Roomed (carried j) ⌝ }
     ensures { λ r. ⌜ Put (now (buf .entry)) 0 (sheetText (carried j)) (now (buf .exit)) r ⌝ }
 {
-    let b = put_section(buf, 0, j, Section::B, 1);
-    let w = put_section(buf, b, j, Section::W, j.winds.count);
-    let i = put_section(buf, w, j, Section::I, j.internals.count);
-    put_section(buf, i, j, Section::F, j.faces.count)
+    let mut next: usize = 0;
+    for i in 0..SECTIONS.len() {
+        next = put_section(buf, next, j, SECTIONS[i]);
+    }
+    next
 }
 
 // The text of j at the start of `buf`; no accepted job has one of more than 827 bytes.

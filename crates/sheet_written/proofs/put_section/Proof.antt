@@ -34,17 +34,23 @@ abbrev μ-loop : tie.MeasureT-loop
 
 -- entry i is one of the section, which has room for it
 module _ (c : tie.In-loop Inv-loop μ-loop) where
+  abbrev counted : tie.After-entry-count Inv-loop μ-loop
+  counted = c .before .before .before .before .before .before .before .before .before .before .before
+
   abbrev start : tie.Start Inv-loop μ-loop
-  start = c .before .before .before .before .before .before .before .before .before .before .before .before
+  start = counted .before .before
+
+  within : c .before .loop .i < length (entriesOf (carried (start .args .j)) (start .args .sec))
+  within = omega (arith, c .loop-test .taken, counted .entry-count .ensures)
 
   abbrev i : ℕ
   i = c .before .loop .i
 
   below : (t : Section) → start .args .sec ≡ t → i < about t .most
-  below t e = subst (λ (u : Section). i < about u .most) e (omega (arith, c .loop-test .taken, start .pre .1))
+  below t e = subst (λ (u : Section). i < about u .most) e (omega (arith, within, start .pre))
 
   below-24 : i < 24
-  below-24 = omega (arith, c .loop-test .taken, start .pre .1, most-24 (start .args .sec))
+  below-24 = omega (arith, within, start .pre, most-24 (start .args .sec))
 
 loop-holds : tie.Need-loop-holds Inv-loop μ-loop
 loop-holds c = (search needs, put-none (c .before .before .put-line .ensures))
@@ -97,12 +103,10 @@ loop-again : tie.Need-loop-again Inv-loop μ-loop
 loop-again c =
     let p = c .before .before in
     let m = p .before .before in
-    let t = m .before in
-    let h : i t < length (entriesOf (carried (job m)) (section m)) =
-    omega (arith, t .loop-test .taken, start t .pre .0) in (
+    let t = m .before in (
       omega arith,
-      put-entry (entriesOf (carried (job m)) (section m)) (i t) (m .match .x) h
-          (entry-held (job m) (section m) (i t) (m .match .x) h (made m)) (t .before .loop .inv .1) (p .put-line2 .ensures),
+      put-entry (entriesOf (carried (job m)) (section m)) (i t) (m .match .x) (within t)
+          (entry-held (job m) (section m) (i t) (m .match .x) (within t) (made m)) (t .before .loop .inv .1) (p .put-line2 .ensures),
     )
 
 same-length : tie.Need-same-length Inv-loop μ-loop
@@ -114,17 +118,18 @@ returns : tie.Need-returns Inv-loop μ-loop
 returns c =
     let p = c .before .before .before .before in
     let n = p .before in
-    let s = n .before .before .before .before .before .before .before in
+    let k = n .before .before .before .before .before .before in
+    let s = k .before .before in
     let es = entriesOf (carried (s .args .j)) (s .args .sec) in
     put-all (s .args .sec) es (c .before .loop .i) (n .count-line .result)
-    (omega (arith, c .loop-test .left, s .pre .0))
-    (n .count-line .ensures ∙ ap (λ (k : ℕ). heldLine 0 (countLine (s .args .sec) k)) (s .pre .0))
+    (omega (arith, c .loop-test .left, k .entry-count .ensures))
+    (n .count-line .ensures ∙ ap (λ (k : ℕ). heldLine 0 (countLine (s .args .sec) k)) (k .entry-count .ensures))
     (p .put-line .ensures) (c .before .loop .inv .1)
 
 pub put-section-spec : {M : Type 1} → statement M
 put-section-spec =
     tie.close
-    (tie.spec Inv-loop μ-loop (λ c κs. search needs) (λ c κs. search needs) loop-holds cast-k (λ c. search needs)
+    (tie.spec Inv-loop μ-loop (λ c κs. search needs) (λ c κs. search needs) (λ c κs. search needs) loop-holds cast-k (λ c. search needs)
     (λ c κs. search needs) (λ c. search needs) mul-w element-copy-out-w (λ c κs. search needs) (λ c. search needs)
     mul-z element-copy-out-z (λ c κs. search needs) (λ c. search needs) mul-f element-copy-out-f
     (λ c κs. search needs) (λ c κs. search needs) add-i (λ c. search needs) loop-again same-length returns)

@@ -1,56 +1,51 @@
--- `put_sheet` meets its contract: the text of the lines of four sections is that of each, one after the other.
-use mathlib.Core.Path.{sym}
-use mathlib.Core.List.{_++_, append-nil}
+-- `put_sheet` meets its contract: the first i sections are written.
+use Prim.Native.Nat.{_≤_, _-_}
+use mathlib.Core.Path.{_≡_}
 use native.Mathlib.Omega.{arith}
-use lib.ListN.{length-map}
-use Rattle.rules.specs.declared.Section.the-variants.{B, W, I, F}
+use lib.ListN.{length}
+use Rattle.page.proofs.Put.{put-length}
+use Rattle.rules.specs.Sections.{sections, sectionAt}
 use Rattle.job.specs.Carried.{carried}
-use Rattle.entry_written.specs.Fields.{windFields, internalFields, faceFields}
-use Rattle.job.specs.Lines.{entriesOf, sectionOf, linesOf}
-use Rattle.job.proofs.Alone.{winds-counted, internals-counted, faces-counted}
+use Rattle.job.specs.Lines.{entriesOf, linesOf}
 use Rattle.sheet.specs.Sheet.{sheetText}
-use Rattle.sheet_written.proofs.Puts.{then-lines}
+use Rattle.sheet_written.proofs.Puts.{PutSections, no-section, one-section, all-sections}
 use borrow.Author.Needs.{needs}
 use Rattle.sheet_written.proofs.put_sheet.Statement.{statement}
 use Rattle.sheet_written.proofs.put_sheet.Tie as tie
 
-put-section-requires-2 : tie.Need-put-section-requires-2
-put-section-requires-2 c κs =
-    let s = c .before .before .before .before .before .before in
-    let q = winds-counted (s .args .j) in
-    (sym q, omega (arith, s .pre .winds, length-map (carried (s .args .j) .winds) windFields))
+abbrev Inv-loop : tie.InvT-loop
+Inv-loop buf₀ j next₀ i₀ buf next i = (i ≤ length sections) × PutSections (entriesOf (carried j)) i buf₀ buf next
 
-put-section-requires-3 : tie.Need-put-section-requires-3
-put-section-requires-3 c κs =
-    let s = c .before .before .before .before .before .before .before .before .before .before in
-    let q = internals-counted (s .args .j) in
-    (sym q, omega (arith, s .pre .internals, length-map (carried (s .args .j) .internals) internalFields))
+abbrev μ-loop : tie.MeasureT-loop
+μ-loop buf₀ j next₀ i₀ buf next i = length sections - i
 
-put-section-requires-4 : tie.Need-put-section-requires-4
-put-section-requires-4 c κs =
-    let s =
-    c .before .before .before .before .before .before .before .before .before .before .before .before .before .before in
-    let q = faces-counted (s .args .j) in
-    (sym q, omega (arith, s .pre .faces, length-map (carried (s .args .j) .faces) faceFields))
+loop-holds : tie.Need-loop-holds Inv-loop μ-loop
+loop-holds c = (omega arith, no-section (entriesOf (carried (c .before .args .j))) _)
 
-returns : tie.Need-returns
+put-section-requires : tie.Need-put-section-requires Inv-loop μ-loop
+put-section-requires c κs =
+    let l = c .before .before .before in
+    l .before .before .pre (sectionAt (l .loop .i))
+
+loop-again : tie.Need-loop-again Inv-loop μ-loop
+loop-again c =
+    let p = c .before .before in
+    let t = p .before .before .before in
+    let l = t .before in (
+      omega arith,
+      one-section (entriesOf (carried (l .before .before .args .j))) (l .loop .i) (t .loop-test .taken) (l .loop .inv .1)
+          (p .put-section .ensures),
+    )
+
+returns : tie.Need-returns Inv-loop μ-loop
 unfolding sheetText linesOf
 returns c =
-    let f = c .before .before in
-    let i = f .before .before .before .before in
-    let w = i .before .before .before .before in
-    let b = w .before .before .before .before in
-    let d = carried (b .before .before .before .args .j) in
-    let fs = sectionOf F (entriesOf d F) in
-    let is = sectionOf I (entriesOf d I) in
-    let ws = sectionOf W (entriesOf d W) in
-    rw append-nil
-    (then-lines (sectionOf B (entriesOf d B)) (ws ++ (is ++ fs)) (b .put-section .ensures)
-    (then-lines ws (is ++ fs) (w .put-section2 .ensures)
-    (then-lines is fs (i .put-section3 .ensures) (f .put-section4 .ensures))))
+    let l = c .before in
+    let i : l .loop .i ≡ length sections = omega arith in
+    all-sections (entriesOf (carried (l .before .before .args .j))) i (l .loop .inv .1)
 
 pub put-sheet-spec : {M : Type 1} → statement M
 put-sheet-spec =
     tie.close
-    (tie.spec (λ c κs. search needs) put-section-requires-2 put-section-requires-3 put-section-requires-4
-    (λ c. search needs) returns)
+    (tie.spec Inv-loop μ-loop loop-holds (λ c. search needs) put-section-requires (λ c. search needs)
+    (λ c. search needs) loop-again (λ c. put-length (c .before .loop .inv .1)) returns)

@@ -16,13 +16,13 @@ use Rattle.job.proofs.given.count_fault.Statement.{statement}
 use Rattle.job.proofs.given.count_fault.Tie as tie
 
 returns : tie.Need-returns
-returns c g =
+returns c b =
     let l = c .before in
     let a = l .before .args in
     c .count-fault .ensures
-    ∙ ap₂ (λ (b : ℕ) (z : ℤ). first (countFaults (a .s) b z)) (l .limits-of .ensures .0)
+    ∙ ap₂ (λ (y : ℕ) (z : ℤ). first (countFaults (a .s) y z)) (l .limits-of .ensures .0)
     (nat w64 {n = a .n} 4294967295 (omega arith) tt .same)
-    ∙ sym (fault-in (Count (a .s)) g (countLine (a .s) (a .n)) (formed-in (more letter (more count none))))
+    ∙ sym (fault-in (Count (a .s)) b (countLine (a .s) (a .n)) (formed-in (more letter (more count none))))
 
 pub count-fault-spec : {M : Type 1} → statement M
 count-fault-spec =

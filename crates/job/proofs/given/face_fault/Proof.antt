@@ -22,7 +22,7 @@ returns c =
     (said tooLong (f .y) (y .too-long2 .ensures) (q .1 .1 .0 .1))
     (said tooLong (f .z) (z .too-long3 .ensures) (q .1 .1 .1 .0 .1))
     (n .face-fault .ensures) (c .in-form .ensures)
-    ∙ sym (face-given (a .g) f)
+    ∙ sym (face-given (a .b) f)
 
 pub face-fault-spec : {M : Type 1} → statement M
 face-fault-spec =

@@ -12,7 +12,7 @@ use Rattle.job.proofs.given.internal_fault.Statement.{statement}
 use Rattle.job.proofs.given.internal_fault.Tie as tie
 
 returns : tie.Need-returns
-returns c g =
+returns c b =
     let n = c .before in
     let s = n .before .before in
     let i = s .args .i in
@@ -20,7 +20,7 @@ returns c g =
     let no = refl {a = false} in
     long-by (said tooLong i (n .before .too-long .ensures) q) no no no
     (said (λ (z : ℤ). first (internalFaults z)) i (n .internal-fault .ensures) q) (c .in-form .ensures)
-    ∙ sym (internal-given g i)
+    ∙ sym (internal-given b i)
 
 pub internal-fault-spec : {M : Type 1} → statement M
 internal-fault-spec =

@@ -19,7 +19,7 @@ returns c =
     long-by (said tooLong (a .w .direction) (d .too-long .ensures) (q .0 .1))
     (said tooLong (a .w .speed) (v .too-long2 .ensures) (q .1 .0 .1)) no no (n .wind-fault .ensures)
     (c .in-form .ensures)
-    ∙ sym (wind-given (a .g) (a .w))
+    ∙ sym (wind-given (a .b) (a .w))
 
 pub wind-fault-spec : {M : Type 1} → statement M
 wind-fault-spec =

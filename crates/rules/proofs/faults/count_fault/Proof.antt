@@ -12,11 +12,11 @@ use Rattle.rules.proofs.faults.count_fault.Statement.{statement}
 use Rattle.rules.proofs.faults.count_fault.Tie as tie
 
 returns : tie.Need-returns
-returns c g =
+returns c b =
     let n = c .before in
     let l = n .before .before in
     c .count-fault .ensures
-    ∙ ap₂ (λ (b : ℕ) (z : ℤ). first (countFaults (l .before .before .args .s) b z))
+    ∙ ap₂ (λ (y : ℕ) (z : ℤ). first (countFaults (l .before .before .args .s) y z))
     (l .letter-of .ensures ∙ ap letter (l .before .field-at .ensures))
     (returned w64 _ (n .number-of .ok) .same ∙ n .number-of .ensures ∙ ap number (n .before .field-at2 .ensures))
 

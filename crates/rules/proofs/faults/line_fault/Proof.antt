@@ -6,7 +6,6 @@ use mir.Syntax.{w64}
 use borrow.Author.Tests.{not-true, not-false}
 use Rattle.whole.proofs.Size.{returned}
 use Rattle.lines.specs.Held.{held}
-use Rattle.building.specs.declared.Building.{Building}
 use Rattle.building.specs.Fault.{first}
 use Rattle.building.specs.Building.{buildingFault}
 use Rattle.entry.specs.declared.Wind.{Wind}
@@ -30,30 +29,30 @@ returns c =
 
 -- in form: it has the faults of a line of its kind
 as-kind : (c : tie.Else1) (k : Kind) → c .before .before .args .k ≡ k → let a = c .before .before .args in
-    first (faultsOf k (a .g) (held (a .x))) ≡ lineFault (a .k) (a .g) (held (a .x))
+    first (faultsOf k (a .b) (held (a .x))) ≡ lineFault (a .k) (a .b) (held (a .x))
 as-kind c k e =
     let a = c .before .before .args in
-    ap (λ (q : Kind). first (faultsOf q (a .g) (held (a .x)))) (sym e)
-    ∙ sym (fault-in (a .k) (a .g) (held (a .x)) (sym (c .before .in-form .ensures) ∙ not-false _ (c .if1 .left)))
+    ap (λ (q : Kind). first (faultsOf q (a .b) (held (a .x)))) (sym e)
+    ∙ sym (fault-in (a .k) (a .b) (held (a .x)) (sym (c .before .in-form .ensures) ∙ not-false _ (c .if1 .left)))
 
 -- an entry
 module _ (c : tie.After-known-told2) where
   abbrev begun : tie.Else1
-  begun = c .before .before .before
+  begun = c .before .before .before .before
 
   abbrev args : tie.Start
   args = begun .before .before
 
   as-entry : (s : Section) → c .before .k2 .given .0 .0 ≡ s
-      → first (faultsOf (Entry s) (args .args .g) (held (args .args .x))) ≡ lineFault (args .args .k) (args .args .g)
+      → first (faultsOf (Entry s) (args .args .b) (held (args .args .x))) ≡ lineFault (args .args .k) (args .args .b)
       (held (args .args .x))
   as-entry s e = as-kind begun (Entry s) (c .before .k2 .given .1 ∙ ap Entry e)
 
 returns-2 : tie.Need-returns-2
 returns-2 c =
     let k = c .before .before in
-    let e = k .before .before in
-    c .count-fault .ensures (e .before .before .args .g) ∙ as-kind e (Count (k .k .given .0 .0)) (k .k .given .1)
+    let e = k .before .before .before in
+    c .count-fault .ensures (e .before .before .args .b) ∙ as-kind e (Count (k .k .given .0 .0)) (k .k .given .1)
 
 returns-3 : tie.Need-returns-3
 unfolding buildingFault
@@ -65,7 +64,7 @@ returns-3 c =
 returns-4 : tie.Need-returns-4
 returns-4 c =
     let t = c .before .before in
-    let g = args (t .before .before) .args .g in
+    let g = args (t .before .before) .args .b .building in
     c .wind-fault .ensures ∙ ap (λ (w : Wind). first (windFaults g w)) (c .before .wind-of .ensures)
     ∙ as-entry (t .before .before) W (t .enum-told2 .given .1)
 
@@ -79,7 +78,7 @@ returns-5 c =
 returns-6 : tie.Need-returns-6
 returns-6 c =
     let t = c .before .before in
-    let g = args (t .before .before) .args .g in
+    let g = args (t .before .before) .args .b .building in
     c .face-fault .ensures ∙ ap (λ (f : Face). first (faceFaults g f)) (c .before .face-of .ensures)
     ∙ as-entry (t .before .before) F (t .enum-told4 .given .1)
 

@@ -3,9 +3,11 @@ use Prim.Native.Nat.{ℕ, suc, _≤_, _<_, _-_}
 use mathlib.Core.Path.{_≡_, ap, _∙_, sym}
 use mathlib.Core.List.{List}
 use native.Mathlib.Omega.{arith}
+use lib.ListN.{length}
 use Rattle.verdict.specs.Verdict.{accepted}
 use Rattle.rules.specs.declared.Section.{Section}
 use Rattle.rules.specs.declared.Section.the-variants.{B}
+use Rattle.rules.specs.Sections.{sections}
 use Rattle.sheet.specs.Sheet.{answer}
 use Rattle.sheet.proofs.SoFar.{ReadSoFar, EntryLine, read-start, count-stops, count-read, entry-stops}
 use Rattle.sheet.proofs.SoFar.{entry-room, entry-read}
@@ -19,20 +21,20 @@ use Rattle.sheet.proofs.read.read_sheet.Statement.{statement}
 use Rattle.sheet.proofs.read.read_sheet.Tie as tie
 
 abbrev Inv-loop2 : tie.InvT-loop2
-Inv-loop2 s building₀ winds₀ internals₀ faces₀ line₀ next₀ i sec n left₀ building winds internals faces line next left =
+Inv-loop2 s b₀ winds₀ internals₀ faces₀ line₀ next₀ i sec n left₀ b winds internals faces line next left =
     ReadSoFar s sec left (suc i)
-    (record { building = building; winds = winds; internals = internals; faces = faces }) line next
+    (record { building = b .building; winds = winds; internals = internals; faces = faces }) line next
 
 abbrev μ-loop2 : tie.MeasureT-loop2
-μ-loop2 s building₀ winds₀ internals₀ faces₀ line₀ next₀ i sec n left₀ building winds internals faces line next left =
+μ-loop2 s b₀ winds₀ internals₀ faces₀ line₀ next₀ i sec n left₀ b winds internals faces line next left =
     left
 
 abbrev Inv-loop : tie.InvT-loop
-Inv-loop s building₀ winds₀ internals₀ faces₀ line₀ next₀ i₀ building winds internals faces line next i =
-    (i ≤ 4) × ((sec : Section) × ReadSoFar s sec 0 i (record { building = building; winds = winds; internals = internals; faces = faces }) line next)
+Inv-loop s b₀ winds₀ internals₀ faces₀ line₀ next₀ i₀ b winds internals faces line next i =
+    (i ≤ length sections) × ((sec : Section) × ReadSoFar s sec 0 i (record { building = b .building; winds = winds; internals = internals; faces = faces }) line next)
 
 abbrev μ-loop : tie.MeasureT-loop
-μ-loop s building₀ winds₀ internals₀ faces₀ line₀ next₀ i₀ building winds internals faces line next i = 4 - i
+μ-loop s b₀ winds₀ internals₀ faces₀ line₀ next₀ i₀ b winds internals faces line next i = length sections - i
 
 loop-holds : tie.Need-loop-holds Inv-loop2 μ-loop2 Inv-loop μ-loop
 loop-holds c =
@@ -78,7 +80,7 @@ module _ (c : tie.Else2 Inv-loop2 μ-loop2 Inv-loop μ-loop) where
   abbrev kept : Job
   kept =
       record {
-        building = turn .loop2 .building;
+        building = turn .loop2 .b .building;
         winds = turn .loop2 .winds;
         internals = turn .loop2 .internals;
         faces = turn .loop2 .faces;
@@ -129,13 +131,13 @@ loop-again c = (omega arith, (_, section-end (c .before .loop2 .inv) (c .loop2-t
 returns-3 : tie.Need-returns-3 Inv-loop2 μ-loop2 Inv-loop μ-loop
 returns-3 c =
     let l = c .before .before in
-    let i : l .before .loop .i ≡ 4 = omega arith in
+    let i : l .before .loop .i ≡ length sections = omega arith in
     c .refused3 .ensures ∙ ap answer (sym (end-extra (l .before .loop .inv .1 .1) i (c .before .if3 .taken)))
 
 returns-4 : tie.Need-returns-4 Inv-loop2 μ-loop2 Inv-loop μ-loop
 returns-4 c =
     let l = c .before .before in
-    let i : l .before .loop .i ≡ 4 = omega arith in
+    let i : l .before .loop .i ≡ length sections = omega arith in
     let r = l .before .loop .inv .1 .1 in
     c .accepted .ensures
     ∙ ap (λ (j : Job). record { verdict = accepted; job = j }) (r .records)
