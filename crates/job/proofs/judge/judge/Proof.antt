@@ -1,5 +1,5 @@
 -- `judge` meets its contract: what comes of the sections from i on is what comes of the whole sheet.
-use Prim.Native.Nat.{_≤_, _-_}
+use Prim.Native.Nat.{_≤_, _<_, _-_}
 use mathlib.Core.Path.{_≡_}
 use native.Mathlib.Omega.{arith}
 use lib.ListN.{length}
@@ -18,14 +18,18 @@ abbrev μ-loop : tie.MeasureT-loop
 loop-holds : tie.Need-loop-holds Inv-loop μ-loop
 loop-holds c = (omega arith, reached-first (c .args .j))
 
+-- section i is there
+few : (c : tie.In-loop Inv-loop μ-loop) → c .before .loop .i < length sections
+few c = omega (arith, c .loop-test .taken)
+
 judge-section-requires : tie.Need-judge-section-requires Inv-loop μ-loop
-judge-section-requires c κs = (c .loop-test .taken, c .before .loop .inv .1 .lines)
+judge-section-requires c κs = (few c, c .before .loop .inv .1 .lines)
 
 returns : tie.Need-returns Inv-loop μ-loop
 returns c =
     let v = c .before .before in
     let l = v .before in
-    stops _ (l .before .loop .inv .1) (l .loop-test .taken) (v .judge-section .ensures) (c .if1 .taken)
+    stops _ (l .before .loop .inv .1) (few l) (v .judge-section .ensures) (c .if1 .taken)
 
 -- behind a section that is in order
 module _ (c : tie.After-entry-count Inv-loop μ-loop) where
@@ -38,16 +42,16 @@ module _ (c : tie.After-entry-count Inv-loop μ-loop) where
   abbrev turn : tie.In-loop Inv-loop μ-loop
   turn = verdict-of .before
 
-  few : c .entry-count .result ≤ 24
-  few =
-      few-entries _ (turn .before .loop .inv .1) (turn .loop-test .taken) (verdict-of .judge-section .ensures)
+  short : c .entry-count .result ≤ 24
+  short =
+      few-entries _ (turn .before .loop .inv .1) (few turn) (verdict-of .judge-section .ensures)
       (passed .if1 .left) (c .entry-count .ensures)
 
 loop-again : tie.Need-loop-again Inv-loop μ-loop
 loop-again c =
     let t = turn c in (
       omega arith,
-      goes-on _ (t .before .loop .inv .1) (t .loop-test .taken) (verdict-of c .judge-section .ensures)
+      goes-on _ (t .before .loop .inv .1) (few t) (verdict-of c .judge-section .ensures)
           (passed c .if1 .left) (c .entry-count .ensures),
     )
 
@@ -61,5 +65,5 @@ pub judge-spec : {M : Type 1} → statement M
 judge-spec =
     tie.close
     (tie.spec Inv-loop μ-loop loop-holds judge-section-requires returns (λ c. search needs) (λ c κs. search needs)
-    (λ c. omega (arith, few c)) (λ c. omega (arith, few c)) (λ c. search needs) (λ c. search needs) loop-again
+    (λ c. omega (arith, short c)) (λ c. omega (arith, short c)) (λ c. search needs) (λ c. search needs) loop-again
     returns-2)
