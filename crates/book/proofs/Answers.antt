@@ -11,9 +11,9 @@ use Rattle.building.specs.declared.Building.{Building}
 use Rattle.building.specs.declared.Sizes.{Sizes}
 use Rattle.book.specs.declared.Answer.{Answer}
 use Rattle.book.specs.declared.Answer.the-variants.{One, Two, Refused}
-use Rattle.book.specs.Line.{cellIn}
+use Rattle.book.specs.Row.{hundredths}
 use Rattle.book.specs.Roofs.{roofValue}
-use Rattle.book.specs.Walls.{wallRow, wallCells, wallValue}
+use Rattle.book.specs.Walls.{wallRow, wallValue}
 use Rattle.building.specs.Order.{SizesInOrder}
 use Rattle.building.specs.Building.{buildingFault, sizes}
 use Rattle.book.specs.Answer.{verdictOf, valuesOf, Alternatives, one, two}
@@ -26,7 +26,7 @@ use Rattle.building.proofs.Judged.{Told, told, in-question}
 use Rattle.book.specs.Question.{wallColumn, gableColumn, flatColumn, bothSigns, coefficientOf, answerTo}
 use Rattle.book.specs.Question.{outsideOf}
 use Rattle.book.proofs.Between.{value-on, line-small}
-use Rattle.book.proofs.Tables.{wall-small}
+use Rattle.book.proofs.Rows.{wallRow-small}
 use Rattle.building.proofs.Accepted.{in-order}
 use Rattle.book.proofs.Roofed.{roofValue-small, flatValue-small, gableValue-small}
 
@@ -56,13 +56,13 @@ module _ (s : Sizes) (wind place : ℕ) where
 -- ---- how large they can be
 
 -- a wall's value is its row's
-pub wall-on : (h a b col : ℕ) → wallValue h a b col ≡ cellIn wallCells (wallRow h a b) col *ℤ pos 10
-wall-on h a b col = value-on wallCells (wallRow h a b) col
+pub wall-on : (h a b col : ℕ) → wallValue h a b col ≡ hundredths (wallRow h a b) col *ℤ pos 10
+wall-on h a b col = value-on (wallRow h a b) col
 
 wallValue-small : (h a b col : ℕ) → natAbs (wallValue h a b col) ≤ 1200
 wallValue-small h a b col =
-    let c = cellIn wallCells (wallRow h a b) col in
-    line-small c c 0 1 (lit≤ tt) (lit< tt) 120 (wall-small (wallRow h a b) col) (wall-small (wallRow h a b) col)
+    let c = hundredths (wallRow h a b) col in
+    line-small c c 0 1 (lit≤ tt) (lit< tt) 120 (wallRow-small h a b .at col) (wallRow-small h a b .at col)
 
 module _ (s : Sizes) (o : SizesInOrder s) (wind place k : ℕ) (enough : 1200 ≤ k)
     (roofed : wallPlace place ≡ false → 0 < s .kind)
@@ -78,7 +78,7 @@ module _ (s : Sizes) (o : SizesInOrder s) (wind place k : ℕ) (enough : 1200 �
           (one (omega (arith, gableValue-small s o (roofed e) i (gableColumn wind place))))
       go false true p q =
           let i = eqb-false (s .kind) 1 p in
-          let small = flatValue-small s o (roofed e) 1 (lit< tt) in
+          let small = flatValue-small s o (roofed e) i 1 (lit< tt) in
           let some = roofed e in
           subst (λ (a : Answer). Alternatives k (s .kind) place a) (sym (on-f s wind place e i (eqb-true place F q)))
           (two (omega arith) (omega (arith, natAbs-neg (roofValue s 1))) (eqb-true place F q) (omega arith))
@@ -133,7 +133,7 @@ module _ (g : Building) (direction : ℤ) (place : ℕ) where
       (alternatives (sizes g) o (natAbs direction) place 1200 (lit≤ tt) (λ w. needs-roof (g .kind) place w on)
       (λ w i h.
       subst (λ (n : ℕ). natAbs (roofValue (sizes g) n) ≤ 1200) (sym (column-E (must-be-E (g .kind) place z w i h)))
-      (flatValue-small (sizes g) o (needs-roof (g .kind) place w on) 0 (lit< tt))))
+      (flatValue-small (sizes g) o (needs-roof (g .kind) place w on) i 0 (lit< tt))))
 
   -- any answerTo: no alternative is above 2.500
   small-answer : (q : Question) → Told g direction place q → Small (answerTo q (natAbs direction) place)

@@ -1,6 +1,5 @@
 -- Interpolation lies between its rows, ends included: for every table at once.
 use mathlib.Core.Path.{_≡_, refl, subst}
-use mathlib.Core.List.{List}
 use Prim.Native.Nat.{ℕ, _+_, _-_, _*_, _≤_, _<_}
 use native.Mathlib.Nat.{mul-le-mul-right}
 use native.Mathlib.Omega.{arith}
@@ -11,7 +10,8 @@ use Rattle.whole.proofs.Parts.{add-law, up-neg, down-neg, up-scale, down-scale,
 use Rattle.whole.proofs.Order.{≤ℤ-antisym}
 use Rattle.whole.proofs.Size.{size-low, size-high, size-between}
 use Rattle.whole.proofs.Rounding.{roundAway-mono, roundAway-exact}
-use Rattle.book.specs.Line.{on, onStraight, cellIn, valueAt, Between}
+use Rattle.book.specs.Row.{Row, hundredths}
+use Rattle.book.specs.Line.{on, onStraight, valueAt, Between}
 
 -- a mean of two numbers with weights p and q lies above what is below both, and below what is above both
 module _ (p q : ℕ) (v w m : ℤ) where
@@ -78,8 +78,8 @@ module _ (v w : ℤ) (part whole : ℕ) (within : part ≤ whole) (some : 0 < wh
       (line-above (negℤ (pos k)) (size-low v k h) (size-low w k g)))
       (line-below (pos k) (size-high v k h) (size-high w k g))
 
-pub value-on : (cells : List (List ℤ)) (i col : ℕ) → valueAt cells col (on i) ≡ cellIn cells i col *ℤ pos 10
-value-on cells i col = let c = cellIn cells i col in line-on c c 0 1 (lit≤ tt) (lit< tt) refl
+pub value-on : (r : Row) (col : ℕ) → valueAt (on r) col ≡ hundredths r col *ℤ pos 10
+value-on r col = let c = hundredths r col in line-on c c 0 1 (lit≤ tt) (lit< tt) refl
 
 -- at either end of the way it is that end's
 module _ (v w : ℤ) (n : ℕ) (some : 0 < n) where

@@ -20,7 +20,7 @@ use Rattle.book.specs.Question.{wallColumn, gableColumn, flatColumn, coe
 use Rattle.book.specs.Roofs.{roofValue}
 use Rattle.book.specs.Coefficient.{OnRoof, IsCoefficient, onWall, onGable, onFlat, onF}
 use Rattle.book.proofs.Interpolated.{interpolated-unique}
-use Rattle.book.proofs.Roofed.{roof-rises, roof-interpolated}
+use Rattle.book.proofs.Roofed.{part-is, roof-interpolated}
 use Rattle.book.proofs.Answers.{on-wall, on-gable, on-f, on-flat, wall-on, answered}
 
 module _ (s : Sizes) (o : SizesInOrder s) (wind place : ℕ) where
@@ -46,7 +46,7 @@ module _ (s : Sizes) (o : SizesInOrder s) (wind place : ℕ) where
   -- and nothing else is
   one-value : 0 < s .kind → (col : ℕ) {v : ℤ} → OnRoof s col v → v ≡ roofValue s col
   one-value roofed col i =
-      interpolated-unique _ (roof-rises s o roofed) col (s .along) (s .across) (o .ranged .across-least) i
+      interpolated-unique _ (part-is s o roofed .rises) col (s .along) (s .across) (o .ranged .across-least) i
       (roof-interpolated s o roofed col)
 
   pub coefficient-only : {v : List ℤ} → IsCoefficient s wind place v → v ≡ valuesOf (coefficientOf s wind place)

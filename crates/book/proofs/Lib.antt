@@ -2,11 +2,10 @@
 pub mod Between
 pub mod Neighbours
 pub mod Interpolated
-pub mod Spot
+pub mod Ways
 pub mod Walked
 pub mod Tables
 pub mod Coded
-pub mod Parts
 pub mod Rows
 pub mod Roofed
 pub mod Columns

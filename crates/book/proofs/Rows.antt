@@ -1,15 +1,16 @@
 -- The row and the block that a building has: the first, in the book's order, up to whose limits it comes.
-use mathlib.Core.Path.{_≡_, refl, ap₂}
+use mathlib.Core.Path.{_≡_, refl, ap, ap₂, subst}
 use mathlib.Core.Bool.{Bool, _&&_}
 use Prim.Native.Nat.{ℕ, _*_, _≤_, _<_}
 use native.Mathlib.Omega.{arith}
 use lib.Dec.{lit<}
-use Rattle.whole.proofs.First.{firstWith, first-most}
+use lib.ListN.{getD}
+use Rattle.whole.proofs.First.{firstWith, first-in, first-most}
 use Rattle.building.specs.Ratio.{_÷_, upTo}
 use Rattle.building.proofs.Ratios.{upTo-yes}
 use Rattle.book.specs.Gable.{heights, blockOf}
-use Rattle.book.specs.Walls.{Wall, walls, wallRow}
-use Rattle.book.proofs.Coded.{no-wall}
+use Rattle.book.specs.Walls.{Wall, noWall, walls, wallRow}
+use Rattle.book.proofs.Tables.{SmallRow, wall-small}
 
 module _ (h b : ℕ) where
   pub block-first : blockOf h b ≡ firstWith (upTo h b) 0 heights
@@ -25,11 +26,17 @@ module _ (h a b : ℕ) where
   abbrev pub within : Wall → Bool
   within r = upTo h b (r .high) && upTo a b (r .long)
 
-  pub row-first : wallRow h a b ≡ firstWith within 0 walls
-  unfolding wallRow
-  row-first = refl
+  abbrev pub wallIndex : ℕ
+  wallIndex = firstWith within 0 walls
 
-  pub wallRow-below : h ≤ 6 * b → a ≤ 4 * b → wallRow h a b < 6
-  wallRow-below l m =
+  pub wall-index : getD walls wallIndex noWall .row ≡ wallRow h a b
+  unfolding wallRow
+  wall-index = ap (λ (r : Wall). r .row) (first-in within noWall walls)
+
+  pub wall-below : h ≤ 6 * b → a ≤ 4 * b → wallIndex < 6
+  wall-below l m =
       let last = ap₂ _&&_ (upTo-yes h b 6 1 (omega arith)) (upTo-yes a b 4 1 (omega arith)) in
-      omega (arith, row-first, first-most within no-wall walls 0 5 (lit< tt) last)
+      omega (arith, first-most within noWall walls 0 5 (lit< tt) last)
+
+  pub wallRow-small : SmallRow 120 (wallRow h a b)
+  wallRow-small = subst (SmallRow 120) wall-index (wall-small wallIndex)

@@ -1,6 +1,7 @@
 -- What the book prints and paper 01 decides: the tables, the rows, the value between rows, and the answer to a
 -- question about one zone or local.
 pub mod Number
+pub mod Row
 pub mod Line
 pub mod Interpolated
 pub mod Walls

@@ -5,12 +5,24 @@ ghost use lib.IntN.{natAbs};
 ghost use Rattle.whole.specs.Round.{roundAway};
 ghost use Rattle.book.specs.Line.{onStraight};
 
-// From row `lower` to row `upper`, `part` / `whole` of the way.
+// From row `lower` to row `upper` of a table, by their numbers, `part` / `whole` of the way.
 pub(crate) struct Spot {
-    pub lower: usize,
-    pub upper: usize,
+    pub lower: u64,
+    pub upper: u64,
     pub part: u64,
     pub whole: u64,
+}
+
+// On a row itself.
+pub(crate) fn on_row(row: u64) -> Spot
+    ensures { λ r. ⌜ r ≡ record { lower = row; upper = row; part = 0; whole = 1 } ⌝ }
+{
+    Spot {
+        lower: row,
+        upper: row,
+        part: 0,
+        whole: 1,
+    }
 }
 
 // n / d to the nearest whole number, a half going up.

@@ -1,17 +1,19 @@
-// Roofs, tables 3.2.2.2.2 and 3.2.2.2.4: their parts one after the other, as the book has them.
+// Roofs, tables 3.2.2.2.2 and 3.2.2.2.4: their rows, their parts, and where x lies in one.
 ghost use mathlib.Core.Path.{_≡_};
-ghost use mathlib.Core.List.{[]};
-ghost use Prim.Native.Nat.{_<_, _≤_, _*_};
-ghost use lib.IntN.{pos, natAbs};
-ghost use lib.Signed.{_≤ℤ_};
-ghost use lib.ListN.{getD};
-ghost use Rattle.book.specs.Line.{cellIn};
-ghost use Rattle.book.specs.Gable.{heights, blockOf};
-ghost use Rattle.book.specs.Roofs.{roofCells, firstRow, partAts, partOf, spotIn, roofValue};
+ghost use mathlib.Core.List.{[], _++_, map};
+ghost use Prim.Native.Nat.{_<_, _≤_};
+ghost use lib.ListN.{length, getD};
+ghost use Rattle.whole.specs.Lists.{firstOf};
 ghost use Rattle.building.specs.Order.{SizesInOrder};
 ghost use Rattle.building.specs.Ratio.{_÷_, upTo};
+ghost use Rattle.book.specs.Row.{hundredths, rowNumbered, Standing};
+ghost use Rattle.book.specs.Line.{wayIn, spotOf};
+ghost use Rattle.book.specs.Gable.{gableParts, gableTable, heights, blockOf};
+ghost use Rattle.book.specs.Flat.{flatParts, flatTable};
+ghost use Rattle.book.specs.Roofs.{partOf, roofTable, roofValue};
 use super::line::Spot;
 use super::line::line_at;
+use super::line::on_row;
 use building::Sizes;
 use building::ratio::up_to;
 
@@ -21,52 +23,77 @@ struct Limit(u32, u32);
 // The gable's blocks, in the book's order: h/b to.
 const HEIGHTS: [Limit; 3] = [Limit(1, 2), Limit(3, 2), Limit(6, 1)];
 
-// The row with which each part begins: gable by h/b; straight eaves, parapet, curved eaves, mansard.
-const FIRST: [usize; 8] = [0, 7, 14, 22, 23, 26, 29, 33];
+// The rows of table 3.2.2.2.2: wind 0 E,F; wind 0 G,H; wind 90 E,G; wind 90 F,H.
+const GABLE: [[i16; 4]; 22] = [
+    // 1 to 7: h/b to 1/2.
+    [-80, -40, -80, -40],
+    [-90, -40, -80, -40],
+    [-120, -40, -80, -60],
+    [-40, -40, -70, -60],
+    [0, -40, -70, -60],
+    [30, -50, -70, -60],
+    [70, -60, -70, -60],
+    // 8 to 14: h/b over 1/2, to 3/2.
+    [-80, -60, -100, -60],
+    [-90, -60, -90, -60],
+    [-110, -60, -80, -60],
+    [-70, -50, -80, -60],
+    [-20, -50, -80, -80],
+    [20, -50, -80, -80],
+    [60, -50, -80, -80],
+    // 15 to 22: h/b over 3/2, to 6.
+    [-70, -60, -90, -70],
+    [-70, -60, -80, -80],
+    [-70, -60, -80, -80],
+    [-80, -60, -80, -80],
+    [-100, -50, -80, -70],
+    [-20, -50, -80, -70],
+    [20, -50, -80, -70],
+    [50, -50, -80, -70],
+];
 
-// The number at which a row stands, tenths of a degree or, for parapet and curved eaves, thousandths of h; and its
-// hundredths. Gable: wind 0 E,F; wind 0 G,H; wind 90 E,G; wind 90 F,H. Flat: E; F, with both signs; L1; L2.
-const ROWS: [[i16; 5]; 33] = [
-    // Gable, h/b to 1/2.
-    [0, -80, -40, -80, -40],
-    [50, -90, -40, -80, -40],
-    [100, -120, -40, -80, -60],
-    [200, -40, -40, -70, -60],
-    [300, 0, -40, -70, -60],
-    [450, 30, -50, -70, -60],
-    [600, 70, -60, -70, -60],
-    // Gable, h/b over 1/2, to 3/2.
-    [0, -80, -60, -100, -60],
-    [50, -90, -60, -90, -60],
-    [100, -110, -60, -80, -60],
-    [200, -70, -50, -80, -60],
-    [300, -20, -50, -80, -80],
-    [450, 20, -50, -80, -80],
-    [600, 60, -50, -80, -80],
-    // Gable, h/b over 3/2, to 6.
-    [0, -70, -60, -90, -70],
-    [50, -70, -60, -80, -80],
-    [100, -70, -60, -80, -80],
-    [200, -80, -60, -80, -80],
-    [300, -100, -50, -80, -70],
-    [400, -20, -50, -80, -70],
-    [500, 20, -50, -80, -70],
-    [600, 50, -50, -80, -70],
-    // Flat, straight eaves.
-    [0, -70, 20, -250, -200],
-    // Flat, parapet.
-    [25, -70, 20, -220, -180],
-    [50, -70, 20, -200, -160],
-    [100, -70, 20, -180, -140],
-    // Flat, curved eaves.
-    [50, -40, 20, -150, -180],
-    [100, -30, 20, -120, -140],
-    [200, -30, 20, -80, -80],
-    // Flat, mansard.
-    [300, -30, 20, -150, -150],
-    [450, -40, 20, -180, -190],
-    [600, -50, 20, -190, -190],
-    [900, -70, 20, -250, -200],
+// The rows of table 3.2.2.2.4: E; F, with both signs; L1; L2.
+const FLAT: [[i16; 4]; 10] = [
+    // 1: straight eaves.
+    [-70, 20, -250, -200],
+    // 2 to 4: parapet.
+    [-70, 20, -220, -180],
+    [-70, 20, -200, -160],
+    [-70, 20, -180, -140],
+    // 5 to 7: curved eaves.
+    [-40, 20, -150, -180],
+    [-30, 20, -120, -140],
+    [-30, 20, -80, -80],
+    // 8 to 10: mansard.
+    [-30, 20, -150, -150],
+    [-40, 20, -180, -190],
+    [-50, 20, -190, -190],
+];
+
+// The parts of the tables, one to a line: gable by h/b; straight eaves, parapet, curved eaves, mansard. How many rows
+// each has.
+const COUNTS: [usize; 7] = [7, 7, 8, 1, 3, 3, 4];
+
+// The number at which each row stands: tenths of a degree or, for parapet and curved eaves, thousandths of h.
+const STANDS: [[u16; 8]; 7] = [
+    [0, 50, 100, 200, 300, 450, 600, 0],
+    [0, 50, 100, 200, 300, 450, 600, 0],
+    [0, 50, 100, 200, 300, 400, 500, 600],
+    [0, 0, 0, 0, 0, 0, 0, 0],
+    [25, 50, 100, 0, 0, 0, 0, 0],
+    [50, 100, 200, 0, 0, 0, 0, 0],
+    [300, 450, 600, 900, 0, 0, 0, 0],
+];
+
+// Which row of the table stands there: at 90 degrees a mansard has straight eaves.
+const NUMBERS: [[u16; 8]; 7] = [
+    [1, 2, 3, 4, 5, 6, 7, 0],
+    [8, 9, 10, 11, 12, 13, 14, 0],
+    [15, 16, 17, 18, 19, 20, 21, 22],
+    [1, 0, 0, 0, 0, 0, 0, 0],
+    [2, 3, 4, 0, 0, 0, 0, 0],
+    [5, 6, 7, 0, 0, 0, 0, 0],
+    [8, 9, 10, 1, 0, 0, 0, 0],
 ];
 
 // h/b comes up to the limit of a block.
@@ -93,33 +120,11 @@ fn block_of(s: Sizes) -> usize
     block
 }
 
-fn first_row(k: usize) -> usize
-    requires { ⌜ k < 8 ⌝ }
-    ensures { λ r. ⌜ r ≡ firstRow k ⌝ }
-{
-    FIRST[k]
-}
-
-// The number at which a row stands. The table is lent, so that a walk over it is over one copy.
-fn stands(rows: &[[i16; 5]; 33], row: usize) -> u64
-    requires { ⌜ row < 33 ⌝ }
-    requires { ⌜ pos 0 ≤ℤ getD (getD (now rows) row []) 0 (pos 0) ⌝ }
-    ensures { λ r. ⌜ r ≡ natAbs (getD (getD (now (rows .entry)) row []) 0 (pos 0)) ⌝ }
-{
-    rows[row][0] as u64
-}
-
-fn cell(row: usize, col: usize) -> i16
-    requires { ⌜ (row < 33) × (col < 4) ⌝ }
-    ensures { λ r. ⌜ r ≡ cellIn roofCells row col ⌝ }
-{
-    ROWS[row][col + 1]
-}
-
 // A gable's part goes by h/b, a flat roof's by its kind.
 fn part_of(s: Sizes) -> usize
     requires { ⌜ SizesInOrder s ⌝ }
-    ensures { λ r. ⌜ r ≡ partOf s ⌝ }
+    requires { ⌜ 0 < s .kind ⌝ }
+    ensures { λ r. ⌜ (r < 7) × (getD (gableParts ++ flatParts) r [] ≡ partOf s) ⌝ }
 {
     if s.kind == 1 {
         return block_of(s);
@@ -127,33 +132,91 @@ fn part_of(s: Sizes) -> usize
     (s.kind + 1) as usize
 }
 
-// Between which rows of part k x / d lies: a walk over them, in the book's order.
-fn spot_in(k: usize, x: u64, d: u64) -> Spot
-    requires { ⌜ (k < 7) × (0 < d) × (d ≤ 30000) × (getD (partAts k) 0 0 * d ≤ x) ⌝ }
-    ensures { λ r. ⌜ r ≡ spotIn k x d ⌝ }
+fn count_of(k: usize) -> usize
+    requires { ⌜ k < 7 ⌝ }
+    ensures { λ r. ⌜ r ≡ length (getD (gableParts ++ flatParts) k []) ⌝ }
 {
-    let rows = ROWS;
-    let end = first_row(k + 1);
-    let mut i = first_row(k);
-    while i + 1 < end {
-        let s = stands(&rows, i) * d;
-        let t = stands(&rows, i + 1) * d;
-        if x <= t {
+    COUNTS[k]
+}
+
+fn stands_of(k: usize) -> [u16; 8]
+    requires { ⌜ k < 7 ⌝ }
+    ensures { λ r. ⌜ r ≡ firstOf 0 8 (map (λ (s : Standing). s .at) (getD (gableParts ++ flatParts) k [])) ⌝ }
+{
+    STANDS[k]
+}
+
+fn numbers_of(k: usize) -> [u16; 8]
+    requires { ⌜ k < 7 ⌝ }
+    ensures { λ r. ⌜ r ≡ firstOf 0 8 (map (λ (s : Standing). s .row .number) (getD (gableParts ++ flatParts) k [])) ⌝ }
+{
+    NUMBERS[k]
+}
+
+fn wide(n: u16) -> u64
+    ensures { λ r. ⌜ r ≡ n ⌝ }
+{
+    n as u64
+}
+
+fn entry(list: &[u16; 8], i: usize) -> u64
+    requires { ⌜ i < 8 ⌝ }
+    ensures { λ r. ⌜ r ≡ getD (now (list .entry)) i 0 ⌝ }
+{
+    wide(list[i])
+}
+
+// Where x / d lies in part k: a walk over its rows, in the book's order.
+fn way_in(k: usize, x: u64, d: u64) -> Spot
+    requires { ⌜ (k < 7) × (d ≤ 30000) ⌝ }
+    ensures { λ r. ⌜ r ≡ spotOf (wayIn (getD (gableParts ++ flatParts) k []) x d) ⌝ }
+{
+    let at = stands_of(k);
+    let rows = numbers_of(k);
+    let count = count_of(k);
+    let mut i: usize = 0;
+    while i + 1 < count {
+        let s = entry(&at, i) * d;
+        if x <= s {
+            return on_row(entry(&rows, i));
+        }
+        let t = entry(&at, i + 1) * d;
+        if x < t {
             return Spot {
-                lower: i,
-                upper: i + 1,
+                lower: entry(&rows, i),
+                upper: entry(&rows, i + 1),
                 part: x - s,
                 whole: t - s,
             };
         }
         i += 1;
     }
-    Spot {
-        lower: i,
-        upper: i,
-        part: 0,
-        whole: 1,
+    on_row(entry(&rows, i))
+}
+
+fn gable_cell(row: u64, col: usize) -> i16
+    requires { ⌜ (0 < row) × (row ≤ 22) × (col < 4) ⌝ }
+    ensures { λ r. ⌜ r ≡ hundredths (rowNumbered row gableTable) col ⌝ }
+{
+    GABLE[(row - 1) as usize][col]
+}
+
+fn flat_cell(row: u64, col: usize) -> i16
+    requires { ⌜ (0 < row) × (row ≤ 10) × (col < 4) ⌝ }
+    ensures { λ r. ⌜ r ≡ hundredths (rowNumbered row flatTable) col ⌝ }
+{
+    FLAT[(row - 1) as usize][col]
+}
+
+// The hundredths of a row and column of the roof's table.
+fn cell(kind: u64, row: u64, col: usize) -> i16
+    requires { ⌜ (0 < row) × (kind ≡ 1 → row ≤ 22) × ((kind ≡ 1 → ⊥) → row ≤ 10) × (col < 4) ⌝ }
+    ensures { λ r. ⌜ r ≡ hundredths (rowNumbered row (roofTable kind)) col ⌝ }
+{
+    if kind == 1 {
+        return gable_cell(row, col);
     }
+    flat_cell(row, col)
 }
 
 // The value of a column of the roof's table.
@@ -162,6 +225,11 @@ pub(crate) fn roof_value(s: Sizes, col: usize) -> i32
     requires { ⌜ (0 < s .kind) × (col < 4) ⌝ }
     ensures { λ r. ⌜ r ≡ roofValue s col ⌝ }
 {
-    let r = spot_in(part_of(s), s.along, s.across);
-    line_at(cell(r.lower, col), cell(r.upper, col), r.part, r.whole)
+    let r = way_in(part_of(s), s.along, s.across);
+    line_at(
+        cell(s.kind, r.lower, col),
+        cell(s.kind, r.upper, col),
+        r.part,
+        r.whole,
+    )
 }

@@ -1,13 +1,12 @@
 // Walls, table 3.2.2.2.1.
 ghost use mathlib.Core.Path.{_≡_};
 ghost use mathlib.Core.Bool.{_&&_};
-ghost use mathlib.Core.List.{[]};
 ghost use Prim.Native.Nat.{_<_};
 ghost use lib.ListN.{getD};
-ghost use Rattle.building.specs.Ratio.{_÷_, upTo};
-ghost use Rattle.book.specs.Line.{cellIn};
-ghost use Rattle.book.specs.Walls.{wall, walls, wallRow, wallCells, wallValue};
+ghost use Rattle.building.specs.Ratio.{upTo};
 ghost use Rattle.building.specs.Order.{SizesInOrder};
+ghost use Rattle.book.specs.Row.{hundredths};
+ghost use Rattle.book.specs.Walls.{noWall, walls, wallRow, wallValue};
 use super::line::line_at;
 use building::Sizes;
 use building::ratio::up_to;
@@ -28,7 +27,7 @@ const WALLS: [Wall; 6] = [
 // h/b and a/b come up to the limits of a row.
 fn in_row(row: usize, s: Sizes) -> bool
     requires { ⌜ row < 6 ⌝ }
-    ensures { λ r. ⌜ (let w = getD walls row (wall (0 ÷ 0) (0 ÷ 0) []) in
+    ensures { λ r. ⌜ (let w = getD walls row noWall in
         r ≡ (upTo (s .h) (s .b) (w .high) && upTo (s .a) (s .b) (w .long))) ⌝ }
 {
     let w = WALLS[row];
@@ -41,7 +40,7 @@ fn in_row(row: usize, s: Sizes) -> bool
 // The first row, in the book's order, up to whose limits h/b and a/b come.
 fn wall_row(s: Sizes) -> usize
     requires { ⌜ SizesInOrder s ⌝ }
-    ensures { λ r. ⌜ r ≡ wallRow (s .h) (s .a) (s .b) ⌝ }
+    ensures { λ r. ⌜ (r < 6) × (getD walls r noWall .row ≡ wallRow (s .h) (s .a) (s .b)) ⌝ }
 {
     let mut row: usize = 0;
     while row < 6 {
@@ -55,7 +54,7 @@ fn wall_row(s: Sizes) -> usize
 
 fn wall_cell(row: usize, col: usize) -> i16
     requires { ⌜ (row < 6) × (col < 9) ⌝ }
-    ensures { λ r. ⌜ r ≡ cellIn wallCells row col ⌝ }
+    ensures { λ r. ⌜ r ≡ hundredths (getD walls row noWall .row) col ⌝ }
 {
     let w = WALLS[row];
     if col < 4 {

@@ -12,8 +12,9 @@ use Rattle.whole.specs.Lists.{Every}
 use Rattle.whole.proofs.Lists.{every-by}
 use Rattle.verdict.specs.Verdict.{refusal}
 use Rattle.lines.specs.Lines.{LinesInForm}
-use Rattle.book.specs.Line.{Row, Between}
-use Rattle.book.specs.Interpolated.{Rising, hundredths, LiesBetween, Interpolated}
+use Rattle.book.specs.Row.{hundredths, Standing}
+use Rattle.book.specs.Line.{Between}
+use Rattle.book.specs.Interpolated.{Rising, LiesBetween, Interpolated}
 use Rattle.book.proofs.Interpolated.{interpolated-between}
 use Rattle.job.specs.declared.Job.{Job}
 use Rattle.job.specs.Carried.{Carried, carried}
@@ -42,9 +43,9 @@ use Rattle.claims.proofs.Accepted.{job-in-order, sheet-in-order}
 
 -- "It therefore lies between the neighbouring rows, ends included": once for all tables.
 abbrev pub LiesBetweenRows : Type 0
-LiesBetweenRows = (rows : List Row) (col x d : ℕ) (v : ℤ) (lower upper : Row) → Rising rows → 0 < d
+LiesBetweenRows = (rows : List Standing) (col x d : ℕ) (v : ℤ) (lower upper : Standing) → Rising rows → 0 < d
     → Interpolated rows col x d v → LiesBetween rows x d lower upper
-    → Between (hundredths lower col *ℤ pos 10) (hundredths upper col *ℤ pos 10) v
+    → Between (hundredths (lower .row) col *ℤ pos 10) (hundredths (upper .row) col *ℤ pos 10) v
 
 -- "With these ranges no total exceeds 7.92 × 10^18 in size."
 abbrev pub TotalsAreSmall : Type 0

@@ -15,10 +15,10 @@ use Rattle.field.specs.Field.{digitsInForm, unsigned, negative, numeral, fieldF
 use Rattle.lines.specs.Lines.{split, fieldsOf, linesFrom, linesIn}
 use Rattle.building.specs.declared.Building.{Building}
 use Rattle.building.specs.Test.{beyond, tooLong}
-use Rattle.book.specs.Line.{spotFrom, onStraight}
-use Rattle.book.specs.Walls.{wallRow, wallCells}
+use Rattle.book.specs.Line.{wayIn, onStraight}
+use Rattle.book.specs.Walls.{wallRow}
 use Rattle.book.specs.Gable.{blockOf}
-use Rattle.book.specs.Roofs.{roofValue, roofCells, spotIn, partAts, firstRow}
+use Rattle.book.specs.Roofs.{roofValue}
 use Rattle.building.specs.Roof.{roofOf}
 use Rattle.building.specs.Building.{givenFault, buildingFault, outOfForm, outOfRange, outOfWalls, outOfRoof}
 use Rattle.book.specs.Answer.{valuesOf}
@@ -104,8 +104,8 @@ p and q = (p, q)
 
 pub printed-hold : Every Holds printed
 unfolding outsideOf askedOf givenFault buildingFault outOfForm outOfRange outOfWalls outOfRoof tooLong beyond zoneOn
-    localOn roofOf coefficientOf wallColumn gableColumn flatColumn wallRow wallCells blockOf roofValue roofCells
-    spotIn partAts firstRow spotFrom onStraight halfUp roundAway roundDown leftOver reading linesIn linesFrom split fieldsOf
+    localOn roofOf coefficientOf wallColumn gableColumn flatColumn wallRow blockOf roofValue
+    wayIn onStraight halfUp roundAway roundDown leftOver reading linesIn linesFrom split fieldsOf
     fieldFrom numeral unsigned negative digitsInForm allDigits valueAfter value readLines walk lineFault inForm hasForm
 printed-hold =
     refl and refl and refl and refl  -- P1 to P4

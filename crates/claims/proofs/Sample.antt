@@ -9,10 +9,10 @@ use Rattle.whole.specs.Round.{halfUp, roundAway}
 use Rattle.whole.specs.Digits.{digitsWithin, digits, decimal, allDigits, valueAfter, value}
 use Rattle.field.specs.Field.{digitsInForm, unsigned, negative, numeral, fieldFrom}
 use Rattle.lines.specs.Lines.{split, fieldsOf, linesFrom, linesIn}
-use Rattle.book.specs.Line.{spotFrom, onStraight}
-use Rattle.book.specs.Walls.{wallRow, wallCells}
+use Rattle.book.specs.Line.{wayIn, onStraight}
+use Rattle.book.specs.Walls.{wallRow}
 use Rattle.book.specs.Gable.{blockOf}
-use Rattle.book.specs.Roofs.{roofCells, partAts, firstRow, spotIn, roofValue}
+use Rattle.book.specs.Roofs.{roofValue}
 use Rattle.building.specs.Roof.{roofOf}
 use Rattle.building.specs.Building.{givenFault, buildingFault, outOfForm, outOfRange, outOfWalls, outOfRoof}
 use Rattle.building.specs.Places.{zoneOn, localOn}
@@ -44,8 +44,8 @@ lines =
 
 pub sample : totalsText (reading (bytes sheet)) ≡ bytes lines
 unfolding halfUp roundAway digitsWithin digits decimal allDigits valueAfter value digitsInForm unsigned negative
-    numeral fieldFrom split fieldsOf linesFrom linesIn spotFrom onStraight wallRow wallCells blockOf outOfRoof roofOf roofCells
-    partAts firstRow spotIn roofValue givenFault buildingFault outOfForm outOfRange outOfWalls tooLong zoneOn
+    numeral fieldFrom split fieldsOf linesFrom linesIn wayIn onStraight wallRow blockOf outOfRoof roofOf
+    roofValue givenFault buildingFault outOfForm outOfRange outOfWalls tooLong zoneOn
     localOn wallColumn gableColumn flatColumn coefficientOf outsideOf askedOf beyond hasForm inForm lineFault walk
     readLines reading better best numbers each choices total cases caseTotal worst padded shown sixExtremes spaced
     extremeText axisText sixText reportText

@@ -3,6 +3,7 @@ use mathlib.Core.Path.{_≡_, refl, sym, _∙_}
 use mathlib.Core.Bool.{Bool, true, false, cond}
 use mathlib.Core.List.{List, [], _∷_}
 use Prim.Native.Nat.{ℕ, zero, suc, _+_, _≤_, _<_}
+use native.Mathlib.Numerals.{add-one}
 use native.Mathlib.Omega.{arith}
 use lib.ListN.{length, getD, drop}
 use Rattle.whole.proofs.Tests.{by-test}
@@ -12,7 +13,21 @@ abbrev pub firstWith : {A : Type 0} → (A → Bool) → ℕ → List A → ℕ
 firstWith f i [] = i
 firstWith f i (x ∷ xs) = cond (f x) i (firstWith f (i + 1) xs)
 
+-- the entry itself, d where none passes
+abbrev pub firstIn : {A : Type 0} → (A → Bool) → A → List A → A
+firstIn f d [] = d
+firstIn f d (x ∷ xs) = cond (f x) x (firstIn f d xs)
+
 module _ {A : Type 0} (f : A → Bool) (d : A) where
+  first-shift : (l : List A) (j : ℕ) → firstWith f (j + 1) l ≡ firstWith f j l + 1
+  first-shift [] j = refl
+  first-shift (x ∷ xs) j = by-test (f x) (λ p. rw p) (λ p. rw p (first-shift xs (j + 1)))
+
+  -- it stands at its number
+  pub first-in : (l : List A) → getD l (firstWith f 0 l) d ≡ firstIn f d l
+  first-in [] = refl
+  first-in (x ∷ xs) = by-test (f x) (λ p. rw p) (λ p. rw (p, first-shift xs 0, add-one) (first-in xs))
+
   first-here : (l : List A) (j i : ℕ) → i < length l → f (getD l i d) ≡ true → firstWith f j (drop i l) ≡ j
   first-here [] j i h e = absurd (omega arith)
   first-here (x ∷ xs) j zero h e = rw e

@@ -3,15 +3,15 @@ use mathlib.Core.Path.{_≡_, sym, ap, _∙_}
 use borrow.Author.Needs.{needs}
 use lib.ListN.{getD}
 use Rattle.building.specs.Ratio.{_÷_, upTo}
-use Rattle.book.specs.Walls.{walls}
+use Rattle.book.specs.Walls.{noWall, walls}
 use Rattle.book.specs.declared.walls.Wall.{Wall}
-use Rattle.book.proofs.Coded.{no-wall, wall-is}
+use Rattle.book.proofs.Coded.{wall-is}
 use Rattle.book.proofs.walls.in_row.Statement.{statement}
 use Rattle.book.proofs.walls.in_row.Tie as tie
 
 -- what the first test answered, said of the printed row
 high : (c : tie.After-up-to) → let a = c .before .before .args in
-    c .up-to .result ≡ upTo (a .s .h) (a .s .b) (getD walls (a .row) no-wall .high)
+    c .up-to .result ≡ upTo (a .s .h) (a .s .b) (getD walls (a .row) noWall .high)
 high c =
     let a = c .before .before .args in
     c .up-to .ensures ∙ ap (λ (w : Wall). upTo (a .s .h) (a .s .b) (w .0 ÷ w .1)) (wall-is (a .row))

@@ -9,17 +9,17 @@ use Rattle.book.proofs.walls.wall_cell.Tie as tie
 returns : tie.Need-returns
 returns c =
     let a = c .before .before .before .args in
-    entry (wind-0 (a .row) (a .col) (omega arith)) (wall-small (a .row) (a .col)) tt .same
+    entry (wind-0 (a .row) (a .col) (omega arith)) (wall-small (a .row) .at (a .col)) tt .same
 
 returns-2 : tie.Need-returns-2
 returns-2 c =
     let a = c .before .before .before .before .args in
-    entry (wind-90 (a .row) (a .col) (omega arith) (omega arith)) (wall-small (a .row) (a .col)) tt .same
+    entry (wind-90 (a .row) (a .col) (omega arith) (omega arith)) (wall-small (a .row) .at (a .col)) tt .same
 
 returns-3 : tie.Need-returns-3
 returns-3 c =
     let a = c .before .before .before .before .args in
-    entry (local (a .row) (a .col) (omega arith)) (wall-small (a .row) (a .col)) tt .same
+    entry (local (a .row) (a .col) (omega arith)) (wall-small (a .row) .at (a .col)) tt .same
 
 pub wall-cell-spec : {M : Type 1} → statement M
 wall-cell-spec =

@@ -1,0 +1,145 @@
+-- `roofs::way_in`: the loop takes the walk over the rows of the part that are left.
+use mathlib.Core.Path.{_≡_, refl, sym, ap, ap₂, _∙_}
+use mathlib.Core.List.{List}
+use Prim.Native.Nat.{ℕ, _+_, _-_, _*_, _≤_, _<_}
+use native.Mathlib.Nat.{mul-le-mul}
+use native.Mathlib.Omega.{arith}
+use borrow.Author.Needs.{needs}
+use lib.ListN.{length, getD, drop}
+use Rattle.book.specs.declared.line.Spot.{Spot}
+use Rattle.book.specs.Row.{Standing}
+use Rattle.book.specs.Line.{Way, wayIn, spotOf}
+use Rattle.book.proofs.Ways.{noStanding, way-on, way-passes, way-between, way-ends}
+use Rattle.book.proofs.Coded.{part, eight, eight-at, part-sized, stands-small}
+use Rattle.book.proofs.roofs.way_in.Statement.{statement}
+use Rattle.book.proofs.roofs.way_in.Tie as tie
+
+abbrev Inv-loop : tie.InvT-loop
+Inv-loop k x d at rows count i₀ i =
+    (i + 1 ≤ count) × (count ≤ 8) × (wayIn (part k) x d ≡ wayIn (drop i (part k)) x d)
+
+abbrev μ-loop : tie.MeasureT-loop
+μ-loop k x d at rows count i₀ i = count - i
+
+abbrev start : tie.At-loop Inv-loop μ-loop → tie.Start Inv-loop μ-loop
+start c = c .before .before .before .before
+
+-- row i of the part
+abbrev row : tie.At-loop Inv-loop μ-loop → ℕ → Standing
+row c i = getD (part (start c .args .k)) i noStanding
+
+last : (c : tie.At-loop Inv-loop μ-loop) → c .before .count-of .result ≡ length (part (start c .args .k))
+last c = c .before .count-of .ensures
+
+-- a number that was read is the printed one
+printed : (f : Standing → ℕ) → f noStanding ≡ 0 → (k i : ℕ) → i < 8 → {l : List ℕ} {n : ℕ} → n ≡ getD l i 0
+    → l ≡ eight f (part k) → n ≡ f (getD (part k) i noStanding)
+printed f none k i h e g = e ∙ ap (λ (l : List ℕ). getD l i 0) g ∙ eight-at f none k i h
+
+module _ (c : tie.At-loop Inv-loop μ-loop) (i : ℕ) (h : i < 8) where
+  stands : {n : ℕ} → n ≡ getD (c .before .before .before .stands-of .result) i 0 → n ≡ row c i .at
+  stands e = printed (λ s. s .at) refl (start c .args .k) i h e (c .before .before .before .stands-of .ensures)
+
+  number : {n : ℕ} → n ≡ getD (c .before .before .numbers-of .result) i 0 → n ≡ row c i .row .number
+  number e = printed (λ s. s .row .number) refl (start c .args .k) i h e (c .before .before .numbers-of .ensures)
+
+small : {n : ℕ} (k i d : ℕ) → d ≤ 30000 → n ≡ getD (part k) i noStanding .at → n * d ≤ 900 * 30000
+small k i d h e = rw e (mul-le-mul (stands-small k i) h)
+
+-- a row's number, times d
+scaled : {n m : ℕ} (d : ℕ) → n ≡ m → n * d ≡ m * d
+scaled d e = ap (λ (n : ℕ). n * d) e
+
+abbrev onRow : ℕ → Spot
+onRow n = record { lower = n; upper = n; part = 0; whole = 1 }
+
+loop-holds : tie.Need-loop-holds Inv-loop μ-loop
+loop-holds c =
+    let s = c .before .before .before in
+    let e = c .count-of .ensures in
+    let f = part-sized (s .args .k) (s .pre .0) in
+    (omega arith, omega arith, refl)
+
+mul-s : tie.Need-mul-s Inv-loop μ-loop
+mul-s c =
+    let l = c .before .before .before in
+    let s = start l in
+    let i = l .loop .i in
+    omega (arith, small (s .args .k) i (s .args .d) (s .pre .1) (stands l i (omega arith) (c .entry .ensures)))
+
+-- what the walk comes to, with the rows' numbers
+met : (c : tie.At-loop Inv-loop μ-loop) {w : Way} →
+    let a = start c .args in
+    wayIn (drop (c .loop .i) (part (a .k))) (a .x) (a .d) ≡ w → spotOf w ≡ spotOf (wayIn (part (a .k)) (a .x) (a .d))
+met c e = ap spotOf (sym (c .loop .inv .2 ∙ e))
+
+returns : tie.Need-returns Inv-loop μ-loop
+returns c =
+    let r = c .before in
+    let t = r .before .before in
+    let l = t .before .before .before .before in
+    let a = start l .args in
+    let i = l .loop .i in
+    let n = last l in
+    let e = scaled (a .d) (stands l i (omega arith) (t .before .entry .ensures)) in
+    c .on-row .ensures
+    ∙ ap onRow (number l i (omega arith) (r .entry2 .ensures))
+    ∙ met l (way-on (part (a .k)) (a .x) (a .d) i (omega arith) (omega arith))
+
+mul-t : tie.Need-mul-t Inv-loop μ-loop
+mul-t c =
+    let l = c .before .before .before .before .before .before in
+    let s = start l in
+    let i = l .loop .i + 1 in
+    omega (arith, small (s .args .k) i (s .args .d) (s .pre .1) (stands l i (omega arith) (c .entry3 .ensures)))
+
+returns-2 : tie.Need-returns-2 Inv-loop μ-loop
+returns-2 c =
+    let r = c .before .before in
+    let t = r .before .before in
+    let f = t .before .before .before .before in
+    let l = f .before .before .before in
+    let a = start l .args in
+    let i = l .loop .i in
+    let n = last l in
+    let lower = stands l i (omega arith) (f .entry .ensures) in
+    let upper = stands l (i + 1) (omega arith) (t .before .entry3 .ensures) in
+    let from = scaled (a .d) lower in
+    let to = scaled (a .d) upper in
+    rw (number l i (omega arith) (r .entry4 .ensures), number l (i + 1) (omega arith) (c .entry5 .ensures), lower, upper)
+    (met l (way-between (part (a .k)) (a .x) (a .d) i (omega arith) (omega arith) (omega arith)))
+
+loop-again : tie.Need-loop-again Inv-loop μ-loop
+loop-again c =
+    let t = c .before in
+    let f = t .before .before .before in
+    let l = f .before .before .before in
+    let a = start l .args in
+    let i = l .loop .i in
+    let n = last l in
+    let from = scaled (a .d) (stands l i (omega arith) (f .entry .ensures)) in
+    let to = scaled (a .d) (stands l (i + 1) (omega arith) (t .entry3 .ensures)) in (
+      omega arith,
+      omega arith,
+      l .loop .inv .2 ∙ way-passes (part (a .k)) (a .x) (a .d) i (omega arith) (omega arith) (omega arith),
+    )
+
+returns-3 : tie.Need-returns-3 Inv-loop μ-loop
+returns-3 c =
+    let r = c .before in
+    let l = r .before .before .before in
+    let a = start l .args in
+    let i = l .loop .i in
+    let n = last l in
+    c .on-row2 .ensures
+    ∙ ap onRow (number l i (omega arith) (r .entry6 .ensures))
+    ∙ met l (way-ends (part (a .k)) (a .x) (a .d) i (omega arith))
+
+pub way-in-spec : {M : Type 1} → statement M
+way-in-spec =
+    tie.close
+    (tie.spec Inv-loop μ-loop (λ c κs. search needs) (λ c κs. search needs) (λ c κs. search needs) loop-holds
+    (λ c. search needs) (λ c κs. search needs) mul-s (λ c κs. search needs) (λ c κs. search needs) returns
+    (λ c. search needs) (λ c κs. search needs) mul-t (λ c κs. search needs) (λ c. search needs)
+    (λ c κs. search needs) (λ c. search needs) (λ c. search needs) returns-2 (λ c. search needs)
+    (λ c. search needs) loop-again (λ c κs. search needs) (λ c κs. search needs) returns-3)
