@@ -3,6 +3,7 @@
 -- tools/determined holds this list, and the three that cite it (NothingAsked, Determined, Unchanged), against the
 -- sources.
 pub use Rattle.whole.proofs.magnitude.Reads as magnitude
+pub use Rattle.whole.proofs.common_divisor.Reads as common-divisor
 pub use Rattle.page.proofs.put_byte.Reads as put-byte
 pub use Rattle.page.proofs.put_bytes.Reads as put-bytes
 pub use Rattle.page.proofs.emit.Reads as emit

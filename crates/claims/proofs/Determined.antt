@@ -23,6 +23,9 @@ same-put p q = (same (p .end) (q .end), same (p .bytes) (q .bytes))
 magnitude-determined : OneAnswer of.magnitude.Post
 magnitude-determined κ a r r′ s s′ p q = same p q
 
+common-divisor-determined : OneAnswer of.common-divisor.Post
+common-divisor-determined κ a r r′ s s′ p q = same p q
+
 -- ---- page
 
 put-byte-determined : OneAnswerAndBuffer of.put-byte.Post (λ κ s. now (s .0))

@@ -7,6 +7,9 @@ use Rattle.claims.proofs.Contracts as of
 magnitude-asks : AsksNothing of.magnitude.Asked
 magnitude-asks κ a = tt
 
+common-divisor-asks : AsksNothing of.common-divisor.Asked
+common-divisor-asks κ a = tt
+
 -- ---- page
 
 put-byte-asks : AsksNothing of.put-byte.Asked
