@@ -1,17 +1,17 @@
 -- Interpolation lies between its rows, ends included: for every table at once.
-use mathlib.Core.Path.{_≡_, refl, subst}
+use mathlib.Core.Path.{_≡_, refl, ap, subst}
 use Prim.Native.Nat.{ℕ, _+_, _-_, _*_, _≤_, _<_}
 use native.Mathlib.Nat.{mul-le-mul-right}
 use native.Mathlib.Omega.{arith}
 use lib.Dec.{lit<, lit≤}
-use lib.IntN.{ℤ, pos, negℤ, natAbs, _+ℤ_, _*ℤ_}
+use lib.IntN.{ℤ, pos, negℤ, natAbs, _+ℤ_, _-ℤ_, _*ℤ_}
 use lib.Signed.{_≤ℤ_, ≤ℤ-refl}
-use Rattle.whole.proofs.Parts.{add-law, up-neg, down-neg, up-scale, down-scale, le-by, le-at, eq-by}
+use Rattle.whole.proofs.Parts.{add-law, sub-lawℤ, up-neg, down-neg, up-scale, down-scale, le-by, le-at, eq-by}
 use Rattle.whole.proofs.Order.{≤ℤ-antisym}
 use Rattle.whole.proofs.Size.{size-low, size-high, size-between}
 use Rattle.whole.proofs.Rounding.{roundAway-mono, roundAway-exact}
 use Rattle.book.specs.Row.{Row, hundredths}
-use Rattle.book.specs.Line.{on, onStraight, valueAt, Between}
+use Rattle.book.specs.Line.{on, alongLine, onStraight, valueAt, Between}
 
 -- a mean of two numbers with weights p and q lies above what is below both, and below what is above both
 module _ (p q : ℕ) (v w m : ℤ) where
@@ -35,23 +35,35 @@ tenfold k =
     (simp (up-scale, down-scale)
     (omega (arith, up-neg (pos k), down-neg (pos k), up-neg (pos (k * 10)), down-neg (pos (k * 10)))))
 
+-- part/whole of the way is such a mean
+weights : (v w : ℤ) (p q : ℕ) → v *ℤ pos (p + q) +ℤ (w -ℤ v) *ℤ pos q ≡ v *ℤ pos p +ℤ w *ℤ pos q
+weights v w p q =
+    eq-by _ _
+    (omega
+    (arith, simp (up-scale, down-scale) at (add-law (v *ℤ pos (p + q)) ((w -ℤ v) *ℤ pos q)), simp (up-scale, down-scale) at (add-law (v *ℤ pos p) (w *ℤ pos q)), ap (λ (n : ℕ). n * q) (sub-lawℤ w v)))
+
 module _ (v w : ℤ) (part whole : ℕ) (within : part ≤ whole) (some : 0 < whole) where
   both : (whole - part) + part ≡ whole
   both = omega arith
+
+  weighted : alongLine v w part whole ≡ (v *ℤ pos (whole - part) +ℤ w *ℤ pos part) *ℤ pos 10
+  weighted = ap (λ (z : ℤ). z *ℤ pos 10) (rw both at (weights v w (whole - part) part))
 
   line-above : (m : ℤ) → m ≤ℤ v → m ≤ℤ w → (m *ℤ pos 10) ≤ℤ onStraight v w part whole
   unfolding onStraight
   line-above m h k =
       subst (λ (z : ℤ). z ≤ℤ onStraight v w part whole) (roundAway-exact (m *ℤ pos 10) whole some)
       (roundAway-mono whole _ _
-      (subst (λ (d : ℕ). ((m *ℤ pos 10) *ℤ pos d) ≤ℤ ((v *ℤ pos (whole - part) +ℤ w *ℤ pos part) *ℤ pos 10)) both (mean-above (whole - part) part v w m h k)))
+      (rw weighted
+      (subst (λ (d : ℕ). ((m *ℤ pos 10) *ℤ pos d) ≤ℤ ((v *ℤ pos (whole - part) +ℤ w *ℤ pos part) *ℤ pos 10)) both (mean-above (whole - part) part v w m h k))))
 
   line-below : (m : ℤ) → v ≤ℤ m → w ≤ℤ m → onStraight v w part whole ≤ℤ (m *ℤ pos 10)
   unfolding onStraight
   line-below m h k =
       subst (λ (z : ℤ). onStraight v w part whole ≤ℤ z) (roundAway-exact (m *ℤ pos 10) whole some)
       (roundAway-mono whole _ _
-      (subst (λ (d : ℕ). ((v *ℤ pos (whole - part) +ℤ w *ℤ pos part) *ℤ pos 10) ≤ℤ ((m *ℤ pos 10) *ℤ pos d)) both (mean-below (whole - part) part v w m h k)))
+      (rw weighted
+      (subst (λ (d : ℕ). ((v *ℤ pos (whole - part) +ℤ w *ℤ pos part) *ℤ pos 10) ≤ℤ ((m *ℤ pos 10) *ℤ pos d)) both (mean-below (whole - part) part v w m h k))))
 
   -- the one fact over all tables: the value lies between its rows' hundredths, as thousandths
   pub line-between : Between (v *ℤ pos 10) (w *ℤ pos 10) (onStraight v w part whole)
@@ -80,22 +92,3 @@ module _ (v w : ℤ) (part whole : ℕ) (within : part ≤ whole) (some : 0 < wh
 
 pub value-on : (r : Row) (col : ℕ) → valueAt (on r) col ≡ hundredths r col *ℤ pos 10
 value-on r col = let c = hundredths r col in line-on c c 0 1 (lit≤ tt) (lit< tt) refl
-
--- at either end of the way it is that end's
-module _ (v w : ℤ) (n : ℕ) (some : 0 < n) where
-  weighed : (p q : ℕ) (z : ℤ) → n - q ≡ p → (v *ℤ pos p +ℤ w *ℤ pos q) *ℤ pos 10 ≡ (z *ℤ pos 10) *ℤ pos n
-      → onStraight v w q n ≡ z *ℤ pos 10
-  unfolding onStraight
-  weighed p q z e f = rw (e, f) (roundAway-exact (z *ℤ pos 10) n some)
-
-  pub line-first : onStraight v w 0 n ≡ v *ℤ pos 10
-  line-first =
-      weighed n 0 v (omega arith)
-      (eq-by _ _
-      (simp (up-scale, down-scale) (omega (arith, simp (up-scale, down-scale) at (add-law (v *ℤ pos n) (w *ℤ pos 0))))))
-
-  pub line-last : onStraight v w n n ≡ w *ℤ pos 10
-  line-last =
-      weighed 0 n w (omega arith)
-      (eq-by _ _
-      (simp (up-scale, down-scale) (omega (arith, simp (up-scale, down-scale) at (add-law (v *ℤ pos 0) (w *ℤ pos n))))))

@@ -1,11 +1,10 @@
--- What is answered is the coefficient, and there is one only.
-use mathlib.Core.Path.{_≡_, sym, _∙_}
+-- What is answered is the coefficient with its rows, and there is one only.
+use mathlib.Core.Path.{_≡_, sym, ap, subst, _∙_}
 use mathlib.Core.Bool.{true, false, _||_}
-use mathlib.Core.List.{List}
 use Prim.Native.Nat.{ℕ, _<_}
 use native.Mathlib.Omega.{arith}
-use lib.Dec.{eqb}
-use lib.IntN.{ℤ, natAbs}
+use lib.Dec.{eqb, lit<}
+use lib.IntN.{ℤ, negℤ, natAbs}
 use borrow.Author.Tests.{eqb-true, eqb-false}
 use Rattle.whole.proofs.Tests.{by-test}
 use Rattle.building.specs.declared.Building.{Building}
@@ -15,23 +14,32 @@ use Rattle.building.specs.Building.{buildingFault, sizes}
 use Rattle.building.specs.Places.{F, wallPlace, zoneOn, localOn, knows}
 use Rattle.building.proofs.Accepted.{in-order}
 use Rattle.building.proofs.Places.{needs-roof}
-use Rattle.book.specs.Answer.{valuesOf}
+use Rattle.book.specs.declared.Answer.the-variants.{Answered}
+use Rattle.book.specs.declared.Cited.{Cited}
+use Rattle.book.specs.declared.Values.{Values}
+use Rattle.book.specs.declared.Values.the-variants.{One, Two}
+use Rattle.book.specs.Line.{Way, valueAt}
+use Rattle.book.specs.Walls.{wallWay}
+use Rattle.book.specs.Roofs.{roofWay}
+use Rattle.book.specs.Answer.{cites}
 use Rattle.book.specs.Question.{wallColumn, gableColumn, flatColumn, coefficientOf, outsideOf}
-use Rattle.book.specs.Roofs.{roofValue}
 use Rattle.book.specs.Coefficient.{OnRoof, IsCoefficient, onWall, onGable, onFlat, onF}
-use Rattle.book.proofs.Interpolated.{interpolated-unique}
-use Rattle.book.proofs.Roofed.{part-is, roof-interpolated}
-use Rattle.book.proofs.Answers.{on-wall, on-gable, on-f, on-flat, wall-on, answered}
+use Rattle.book.proofs.Interpolated.{value-near, near-value}
+use Rattle.book.proofs.Roofed.{way-is, roof-lies, roof-only}
+use Rattle.book.proofs.Answers.{on-wall, on-gable, on-f, on-flat, answered}
 
 module _ (s : Sizes) (o : SizesInOrder s) (wind place : ℕ) where
   -- what is answered for a place that is on the building
-  pub coefficient-is : (wallPlace place ≡ false → 0 < s .kind)
-      → IsCoefficient s wind place (valuesOf (coefficientOf s wind place))
+  on-roof : 0 < s .kind → (col : ℕ) → OnRoof s col (roofWay s) (valueAt (roofWay s) col)
+  on-roof roofed col =
+      record { lies = roof-lies s o roofed; near = value-near (roofWay s) col (way-is s .some) }
+
+  pub coefficient-is : (wallPlace place ≡ false → 0 < s .kind) → IsCoefficient s wind place (coefficientOf s wind place)
   unfolding flatColumn
   coefficient-is roofed =
       by-test (wallPlace place)
-      (λ w. rw (on-wall s wind place w, wall-on (s .h) (s .a) (s .b) (wallColumn wind place)) (onWall w))
-      (λ w. let value = roof-interpolated s o (roofed w) in
+      (λ w. rw (on-wall s wind place w) (onWall w (value-near (wallWay s) (wallColumn wind place) (lit< tt))))
+      (λ w. let value = on-roof (roofed w) in
       by-test (eqb (s .kind) 1)
       (λ e.
       let k = eqb-true (s .kind) 1 e in rw (on-gable s wind place w k) (onGable w k (value (gableColumn wind place))))
@@ -44,28 +52,35 @@ module _ (s : Sizes) (o : SizesInOrder s) (wind place : ℕ) where
       rw (on-flat s wind place w k p) (onFlat w (omega arith) p (value (flatColumn place))))))
 
   -- and nothing else is
-  one-value : 0 < s .kind → (col : ℕ) {v : ℤ} → OnRoof s col v → v ≡ roofValue s col
-  one-value roofed col i =
-      interpolated-unique _ (part-is s o roofed .rises) col (s .along) (s .across) (o .ranged .across-least) i
-      (roof-interpolated s o roofed col)
+  one-only : 0 < s .kind → (col : ℕ) (values : ℤ → Values) {w : Way} {v : ℤ} → OnRoof s col w v
+      → cites (values v) w ≡ cites (values (valueAt (roofWay s) col)) (roofWay s)
+  one-only roofed col values {w} r =
+      let e = roof-only s o roofed (r .lies) in
+      let some = subst (λ (u : Way). 0 < u .whole) (sym e) (way-is s .some) in
+      ap (λ (z : ℤ). cites (values z) w) (near-value w col some (r .near))
+      ∙ ap (λ (u : Way). cites (values (valueAt u col)) u) e
 
-  pub coefficient-only : {v : List ℤ} → IsCoefficient s wind place v → v ≡ valuesOf (coefficientOf s wind place)
+  pub coefficient-only : {c : Cited} → IsCoefficient s wind place c → c ≡ coefficientOf s wind place
   unfolding flatColumn
-  coefficient-only (onWall w) = rw (on-wall s wind place w, wall-on (s .h) (s .a) (s .b) (wallColumn wind place))
-  coefficient-only (onGable w k i) =
-      rw (on-gable s wind place w k, one-value (omega arith) (gableColumn wind place) i)
-  coefficient-only (onFlat w k p i) =
-      rw (on-flat s wind place w (λ e. omega arith) p, one-value (omega arith) (flatColumn place) i)
-  coefficient-only (onF w k p i) = rw (on-f s wind place w (λ e. omega arith) p, one-value (omega arith) 1 i)
+  coefficient-only (onWall w n) = rw (on-wall s wind place w, near-value (wallWay s) (wallColumn wind place) (lit< tt) n)
+  coefficient-only (onGable w k r) =
+      one-only (omega arith) (gableColumn wind place) One r ∙ sym (on-gable s wind place w k)
+  coefficient-only (onFlat w k p r) =
+      one-only (omega arith) (flatColumn place) One r ∙ sym (on-flat s wind place w (λ e. omega arith) p)
+  coefficient-only (onF w k p r) =
+      one-only (omega arith) 1 (λ v. Two v (negℤ v)) r ∙ sym (on-f s wind place w (λ e. omega arith) p)
 
-  pub coefficient-unique : {v w : List ℤ} → IsCoefficient s wind place v → IsCoefficient s wind place w → v ≡ w
+  pub coefficient-unique : {c d : Cited} → IsCoefficient s wind place c → IsCoefficient s wind place d → c ≡ d
   coefficient-unique i j = coefficient-only i ∙ sym (coefficient-only j)
 
 -- ---- the answer about a zone or local that is on the building, under a direction that it knows
 
-pub outside-is : (g : Building) (direction : ℤ) (place : ℕ) → buildingFault g ≡ 0 → knows (g .kind) direction ≡ true
-    → (zoneOn (g .kind) place || localOn (g .kind) place) ≡ true
-    → IsCoefficient (sizes g) (natAbs direction) place (valuesOf (outsideOf g direction place))
-outside-is g direction place good known on =
-    rw (answered g direction place good known on)
-    (coefficient-is (sizes g) (in-order g good) (natAbs direction) place (λ w. needs-roof (g .kind) place w on))
+module _ (g : Building) (direction : ℤ) (place : ℕ) where
+  pub outside-is : buildingFault g ≡ 0 → knows (g .kind) direction ≡ true
+      → (zoneOn (g .kind) place || localOn (g .kind) place) ≡ true
+      → (c : Cited) × (outsideOf g direction place ≡ Answered c) × IsCoefficient (sizes g) (natAbs direction) place c
+  outside-is good known on = (
+    coefficientOf (sizes g) (natAbs direction) place,
+    answered g direction place good known on,
+    coefficient-is (sizes g) (in-order g good) (natAbs direction) place (λ w. needs-roof (g .kind) place w on),
+  )

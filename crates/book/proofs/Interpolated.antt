@@ -1,81 +1,64 @@
--- The value of a column between the rows of a table: there is one only, and it lies between its rows.
-use mathlib.Core.Path.{_≡_, sym, ap, ap₂, _∙_}
-use mathlib.Core.Logic.{inl, inr}
+-- The value of a column where a number lies among the rows of a part: there is one only, and it lies between its rows.
+use mathlib.Core.Path.{_≡_, sym, ap, subst, _∙_}
 use mathlib.Core.List.{List}
-use Prim.Native.Nat.{ℕ, _-_, _*_, _<_}
-use native.Mathlib.Nat.{mul-lt-mul-of-pos-right}
+use Prim.Native.Nat.{ℕ, _*_, _<_}
 use native.Mathlib.Omega.{arith}
+use lib.Dec.{leb}
 use lib.IntN.{ℤ, pos, _*ℤ_}
-use Rattle.whole.proofs.Nearest.{roundAway-nearest, nearest-unique}
+use lib.Signed.{_≤ℤ_, ≤ℤ-refl}
+use borrow.Author.Tests.{leb-true, leb-false}
+use Rattle.whole.proofs.Tests.{by-test}
+use Rattle.whole.proofs.Nearest.{roundAway-nearest, nearest-roundAway}
 use Rattle.book.specs.Row.{hundredths, Standing}
-use Rattle.book.specs.Line.{onStraight, Between}
-use Rattle.book.specs.Interpolated.{Rising, LiesBetween, NearLine, Interpolated, between, alone}
-use Rattle.book.proofs.Between.{line-between, line-first, line-last}
-use Rattle.book.proofs.Neighbours.{two-rows, neighbours-rise, Before, Met, same, before, after, meet}
+use Rattle.book.specs.Line.{Way, wayIn, onStraight, valueAt, Between}
+use Rattle.book.specs.Interpolated.{Rising, LiesBetween, LiesAt, NearLine}
+use Rattle.book.proofs.Between.{line-between, value-on}
+use Rattle.book.proofs.Neighbours.{lower-among, upper-among}
+use Rattle.book.proofs.Ways.{between-proper, way-proper}
+use Rattle.book.proofs.Walked.{walk-on, walk-within, lies-only}
 
--- what `onStraight` gives at x/d
-abbrev pub onLine : Standing → Standing → ℕ → ℕ → ℕ → ℤ
-onLine lower upper col x d =
-    onStraight (hundredths (lower .row) col) (hundredths (upper .row) col) (x - lower .at * d) (upper .at * d - lower .at * d)
+-- ---- `valueAt` is nearest to the line, and nothing else is
 
-module _ (rows : List Standing) (rises : Rising rows) (col x d : ℕ) (some : 0 < d) where
-  apart : {lower upper : Standing} → LiesBetween rows x d lower upper → lower .at * d < upper .at * d
-  apart b = mul-lt-mul-of-pos-right (neighbours-rise rows rises (b .next)) some
+module _ (w : Way) (col : ℕ) (some : 0 < w .whole) where
+  pub value-near : NearLine w col (valueAt w col)
+  unfolding onStraight
+  value-near = roundAway-nearest _ (w .whole) some
 
-  module _ (lower upper : Standing) (b : LiesBetween rows x d lower upper) where
-    -- `onStraight` is nearest to the line, and nothing else is
-    pub line-near : NearLine lower upper col x d (onLine lower upper col x d)
-    unfolding onStraight
-    line-near =
-        let s = lower .at * d in
-        let t = upper .at * d in
-        let e : (t - s) - (x - s) ≡ t - x = omega arith in
-        rw e (roundAway-nearest _ (t - s) (omega (arith, apart b)))
+  pub near-value : {v : ℤ} → NearLine w col v → v ≡ valueAt w col
+  unfolding onStraight
+  near-value {v} n = nearest-roundAway _ (w .whole) some v n
 
-    near-line : {v : ℤ} → NearLine lower upper col x d v → v ≡ onLine lower upper col x d
-    near-line {v} n = nearest-unique _ _ (omega (arith, apart b)) v (onLine lower upper col x d) n line-near
+-- ---- "It therefore lies between the neighbouring rows, ends included."
 
-  -- on a row itself both pairs of neighbours give that row's
-  pub on-upper : (lower upper : Standing) → LiesBetween rows x d lower upper → x ≡ upper .at * d
-      → onLine lower upper col x d ≡ hundredths (upper .row) col *ℤ pos 10
-  on-upper lower upper b e = rw e (line-last (hundredths (lower .row) col) (hundredths (upper .row) col) _ (omega (arith, apart b)))
+at-lower : {v w z : ℤ} → z ≡ v → Between v w z
+at-lower {v} {w} e = rw e (record { rising = λ h. (≤ℤ-refl v, h); falling = λ h. (h, ≤ℤ-refl v) })
 
-  pub on-lower : (lower upper : Standing) → LiesBetween rows x d lower upper → lower .at * d ≡ x
-      → onLine lower upper col x d ≡ hundredths (lower .row) col *ℤ pos 10
-  on-lower lower upper b e =
-      let none : x - lower .at * d ≡ 0 = omega arith in
-      rw none (line-first (hundredths (lower .row) col) (hundredths (upper .row) col) _ (omega (arith, apart b)))
+at-upper : {v w z : ℤ} → z ≡ w → Between v w z
+at-upper {v} {w} e = rw e (record { rising = λ h. (h, ≤ℤ-refl w); falling = λ h. (≤ℤ-refl w, h) })
 
-  module _ (l u l′ u′ : Standing) (b : LiesBetween rows x d l u) (c : LiesBetween rows x d l′ u′) where
-    one-before : Before u l′ → onLine l u col x d ≡ onLine l′ u′ col x d
-    one-before (inl e) =
-        let f : u .at * d ≡ l′ .at * d = ap (λ (r : Standing). r .at * d) e in
-        on-upper l u b (omega arith)
-        ∙ ap (λ (r : Standing). hundredths (r .row) col *ℤ pos 10) e
-        ∙ sym (on-lower l′ u′ c (omega arith))
-    one-before (inr h) = absurd (omega (arith, mul-lt-mul-of-pos-right h some))
+module _ (rows : List Standing) (rises : Rising rows) (x d : ℕ) (some : 0 < d) (lower upper : Standing)
+    (b : LiesBetween rows x d lower upper) (col : ℕ) where
+  abbrev Lies-between : ℤ → Type 0
+  Lies-between v = Between (hundredths (lower .row) col *ℤ pos 10) (hundredths (upper .row) col *ℤ pos 10) v
 
-  same-line : {l u l′ u′ : Standing} → LiesBetween rows x d l u → LiesBetween rows x d l′ u′
-      → onLine l u col x d ≡ onLine l′ u′ col x d
-  same-line {l} {u} {l′} {u′} b c = go (meet rows rises (b .next) (c .next))
-    where
-      go : Met l u l′ u′ → onLine l u col x d ≡ onLine l′ u′ col x d
-      go (same e f) = ap₂ (λ (r s : Standing). onLine r s col x d) e f
-      go (before p) = one-before l u l′ u′ b c p
-      go (after p) = sym (one-before l′ u′ l u c b p)
+  walked-between : Lies-between (valueAt (wayIn rows x d) col)
+  walked-between =
+      by-test (leb x (lower .at * d))
+      (λ e. let h = leb-true x (lower .at * d) e in
+      at-lower
+      (ap (λ (w : Way). valueAt w col) (walk-on x d some rows rises (lower-among (b .next)) (omega arith)) ∙ value-on (lower .row) col))
+      (λ e. let h = leb-false x (lower .at * d) e in
+      by-test (leb (upper .at * d) x)
+      (λ f. let g = leb-true (upper .at * d) x f in
+      at-upper
+      (ap (λ (w : Way). valueAt w col) (walk-on x d some rows rises (upper-among (b .next)) (omega arith)) ∙ value-on (upper .row) col))
+      (λ f. let g = leb-false (upper .at * d) x f in
+      let p = between-proper lower upper x d h g in
+      rw (walk-within x d some rows rises (b .next) h g)
+      (line-between (hundredths (lower .row) col) (hundredths (upper .row) col) _ _ (p .within) (p .some))))
 
-  pub interpolated-unique : {v w : ℤ} → Interpolated rows col x d v → Interpolated rows col x d w → v ≡ w
-  interpolated-unique (between b n) (between c m) = near-line _ _ b n ∙ same-line b c ∙ sym (near-line _ _ c m)
-  interpolated-unique (between b n) (alone e f) = absurd (two-rows (b .next) e)
-  interpolated-unique (alone e f) (between c m) = absurd (two-rows (c .next) e)
-  interpolated-unique (alone {r} e f) (alone {r = s} g h) =
-      let same : r ≡ s = cc in
-      f ∙ ap (λ (q : Standing). hundredths (q .row) col *ℤ pos 10) same ∙ sym h
-
-  -- "It therefore lies between the neighbouring rows, ends included."
-  pub interpolated-between : {v : ℤ} {lower upper : Standing} → Interpolated rows col x d v
-      → LiesBetween rows x d lower upper
-      → Between (hundredths (lower .row) col *ℤ pos 10) (hundredths (upper .row) col *ℤ pos 10) v
-  interpolated-between {v} {lower} {upper} i b =
-      rw (interpolated-unique i (between b (line-near lower upper b)))
-      (line-between (hundredths (lower .row) col) (hundredths (upper .row) col) _ _ (omega arith) (omega (arith, apart b)))
+  pub interpolated-between : {w : Way} {v : ℤ} → LiesAt rows x d w → NearLine w col v → Lies-between v
+  interpolated-between {w} {v} l n =
+      let e : w ≡ wayIn rows x d = lies-only x d some rows rises l in
+      let some-whole = subst (λ (w : Way). 0 < w .whole) (sym e) (way-proper rows x d .some) in
+      rw (near-value w col some-whole n, e) walked-between

@@ -1,9 +1,9 @@
 -- The laws of the tables and of the answers.
 pub mod Between
 pub mod Neighbours
-pub mod Interpolated
 pub mod Ways
 pub mod Walked
+pub mod Interpolated
 pub mod Tables
 pub mod Coded
 pub mod Rows
@@ -11,4 +11,5 @@ pub mod Roofed
 pub mod Columns
 pub mod Answers
 pub mod Coefficients
+pub mod Redone
 pub mod Nets

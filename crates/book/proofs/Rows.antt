@@ -9,8 +9,9 @@ use Rattle.whole.proofs.First.{firstWith, first-in, first-most}
 use Rattle.building.specs.Ratio.{_÷_, upTo}
 use Rattle.building.proofs.Ratios.{upTo-yes}
 use Rattle.book.specs.Gable.{heights, blockOf}
-use Rattle.book.specs.Walls.{Wall, noWall, walls, wallRow}
-use Rattle.book.proofs.Tables.{SmallRow, wall-small}
+use Rattle.book.specs.Row.{Row, rowNumbered}
+use Rattle.book.specs.Walls.{Wall, noWall, walls, wallTable, wallRow}
+use Rattle.book.proofs.Tables.{SmallRow, wall-small, wall-listed}
 
 module _ (h b : ℕ) where
   pub block-first : blockOf h b ≡ firstWith (upTo h b) 0 heights
@@ -40,3 +41,7 @@ module _ (h a b : ℕ) where
 
   pub wallRow-small : SmallRow 120 (wallRow h a b)
   wallRow-small = subst (SmallRow 120) wall-index (wall-small wallIndex)
+
+  pub wallRow-listed : h ≤ 6 * b → a ≤ 4 * b → rowNumbered (wallRow h a b .number) wallTable ≡ wallRow h a b
+  wallRow-listed l m =
+      subst (λ (r : Row). rowNumbered (r .number) wallTable ≡ r) wall-index (wall-listed wallIndex (wall-below l m))

@@ -15,7 +15,7 @@ use Rattle.whole.proofs.Lists.{every-by}
 use Rattle.building.specs.Roof.{Roof, roofOf}
 use Rattle.book.specs.Row.{Row, hundredths, rowNumbered, Standing}
 use Rattle.book.specs.Interpolated.{Rising}
-use Rattle.book.specs.Walls.{Wall, noWall, walls}
+use Rattle.book.specs.Walls.{Wall, noWall, walls, wallTable}
 use Rattle.book.specs.Gable.{low, middle, tall, gableParts, gableTable}
 use Rattle.book.specs.Flat.{straight, parapet, curved, mansard, flatParts, flatTable}
 use Rattle.book.proofs.Ways.{noStanding}
@@ -80,6 +80,13 @@ wall-small i =
 pub wall-number : (i : ℕ) → i < 6 → getD walls i noWall .row .number ≡ i + 1
 wall-number =
     each-at (λ (i : ℕ). getD walls i noWall .row .number ≡ i + 1) 6
+    (refl, (refl, (refl, (refl, (refl, (refl, tt))))))
+
+pub wall-listed : (i : ℕ) → i < 6
+    → rowNumbered (getD walls i noWall .row .number) wallTable ≡ getD walls i noWall .row
+unfolding wallTable
+wall-listed =
+    each-at (λ (i : ℕ). rowNumbered (getD walls i noWall .row .number) wallTable ≡ getD walls i noWall .row) 6
     (refl, (refl, (refl, (refl, (refl, (refl, tt))))))
 
 -- ---- the parts of the roofs' tables

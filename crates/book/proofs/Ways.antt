@@ -2,7 +2,7 @@
 use mathlib.Core.Path.{_≡_, refl, sym, ap, _∙_}
 use mathlib.Core.Bool.{Bool, cond}
 use mathlib.Core.List.{List, [], _∷_}
-use Prim.Native.Nat.{ℕ, zero, suc, _+_, _*_, _≤_, _<_}
+use Prim.Native.Nat.{ℕ, zero, suc, _+_, _-_, _*_, _≤_, _<_}
 use native.Mathlib.Nat.{mul-le-mul-right}
 use native.Mathlib.Numerals.{add-one}
 use native.Mathlib.Omega.{arith}
@@ -12,6 +12,7 @@ use lib.Seq.{drop-cons}
 use borrow.Author.Tests.{leb-true, leb-false, le-leb, lt-leb}
 use Rattle.whole.specs.Lists.{Every}
 use Rattle.whole.proofs.Tests.{by-test}
+use Rattle.whole.proofs.Lowest.{lowest-within}
 use Rattle.book.specs.Row.{Row, noRow, Standing}
 use Rattle.book.specs.Line.{Way, on, between, wayIn}
 
@@ -30,25 +31,47 @@ way-rows P (r ∷ s ∷ rows) x d some h =
     (λ e. by-test (leb (s .at * d) x) (λ f. rw (e, f) (way-rows P (s ∷ rows) x d (omega arith) (h .1)))
     (λ f. rw (e, f) (h .0, h .1 .0)))
 
--- the fraction is one, and whole is small
-pub record Proper (most : ℕ) (w : Way) : Type 0 where
+-- the fraction is one
+pub record Proper (w : Way) : Type 0 where
   pub within : w .part ≤ w .whole
   pub some : 0 < w .whole
-  pub small : w .whole ≤ most
 
-pub way-proper : (k : ℕ) (rows : List Standing) (x d : ℕ) → Every (λ s. s .at ≤ k) rows
-    → Proper (k * d + 1) (wayIn rows x d)
+on-proper : (r : Row) → Proper (on r)
+on-proper r = record { within = omega arith; some = omega arith }
+
+module _ (r s : Standing) (x d : ℕ) (from : r .at * d < x) (to : x < s .at * d) where
+  pub between-proper : Proper (between r s x d)
+  between-proper =
+      let low = lowest-within (x - r .at * d) (s .at * d - r .at * d) (omega arith) (omega arith) in
+      record { within = low .0; some = low .1 }
+
+  between-small : between r s x d .whole ≤ s .at * d
+  between-small =
+      let low = lowest-within (x - r .at * d) (s .at * d - r .at * d) (omega arith) (omega arith) in
+      omega (arith, low .2)
+
+pub way-proper : (rows : List Standing) (x d : ℕ) → Proper (wayIn rows x d)
 unfolding wayIn
-way-proper k [] x d h = record { within = omega arith; some = omega arith; small = omega arith }
-way-proper k (r ∷ []) x d h = record { within = omega arith; some = omega arith; small = omega arith }
-way-proper k (r ∷ s ∷ rows) x d h =
-    by-test (leb x (r .at * d))
-    (λ e. rw e (record { within = omega arith; some = omega arith; small = omega arith }))
-    (λ e. by-test (leb (s .at * d) x) (λ f. rw (e, f) (way-proper k (s ∷ rows) x d (h .1)))
-    (λ f. let from = leb-false x (r .at * d) e in
-    let to = leb-false (s .at * d) x f in
+way-proper [] x d = on-proper noRow
+way-proper (r ∷ []) x d = on-proper (r .row)
+way-proper (r ∷ s ∷ rows) x d =
+    by-test (leb x (r .at * d)) (λ e. rw e (on-proper (r .row)))
+    (λ e. by-test (leb (s .at * d) x) (λ f. rw (e, f) (way-proper (s ∷ rows) x d))
+    (λ f. rw (e, f) (between-proper r s x d (leb-false x (r .at * d) e) (leb-false (s .at * d) x f))))
+
+-- and its whole no larger than where the last row stands
+pub way-small : (k : ℕ) (rows : List Standing) (x d : ℕ) → Every (λ s. s .at ≤ k) rows
+    → wayIn rows x d .whole ≤ k * d + 1
+unfolding wayIn
+way-small k [] x d h = omega arith
+way-small k (r ∷ []) x d h = omega arith
+way-small k (r ∷ s ∷ rows) x d h =
+    by-test (leb x (r .at * d)) (λ e. rw e (omega arith))
+    (λ e. by-test (leb (s .at * d) x) (λ f. rw (e, f) (way-small k (s ∷ rows) x d (h .1)))
+    (λ f.
+    let b = between-small r s x d (leb-false x (r .at * d) e) (leb-false (s .at * d) x f) in
     let most = mul-le-mul-right d (h .1 .0) in
-    rw (e, f) (record { within = omega arith; some = omega arith; small = omega arith })))
+    rw (e, f) (omega arith)))
 
 -- ---- the walk as a loop takes it, from row i
 

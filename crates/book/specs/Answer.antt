@@ -6,20 +6,37 @@ use lib.IntN.{ℤ, natAbs}
 use Rattle.verdict.specs.declared.Verdict.{Verdict}
 use Rattle.verdict.specs.Verdict.{accepted}
 use Rattle.building.specs.Places.{F}
+use Rattle.book.specs.declared.Values.{Values}
+use Rattle.book.specs.declared.Values.the-variants.{One, Two}
+use Rattle.book.specs.declared.Cited.{Cited}
 use Rattle.book.specs.declared.Answer.{Answer}
-use Rattle.book.specs.declared.Answer.the-variants.{One, Two, Refused}
+use Rattle.book.specs.declared.Answer.the-variants.{Answered, Refused}
+use Rattle.book.specs.Line.{Way}
+
+-- values that lie on a way, with the numbers of its rows
+abbrev pub cites : Values → Way → Cited
+cites values w =
+    record {
+      values = values;
+      lower = w .lower .number;
+      upper = w .upper .number;
+      part = w .part;
+      whole = w .whole;
+    }
 
 abbrev pub verdictOf : Answer → Verdict
-verdictOf (One v) = accepted
-verdictOf (Two v w) = accepted
-verdictOf (Refused r) = r
+verdictOf (Answered c) = accepted
+verdictOf (Refused v) = v
+
+abbrev pub valuesIn : Values → List ℤ
+valuesIn (One v) = v ∷ []
+valuesIn (Two v w) = v ∷ w ∷ []
 
 abbrev pub valuesOf : Answer → List ℤ
-valuesOf (One v) = v ∷ []
-valuesOf (Two v w) = v ∷ w ∷ []
-valuesOf (Refused r) = []
+valuesOf (Answered c) = valuesIn (c .values)
+valuesOf (Refused v) = []
 
 -- the alternatives of a place on a roof of a kind, none above k in size: two only in zone F of a flat roof
-pub data Alternatives (k kind place : ℕ) : Answer → Type 0 where
-  one : {v : ℤ} → natAbs v ≤ k → Alternatives k kind place (One v)
-  two : {v w : ℤ} → natAbs v ≤ k → natAbs w ≤ k → place ≡ F → 2 ≤ kind → Alternatives k kind place (Two v w)
+pub data Alternatives (k kind place : ℕ) : List ℤ → Type 0 where
+  one : {v : ℤ} → natAbs v ≤ k → Alternatives k kind place (v ∷ [])
+  two : {v w : ℤ} → natAbs v ≤ k → natAbs w ≤ k → place ≡ F → 2 ≤ kind → Alternatives k kind place (v ∷ w ∷ [])

@@ -1,10 +1,13 @@
--- What the value of a column between the rows of a table is, said of the printed rows and not of how it is found.
+-- Where a number lies among the rows of a part and what the value of a column is there, said of the printed rows and
+-- not of how they are found.
 use mathlib.Core.Path.{_≡_}
-use mathlib.Core.List.{List, [], _∷_}
+use mathlib.Core.List.{List, [], _∷_, List·Memᴰ}
 use Prim.Native.Nat.{ℕ, _-_, _*_, _≤_, _<_}
-use lib.IntN.{ℤ, pos, _+ℤ_, _*ℤ_}
+use lib.IntN.{ℤ}
 use Rattle.whole.specs.Round.{Nearest}
+use Rattle.whole.specs.Lowest.{LowestTerms}
 use Rattle.book.specs.Row.{hundredths, Standing}
+use Rattle.book.specs.Line.{Way, on, alongLine}
 
 -- two rows that follow each other
 pub data Neighbours : List Standing → Standing → Standing → Type 0 where
@@ -24,17 +27,15 @@ pub record LiesBetween (rows : List Standing) (x d : ℕ) (lower upper : Standin
   pub from : lower .at * d ≤ x
   pub to : x ≤ upper .at * d
 
--- v, in thousandths, is nearest to what column col has at x/d on the straight line from row to row, a half going away
--- from zero
-abbrev pub NearLine : Standing → Standing → ℕ → ℕ → ℕ → ℤ → Type 0
-NearLine lower upper col x d v =
-    let s = lower .at * d in
-    let t = upper .at * d in
-    Nearest ((hundredths (lower .row) col *ℤ pos (t - x) +ℤ hundredths (upper .row) col *ℤ pos (x - s)) *ℤ pos 10) (t - s) v
+-- where x/d lies: on the only row, on any row, or between two neighbours, a fraction of the way in lowest terms
+pub data LiesAt (rows : List Standing) (x d : ℕ) : Way → Type 0 where
+  alone : {r : Standing} → rows ≡ r ∷ [] → LiesAt rows x d (on (r .row))
+  onRow : {r : Standing} → List·Memᴰ r rows → x ≡ r .at * d → LiesAt rows x d (on (r .row))
+  within : {lower upper : Standing} {part whole : ℕ} → Neighbours rows lower upper → lower .at * d < x
+      → x < upper .at * d → LowestTerms (x - lower .at * d) (upper .at * d - lower .at * d) part whole
+      → LiesAt rows x d (record { lower = lower .row; upper = upper .row; part = part; whole = whole })
 
--- v, in thousandths, is the value of column col at x/d: nearest to the straight line between two neighbouring rows,
--- or, where the table has one row only, that row's
-pub data Interpolated (rows : List Standing) (col x d : ℕ) (v : ℤ) : Type 0 where
-  between : {lower upper : Standing} → LiesBetween rows x d lower upper → NearLine lower upper col x d v
-      → Interpolated rows col x d v
-  alone : {r : Standing} → rows ≡ r ∷ [] → v ≡ hundredths (r .row) col *ℤ pos 10 → Interpolated rows col x d v
+-- v, in thousandths, is nearest to lower + part/whole × (upper - lower) in column col, a half going away from zero
+abbrev pub NearLine : Way → ℕ → ℤ → Type 0
+NearLine w col v =
+    Nearest (alongLine (hundredths (w .lower) col) (hundredths (w .upper) col) (w .part) (w .whole)) (w .whole) v

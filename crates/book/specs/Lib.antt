@@ -3,6 +3,7 @@
 pub mod Number
 pub mod Row
 pub mod Line
+pub mod Spot
 pub mod Interpolated
 pub mod Walls
 pub mod Gable
@@ -11,3 +12,4 @@ pub mod Roofs
 pub mod Answer
 pub mod Question
 pub mod Coefficient
+pub mod ByHand

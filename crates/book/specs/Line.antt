@@ -2,12 +2,12 @@
 -- rounded once to a thousandth, a half going away from zero.
 use mathlib.Core.Bool.{cond}
 use mathlib.Core.List.{List, [], _∷_}
-use Prim.Native.Nat.{ℕ, _-_, _*_}
-use lib.IntN.{ℤ, pos, _+ℤ_, _*ℤ_}
+use Prim.Native.Nat.{ℕ, _-_, _*_, _/_}
+use lib.IntN.{ℤ, pos, _+ℤ_, _-ℤ_, _*ℤ_}
 use lib.Signed.{_≤ℤ_}
 use lib.Dec.{leb}
 use Rattle.whole.specs.Round.{roundAway}
-use Rattle.book.specs.declared.line.Spot.{Spot}
+use Rattle.whole.specs.Lowest.{commonDivisor}
 use Rattle.book.specs.Row.{Row, noRow, hundredths, Standing}
 
 -- from one row to another, and the fraction of the way: part/whole
@@ -17,13 +17,16 @@ pub record Way : Type 0 where
   pub part : ℕ
   pub whole : ℕ
 
--- on a row itself; or between two rows, at x/d
+-- on a row itself; or between two rows, at x/d, with the fraction in lowest terms
 abbrev pub on : Row → Way
 on r = record { lower = r; upper = r; part = 0; whole = 1 }
 
 abbrev pub between : Standing → Standing → ℕ → ℕ → Way
 between r s x d =
-    record { lower = r .row; upper = s .row; part = x - r .at * d; whole = s .at * d - r .at * d }
+    let part = x - r .at * d in
+    let whole = s .at * d - r .at * d in
+    let divisor = commonDivisor part whole in
+    record { lower = r .row; upper = s .row; part = part / divisor; whole = whole / divisor }
 
 -- where x/d lies: a walk over the rows, in the book's order
 unfoldable pub wayIn : List Standing → ℕ → ℕ → Way
@@ -32,13 +35,12 @@ wayIn (r ∷ []) x d = on (r .row)
 wayIn (r ∷ s ∷ rows) x d =
     cond (leb x (r .at * d)) (on (r .row)) (cond (leb (s .at * d) x) (wayIn (s ∷ rows) x d) (between r s x d))
 
--- the same with the rows' numbers
-abbrev pub spotOf : Way → Spot
-spotOf w = record { lower = w .lower .number; upper = w .upper .number; part = w .part; whole = w .whole }
+-- lower + part/whole × (upper - lower), which are hundredths: in thousandths, and over whole
+abbrev pub alongLine : ℤ → ℤ → ℕ → ℕ → ℤ
+alongLine lower upper part whole = (lower *ℤ pos whole +ℤ (upper -ℤ lower) *ℤ pos part) *ℤ pos 10
 
--- part/whole of the way from v to w, which are hundredths: in thousandths
 unfoldable pub onStraight : ℤ → ℤ → ℕ → ℕ → ℤ
-onStraight v w part whole = roundAway ((v *ℤ pos (whole - part) +ℤ w *ℤ pos part) *ℤ pos 10) whole
+onStraight lower upper part whole = roundAway (alongLine lower upper part whole) whole
 
 -- the value of a column
 abbrev pub valueAt : Way → ℕ → ℤ

@@ -12,9 +12,14 @@ use Rattle.building.specs.Test.{beyond}
 use Rattle.building.specs.Places.{A, E, F, G, L1, wallLocal, wallPlace}
 use Rattle.building.specs.Question.{askedOf}
 use Rattle.book.specs.declared.Answer.{Answer}
-use Rattle.book.specs.declared.Answer.the-variants.{One, Two, Refused}
-use Rattle.book.specs.Walls.{wallValue}
-use Rattle.book.specs.Roofs.{roofValue}
+use Rattle.book.specs.declared.Answer.the-variants.{Answered, Refused}
+use Rattle.book.specs.declared.Cited.{Cited}
+use Rattle.book.specs.declared.Values.{Values}
+use Rattle.book.specs.declared.Values.the-variants.{One, Two}
+use Rattle.book.specs.Line.{Way, valueAt}
+use Rattle.book.specs.Walls.{wallWay}
+use Rattle.book.specs.Roofs.{roofWay}
+use Rattle.book.specs.Answer.{cites}
 
 -- ---- the coefficient
 
@@ -28,21 +33,24 @@ gableColumn wind zone = cond (eqb wind 0) (cond (leb zone F) 0 1) (cond (eqb zon
 unfoldable pub flatColumn : ℕ → ℕ
 flatColumn place = cond (eqb place E) 0 (cond (eqb place F) 1 (cond (eqb place L1) 2 3))
 
--- F of a flat roof: first plus, second minus
-abbrev pub bothSigns : ℤ → Answer
-bothSigns v = Two v (negℤ v)
+-- the value of a column; F of a flat roof: first plus, second minus
+abbrev pub oneAt : Way → ℕ → Cited
+oneAt w col = cites (One (valueAt w col)) w
 
-unfoldable pub coefficientOf : Sizes → ℕ → ℕ → Answer
+abbrev pub bothSigns : Way → ℕ → Cited
+bothSigns w col = cites (Two (valueAt w col) (negℤ (valueAt w col))) w
+
+unfoldable pub coefficientOf : Sizes → ℕ → ℕ → Cited
 coefficientOf s wind place =
-    cond (wallPlace place) (One (wallValue (s .h) (s .a) (s .b) (wallColumn wind place)))
-    (cond (eqb (s .kind) 1) (One (roofValue s (gableColumn wind place)))
-    (cond (eqb place F) (bothSigns (roofValue s (flatColumn F))) (One (roofValue s (flatColumn place)))))
+    cond (wallPlace place) (oneAt (wallWay s) (wallColumn wind place))
+    (cond (eqb (s .kind) 1) (oneAt (roofWay s) (gableColumn wind place))
+    (cond (eqb place F) (bothSigns (roofWay s) (flatColumn F)) (oneAt (roofWay s) (flatColumn place))))
 
 -- ---- the question
 
 -- what is refused stays refused
 abbrev pub answerTo : Question → ℕ → ℕ → Answer
-answerTo (asked.Of s) wind place = coefficientOf s wind place
+answerTo (asked.Of s) wind place = Answered (coefficientOf s wind place)
 answerTo (asked.Refused v) wind place = Refused v
 
 unfoldable pub outsideOf : Building → ℤ → ℕ → Answer
@@ -52,22 +60,29 @@ outsideOf g direction place = answerTo (askedOf g direction place) (natAbs direc
 abbrev pub net : ℤ → ℤ → ℤ
 net outside internal = outside -ℤ internal *ℤ pos 10
 
-abbrev pub minus : Answer → ℤ → Answer
+abbrev pub minus : Values → ℤ → Values
 minus (One v) internal = One (net v internal)
 minus (Two v w) internal = Two (net v internal) (net w internal)
-minus (Refused v) internal = Refused v
+
+-- with the rows and the fraction of the outside coefficient
+abbrev pub netCited : Cited → ℤ → Cited
+netCited c internal =
+    record {
+      values = minus (c .values) internal;
+      lower = c .lower;
+      upper = c .upper;
+      part = c .part;
+      whole = c .whole;
+    }
 
 -- beyond 1 in size, in hundredths
 abbrev pub tooGreat : ℤ → Bool
 tooGreat internal = beyond (negℤ (pos 100)) (pos 100) internal
 
 -- the internal coefficient is judged once the rest is in order
-abbrev pub then : Answer → Answer → Answer
-then (One v) answerTo = answerTo
-then (Two v w) answerTo = answerTo
-then (Refused v) answerTo = Refused v
+abbrev pub netTo : Answer → ℤ → Answer
+netTo (Answered c) internal = cond (tooGreat internal) (Refused (refusal 3 0)) (Answered (netCited c internal))
+netTo (Refused v) internal = Refused v
 
 unfoldable pub netOf : Building → ℤ → ℕ → ℤ → Answer
-netOf g direction place internal =
-    let outside = outsideOf g direction place in
-    then outside (cond (tooGreat internal) (Refused (refusal 3 0)) (minus outside internal))
+netOf g direction place internal = netTo (outsideOf g direction place) internal

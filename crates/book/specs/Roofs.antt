@@ -1,13 +1,12 @@
--- Roofs: the part of its table that a roof has, where x lies in it, and the value of a column there.
+-- Roofs: the table of a roof, its part for this building, and where x lies in it.
 use mathlib.Core.Bool.{cond}
 use mathlib.Core.List.{List, []}
 use Prim.Native.Nat.{ℕ, _-_}
-use lib.IntN.{ℤ}
 use lib.Dec.{eqb}
 use lib.ListN.{getD}
 use Rattle.building.specs.declared.Sizes.{Sizes}
 use Rattle.book.specs.Row.{Row, Standing}
-use Rattle.book.specs.Line.{Way, wayIn, valueAt}
+use Rattle.book.specs.Line.{Way, wayIn}
 use Rattle.book.specs.Gable.{gableParts, gableTable, blockOf}
 use Rattle.book.specs.Flat.{flatParts, flatTable}
 
@@ -19,8 +18,5 @@ roofTable kind = cond (eqb kind 1) gableTable flatTable
 abbrev pub partOf : Sizes → List Standing
 partOf s = cond (eqb (s .kind) 1) (getD gableParts (blockOf (s .h) (s .b)) []) (getD flatParts (s .kind - 2) [])
 
-abbrev pub roofWay : Sizes → Way
+unfoldable pub roofWay : Sizes → Way
 roofWay s = wayIn (partOf s) (s .along) (s .across)
-
-unfoldable pub roofValue : Sizes → ℕ → ℤ
-roofValue s col = valueAt (roofWay s) col

@@ -1,12 +1,13 @@
 -- Walls, table 3.2.2.2.1, in hundredths.
 use mathlib.Core.Bool.{cond, _&&_}
-use mathlib.Core.List.{List, [], _∷_}
+use mathlib.Core.List.{List, [], _∷_, map}
 use Prim.Native.Nat.{ℕ}
 use lib.IntN.{ℤ}
+use Rattle.building.specs.declared.Sizes.{Sizes}
 use Rattle.book.specs.Number.{p, m}
 use Rattle.building.specs.Ratio.{Limit, _÷_, upTo}
 use Rattle.book.specs.Row.{Row}
-use Rattle.book.specs.Line.{on, valueAt}
+use Rattle.book.specs.Line.{Way, on}
 
 -- a row holds for h/b and a/b up to its limits
 pub record Wall : Type 0 where
@@ -31,6 +32,9 @@ walls =
     ∷ wall 6 (6 ÷ 1) (4 ÷ 1) (p 70 ∷ m 40 ∷ m 70 ∷ m 70 ∷ m 50 ∷ m 50 ∷ p 80 ∷ m 10 ∷ m 120 ∷ [])
     ∷ []
 
+unfoldable pub wallTable : List Row
+wallTable = map (λ (r : Wall). r .row) walls
+
 -- the first row, in the book's order, up to whose limits h/b and a/b come
 abbrev pub firstWall : List Wall → ℕ → ℕ → ℕ → Wall
 firstWall [] h a b = noWall
@@ -40,5 +44,5 @@ unfoldable pub wallRow : ℕ → ℕ → ℕ → Row
 wallRow h a b = firstWall walls h a b .row
 
 -- nothing lies between two rows of walls
-abbrev pub wallValue : ℕ → ℕ → ℕ → ℕ → ℤ
-wallValue h a b col = valueAt (on (wallRow h a b)) col
+abbrev pub wallWay : Sizes → Way
+wallWay s = on (wallRow (s .h) (s .a) (s .b))

@@ -11,10 +11,25 @@ mod question;
 mod roofs;
 mod walls;
 
-// A coefficient's alternatives in thousandths, in order; or the refusal.
-pub enum Answer {
+// A coefficient's alternatives in thousandths, in order.
+pub enum Values {
     One(i32),
     Two(i32, i32),
+}
+
+// A coefficient and where it comes from: it lies between the rows with these numbers of its table, `part` / `whole` of
+// the way from `lower` to `upper`, in lowest terms. On a row itself both are that row, and the fraction is 0 / 1.
+pub struct Cited {
+    pub values: Values,
+    pub lower: u32,
+    pub upper: u32,
+    pub part: u32,
+    pub whole: u32,
+}
+
+// A coefficient; or the refusal.
+pub enum Answer {
+    Answered(Cited),
     Refused(Verdict),
 }
 
@@ -24,7 +39,9 @@ pub fn outside(g: Building, direction: i64, place: u8) -> Answer
 {
     let q = building::asked(g, direction, place);
     match q {
-        Question::Of(s) => question::coefficient(s, whole::magnitude(direction), place),
+        Question::Of(s) => {
+            Answer::Answered(question::coefficient(s, whole::magnitude(direction), place))
+        }
         Question::Refused(v) => Answer::Refused(v),
     }
 }
@@ -35,17 +52,11 @@ pub fn net(g: Building, direction: i64, place: u8, internal: i64) -> Answer
 {
     let r = outside(g, direction, place);
     match r {
-        Answer::One(v) => {
+        Answer::Answered(c) => {
             if question::too_great(internal) {
                 return Answer::Refused(Verdict { number: 3, line: 0 });
             }
-            Answer::One(question::less(v, internal))
-        }
-        Answer::Two(v, w) => {
-            if question::too_great(internal) {
-                return Answer::Refused(Verdict { number: 3, line: 0 });
-            }
-            Answer::Two(question::less(v, internal), question::less(w, internal))
+            Answer::Answered(question::net_cited(c, internal))
         }
         Answer::Refused(v) => Answer::Refused(v),
     }

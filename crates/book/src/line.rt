@@ -3,18 +3,19 @@ ghost use mathlib.Core.Path.{_≡_};
 ghost use Prim.Native.Nat.{_+_, _*_, _/_, _<_, _≤_};
 ghost use lib.IntN.{natAbs};
 ghost use Rattle.whole.specs.Round.{roundAway};
+ghost use Rattle.whole.specs.Lowest.{commonDivisor};
 ghost use Rattle.book.specs.Line.{onStraight};
 
-// From row `lower` to row `upper` of a table, by their numbers, `part` / `whole` of the way.
+// From row `lower` to row `upper` of a table, by their numbers, `part` / `whole` of the way, in lowest terms.
 pub(crate) struct Spot {
-    pub lower: u64,
-    pub upper: u64,
-    pub part: u64,
-    pub whole: u64,
+    pub lower: u32,
+    pub upper: u32,
+    pub part: u32,
+    pub whole: u32,
 }
 
 // On a row itself.
-pub(crate) fn on_row(row: u64) -> Spot
+pub(crate) fn on_row(row: u32) -> Spot
     ensures { λ r. ⌜ r ≡ record { lower = row; upper = row; part = 0; whole = 1 } ⌝ }
 {
     Spot {
@@ -22,6 +23,21 @@ pub(crate) fn on_row(row: u64) -> Spot
         upper: row,
         part: 0,
         whole: 1,
+    }
+}
+
+// Between two rows, with the fraction brought to lowest terms.
+pub(crate) fn between(lower: u32, upper: u32, part: u64, whole: u64) -> Spot
+    requires { ⌜ (0 < part) × (part ≤ whole) × (whole < 100000000) ⌝ }
+    ensures { λ r. ⌜ (let g = commonDivisor part whole in
+        r ≡ record { lower = lower; upper = upper; part = part / g; whole = whole / g }) ⌝ }
+{
+    let divisor = whole::common_divisor(part, whole);
+    Spot {
+        lower,
+        upper,
+        part: (part / divisor) as u32,
+        whole: (whole / divisor) as u32,
     }
 }
 
@@ -46,10 +62,10 @@ fn round_away(z: i64, d: u64) -> i64
 }
 
 // `part` / `whole` of the way from v to w, in thousandths.
-pub(crate) fn line_at(v: i16, w: i16, part: u64, whole: u64) -> i32
+pub(crate) fn line_at(v: i16, w: i16, part: u32, whole: u32) -> i32
     requires { ⌜ (natAbs v ≤ 250) × (natAbs w ≤ 250) × (part ≤ whole) × (0 < whole) × (whole < 100000000) ⌝ }
     ensures { λ r. ⌜ r ≡ onStraight v w part whole ⌝ }
 {
-    let n = ((v as i64) * ((whole - part) as i64) + (w as i64) * (part as i64)) * 10;
-    round_away(n, whole) as i32
+    let n = ((v as i64) * (whole as i64) + ((w as i64) - (v as i64)) * (part as i64)) * 10;
+    round_away(n, whole as u64) as i32
 }

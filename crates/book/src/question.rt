@@ -2,13 +2,23 @@
 ghost use mathlib.Core.Path.{_≡_};
 ghost use mathlib.Core.Bool.{true, false};
 ghost use Prim.Native.Nat.{_≤_, _<_};
-ghost use lib.IntN.{natAbs};
+ghost use lib.IntN.{negℤ, natAbs};
+ghost use Rattle.whole.specs.Lists.{Every};
 ghost use Rattle.building.specs.Places.{wallPlace};
 ghost use Rattle.building.specs.Order.{SizesInOrder};
+ghost use Rattle.book.specs.declared.Values.the-variants.{Two};
+ghost use Rattle.book.specs.Answer.{valuesIn};
+ghost use Rattle.book.specs.Walls.{wallWay};
 ghost use Rattle.book.specs.Question as question;
-ghost use Rattle.book.specs.Question.{wallColumn, gableColumn, flatColumn, bothSigns, coefficientOf};
-use super::Answer;
+ghost use Rattle.book.specs.Question.{wallColumn, gableColumn, flatColumn, oneAt, coefficientOf, netCited};
+use super::Cited;
+use super::Values;
+use super::line::Spot;
+use super::line::on_row;
 use super::roofs::roof_value;
+use super::roofs::roof_way;
+use super::walls::wall_number;
+use super::walls::wall_row;
 use super::walls::wall_value;
 use building::Sizes;
 
@@ -71,29 +81,63 @@ fn flat_column(place: u8) -> usize
     3
 }
 
-fn both_signs(v: i32) -> Answer
+fn both_signs(v: i32) -> Values
     requires { ⌜ natAbs v ≤ 2500 ⌝ }
-    ensures { λ r. ⌜ r ≡ bothSigns v ⌝ }
+    ensures { λ r. ⌜ r ≡ Two v (negℤ v) ⌝ }
 {
-    Answer::Two(v, 0 - v)
+    Values::Two(v, 0 - v)
+}
+
+// Values that lie at a spot.
+fn cited(values: Values, w: Spot) -> Cited
+    ensures { λ r. ⌜ r ≡ record { values = values; lower = w .lower; upper = w .upper; part = w .part; whole = w .whole } ⌝ }
+{
+    Cited {
+        values,
+        lower: w.lower,
+        upper: w.upper,
+        part: w.part,
+        whole: w.whole,
+    }
+}
+
+// On a wall nothing lies between two rows.
+fn on_wall(s: Sizes, col: usize) -> Cited
+    requires { ⌜ SizesInOrder s ⌝ }
+    requires { ⌜ col < 9 ⌝ }
+    ensures { λ r. ⌜ r ≡ oneAt (wallWay s) col ⌝ }
+{
+    let row = wall_row(s);
+    cited(Values::One(wall_value(row, col)), on_row(wall_number(row)))
+}
+
+// On a roof; F of a flat one has both signs.
+fn on_roof(s: Sizes, wind: u64, place: u8) -> Cited
+    requires { ⌜ SizesInOrder s ⌝ }
+    requires { ⌜ (0 < s .kind) × (wallPlace place ≡ false) ⌝ }
+    ensures { λ r. ⌜ r ≡ coefficientOf s wind place ⌝ }
+{
+    let w = roof_way(s);
+    if s.kind == 1 {
+        return cited(Values::One(roof_value(s, w, gable_column(wind, place))), w);
+    }
+    let v = roof_value(s, w, flat_column(place));
+    if place == b'F' {
+        return cited(both_signs(v), w);
+    }
+    cited(Values::One(v), w)
 }
 
 // A place that is not on a wall needs a roof.
-pub(crate) fn coefficient(s: Sizes, wind: u64, place: u8) -> Answer
+pub(crate) fn coefficient(s: Sizes, wind: u64, place: u8) -> Cited
     requires { ⌜ SizesInOrder s ⌝ }
     requires { ⌜ (wallPlace place ≡ false → 0 < s .kind) ⌝ }
     ensures { λ r. ⌜ r ≡ coefficientOf s wind place ⌝ }
 {
     if wall_place(place) {
-        return Answer::One(wall_value(s, wall_column(wind, place)));
+        return on_wall(s, wall_column(wind, place));
     }
-    if s.kind == 1 {
-        return Answer::One(roof_value(s, gable_column(wind, place)));
-    }
-    if place == b'F' {
-        return both_signs(roof_value(s, 1));
-    }
-    Answer::One(roof_value(s, flat_column(place)))
+    on_roof(s, wind, place)
 }
 
 // An internal coefficient beyond 1 in size, in hundredths.
@@ -107,9 +151,34 @@ pub(crate) fn too_great(internal: i64) -> bool
 }
 
 // Hundredths taken off thousandths.
-pub(crate) fn less(v: i32, internal: i64) -> i32
+fn less(v: i32, internal: i64) -> i32
     requires { ⌜ (natAbs v ≤ 2500) × (natAbs internal ≤ 100) ⌝ }
     ensures { λ r. ⌜ r ≡ question.net v internal ⌝ }
 {
     ((v as i64) - internal * 10) as i32
+}
+
+fn minus(values: Values, internal: i64) -> Values
+    requires { ⌜ Every (λ z. natAbs z ≤ 2500) (valuesIn values) × (natAbs internal ≤ 100) ⌝ }
+    ensures { λ r. ⌜ r ≡ question.minus values internal ⌝ }
+{
+    match values {
+        Values::One(v) => Values::One(less(v, internal)),
+        Values::Two(v, w) => Values::Two(less(v, internal), less(w, internal)),
+    }
+}
+
+// The rows and the fraction stay.
+pub(crate) fn net_cited(c: Cited, internal: i64) -> Cited
+    requires { ⌜ Every (λ z. natAbs z ≤ 2500) (valuesIn (c .values)) × (natAbs internal ≤ 100) ⌝ }
+    ensures { λ r. ⌜ r ≡ netCited c internal ⌝ }
+{
+    let values = c.values;
+    Cited {
+        values: minus(values, internal),
+        lower: c.lower,
+        upper: c.upper,
+        part: c.part,
+        whole: c.whole,
+    }
 }

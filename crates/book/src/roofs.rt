@@ -7,11 +7,13 @@ ghost use Rattle.whole.specs.Lists.{firstOf};
 ghost use Rattle.building.specs.Order.{SizesInOrder};
 ghost use Rattle.building.specs.Ratio.{_÷_, upTo};
 ghost use Rattle.book.specs.Row.{hundredths, rowNumbered, Standing};
-ghost use Rattle.book.specs.Line.{wayIn, spotOf};
+ghost use Rattle.book.specs.Line.{wayIn, valueAt};
+ghost use Rattle.book.specs.Spot.{spotOf};
 ghost use Rattle.book.specs.Gable.{gableParts, gableTable, heights, blockOf};
 ghost use Rattle.book.specs.Flat.{flatParts, flatTable};
-ghost use Rattle.book.specs.Roofs.{partOf, roofTable, roofValue};
+ghost use Rattle.book.specs.Roofs.{partOf, roofTable, roofWay};
 use super::line::Spot;
+use super::line::between;
 use super::line::line_at;
 use super::line::on_row;
 use building::Sizes;
@@ -153,17 +155,24 @@ fn numbers_of(k: usize) -> [u16; 8]
     NUMBERS[k]
 }
 
-fn wide(n: u16) -> u64
-    ensures { λ r. ⌜ r ≡ n ⌝ }
+fn stands(at: &[u16; 8], i: usize) -> u64
+    requires { ⌜ i < 8 ⌝ }
+    ensures { λ r. ⌜ r ≡ getD (now (at .entry)) i 0 ⌝ }
 {
-    n as u64
+    wide(at[i]) as u64
 }
 
-fn entry(list: &[u16; 8], i: usize) -> u64
+fn number(rows: &[u16; 8], i: usize) -> u32
     requires { ⌜ i < 8 ⌝ }
-    ensures { λ r. ⌜ r ≡ getD (now (list .entry)) i 0 ⌝ }
+    ensures { λ r. ⌜ r ≡ getD (now (rows .entry)) i 0 ⌝ }
 {
-    wide(list[i])
+    wide(rows[i])
+}
+
+fn wide(n: u16) -> u32
+    ensures { λ r. ⌜ r ≡ n ⌝ }
+{
+    n as u32
 }
 
 // Where x / d lies in part k: a walk over its rows, in the book's order.
@@ -176,32 +185,36 @@ fn way_in(k: usize, x: u64, d: u64) -> Spot
     let count = count_of(k);
     let mut i: usize = 0;
     while i + 1 < count {
-        let s = entry(&at, i) * d;
+        let s = stands(&at, i) * d;
         if x <= s {
-            return on_row(entry(&rows, i));
+            return on_row(number(&rows, i));
         }
-        let t = entry(&at, i + 1) * d;
+        let t = stands(&at, i + 1) * d;
         if x < t {
-            return Spot {
-                lower: entry(&rows, i),
-                upper: entry(&rows, i + 1),
-                part: x - s,
-                whole: t - s,
-            };
+            return between(number(&rows, i), number(&rows, i + 1), x - s, t - s);
         }
         i += 1;
     }
-    on_row(entry(&rows, i))
+    on_row(number(&rows, i))
 }
 
-fn gable_cell(row: u64, col: usize) -> i16
+// Where x lies in the roof's part of its table.
+pub(crate) fn roof_way(s: Sizes) -> Spot
+    requires { ⌜ SizesInOrder s ⌝ }
+    requires { ⌜ 0 < s .kind ⌝ }
+    ensures { λ r. ⌜ r ≡ spotOf (roofWay s) ⌝ }
+{
+    way_in(part_of(s), s.along, s.across)
+}
+
+fn gable_cell(row: u32, col: usize) -> i16
     requires { ⌜ (0 < row) × (row ≤ 22) × (col < 4) ⌝ }
     ensures { λ r. ⌜ r ≡ hundredths (rowNumbered row gableTable) col ⌝ }
 {
     GABLE[(row - 1) as usize][col]
 }
 
-fn flat_cell(row: u64, col: usize) -> i16
+fn flat_cell(row: u32, col: usize) -> i16
     requires { ⌜ (0 < row) × (row ≤ 10) × (col < 4) ⌝ }
     ensures { λ r. ⌜ r ≡ hundredths (rowNumbered row flatTable) col ⌝ }
 {
@@ -209,7 +222,7 @@ fn flat_cell(row: u64, col: usize) -> i16
 }
 
 // The hundredths of a row and column of the roof's table.
-fn cell(kind: u64, row: u64, col: usize) -> i16
+fn cell(kind: u64, row: u32, col: usize) -> i16
     requires { ⌜ (0 < row) × (kind ≡ 1 → row ≤ 22) × ((kind ≡ 1 → ⊥) → row ≤ 10) × (col < 4) ⌝ }
     ensures { λ r. ⌜ r ≡ hundredths (rowNumbered row (roofTable kind)) col ⌝ }
 {
@@ -219,17 +232,12 @@ fn cell(kind: u64, row: u64, col: usize) -> i16
     flat_cell(row, col)
 }
 
-// The value of a column of the roof's table.
-pub(crate) fn roof_value(s: Sizes, col: usize) -> i32
+// The value of a column where x lies.
+pub(crate) fn roof_value(s: Sizes, w: Spot, col: usize) -> i32
     requires { ⌜ SizesInOrder s ⌝ }
-    requires { ⌜ (0 < s .kind) × (col < 4) ⌝ }
-    ensures { λ r. ⌜ r ≡ roofValue s col ⌝ }
+    requires { ⌜ (0 < s .kind) × (w ≡ spotOf (roofWay s)) × (col < 4) ⌝ }
+    ensures { λ r. ⌜ r ≡ valueAt (roofWay s) col ⌝ }
 {
-    let r = way_in(part_of(s), s.along, s.across);
-    line_at(
-        cell(s.kind, r.lower, col),
-        cell(s.kind, r.upper, col),
-        r.part,
-        r.whole,
-    )
+    let v = cell(s.kind, w.lower, col);
+    line_at(v, cell(s.kind, w.upper, col), w.part, w.whole)
 }

@@ -6,8 +6,8 @@ ghost use lib.ListN.{getD};
 ghost use Rattle.building.specs.Ratio.{upTo};
 ghost use Rattle.building.specs.Order.{SizesInOrder};
 ghost use Rattle.book.specs.Row.{hundredths};
-ghost use Rattle.book.specs.Walls.{noWall, walls, wallRow, wallValue};
-use super::line::line_at;
+ghost use Rattle.book.specs.Line.{on, valueAt};
+ghost use Rattle.book.specs.Walls.{noWall, walls, wallRow};
 use building::Sizes;
 use building::ratio::up_to;
 
@@ -38,7 +38,7 @@ fn in_row(row: usize, s: Sizes) -> bool
 }
 
 // The first row, in the book's order, up to whose limits h/b and a/b come.
-fn wall_row(s: Sizes) -> usize
+pub(crate) fn wall_row(s: Sizes) -> usize
     requires { ⌜ SizesInOrder s ⌝ }
     ensures { λ r. ⌜ (r < 6) × (getD walls r noWall .row ≡ wallRow (s .h) (s .a) (s .b)) ⌝ }
 {
@@ -66,11 +66,18 @@ fn wall_cell(row: usize, col: usize) -> i16
     w.6
 }
 
-pub(crate) fn wall_value(s: Sizes, col: usize) -> i32
-    requires { ⌜ SizesInOrder s ⌝ }
-    requires { ⌜ col < 9 ⌝ }
-    ensures { λ r. ⌜ r ≡ wallValue (s .h) (s .a) (s .b) col ⌝ }
+// The number of a row in the table, from 1.
+pub(crate) fn wall_number(row: usize) -> u32
+    requires { ⌜ row < 6 ⌝ }
+    ensures { λ r. ⌜ r ≡ getD walls row noWall .row .number ⌝ }
 {
-    let v = wall_cell(wall_row(s), col);
-    line_at(v, v, 0, 1)
+    (row + 1) as u32
+}
+
+// The value of a column on a row, in thousandths.
+pub(crate) fn wall_value(row: usize, col: usize) -> i32
+    requires { ⌜ (row < 6) × (col < 9) ⌝ }
+    ensures { λ r. ⌜ r ≡ valueAt (on (getD walls row noWall .row)) col ⌝ }
+{
+    (wall_cell(row, col) as i32) * 10
 }

@@ -4,7 +4,7 @@ use mathlib.Core.Bool.{Bool, true, false, _&&_}
 use Prim.Native.Nat.{ℕ, zero, suc, _+_, _-_, _*_, _/_, _%_, _≤_, _<_, _∣_}
 use native.Mathlib.Nat.{div-add-mod', mod-lt, mod-one, mul-le-mul-right, le-of-mul-le-mul-right, eq-of-mul-eq-mul-right}
 use native.Mathlib.Nat.{dvd-refl, dvd-zero, dvd-mul-right, le-of-dvd, pos-of-dvd-of-pos, dvd-antisymm, dvd-mod-iff}
-use native.Mathlib.Nat.{mod-eq-zero-of-dvd, dvd-of-mod-eq-zero, div-mul-cancel, mul-dvd-mul-right}
+use native.Mathlib.Nat.{mod-eq-zero-of-dvd, dvd-of-mod-eq-zero, div-mul-cancel, div-le-self, mul-dvd-mul-right}
 use native.Mathlib.Omega.{arith}
 use lib.Dec.{T, eqb, leb}
 use borrow.Author.Tests.{eqb-true, eqb-false, eq-eqb, leb-true, leb-false}
@@ -159,6 +159,19 @@ module _ (x y : ℕ) where
               let some = divisor-some in
               omega arith;
         }
+
+    -- a fraction of the way stays one, and its terms become no larger
+    pub lowest-within : x ≤ y → let g = commonDivisor x y in (x / g ≤ y / g) × (0 < y / g) × (y / g ≤ y)
+    lowest-within h =
+        let g = commonDivisor x y in
+        let some = divisor-some in
+        let a = div-mul-cancel g (divisor-divides .0) in
+        let b = div-mul-cancel g (divisor-divides .1) in
+        let y-some : 0 < y = omega arith in (
+          le-of-mul-le-mul-right (omega arith) some,
+          pos-of-dvd-of-pos (subst (λ (n : ℕ). y / g ∣ n) b (dvd-mul-right (y / g) g)) y-some,
+          div-le-self y g,
+        )
 
 -- ---- Euclid's algorithm: of a and b, b and what a leaves over b
 

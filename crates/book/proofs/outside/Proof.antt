@@ -7,6 +7,7 @@ use Rattle.building.specs.declared.Question.{Question}
 use Rattle.building.specs.Question.{askedOf}
 use Rattle.whole.proofs.Size.{said}
 use Rattle.building.proofs.Judged.{Told, told}
+use Rattle.book.specs.declared.Answer.the-variants.{Answered}
 use Rattle.book.specs.Question.{coefficientOf, answerTo, outsideOf}
 use Rattle.book.proofs.outside.Statement.{statement}
 use Rattle.book.proofs.outside.Tie as tie
@@ -35,9 +36,8 @@ returns c =
     let d = q .before .before in
     let s = d .before in
     let a = s .args in
-    c .coefficient .ensures
-    ∙ ap (λ (n : ℕ). coefficientOf (q .q .given .0 .0) n (a .place))
-    (said natAbs (a .direction) (c .before .magnitude .ensures) (s .fits .direction .sfits))
+    ap Answered
+    (c .coefficient .ensures ∙ ap (λ (n : ℕ). coefficientOf (q .q .given .0 .0) n (a .place)) (said natAbs (a .direction) (c .before .magnitude .ensures) (s .fits .direction .sfits)))
     ∙ ap (λ (q : Question). answerTo q (natAbs (a .direction)) (a .place)) (sym (q .q .given .1) ∙ asked d)
 
 returns-2 : tie.Need-returns-2

@@ -1,13 +1,13 @@
 -- `line::line_at`: the sum of the two parts fits, and what is rounded lies between the rows and so fits the narrower
 -- type.
 use mathlib.Core.Path.{_≡_, sym, ap, _∙_, subst}
-use Prim.Native.Nat.{_-_, _≤_}
+use Prim.Native.Nat.{_≤_}
 use native.Mathlib.Omega.{arith}
 use lib.IntN.{ℤ, pos, natAbs}
 use mir.Syntax.{w16, w32, w64}
 use borrow.Author.Needs.{needs}
 use Rattle.whole.specs.Round.{roundAway}
-use Rattle.whole.proofs.Size.{Num, fit, param≤, nat, num, back, bound, _⊕_, _⊗_}
+use Rattle.whole.proofs.Size.{Num, fit, param≤, nat, num, back, bound, _⊕_, _⊖_, _⊗_}
 use Rattle.book.specs.Line.{onStraight}
 use Rattle.book.proofs.Between.{line-small}
 use Rattle.book.proofs.line.line_at.Statement.{statement}
@@ -21,10 +21,13 @@ abbrev to : tie.Start → Num
 to c = param≤ {w = w16} {z = c .args .w} {k = 250} (c .fits .w) (c .pre .1)
 
 abbrev left : tie.Start → Num
-left c = back w64 (from c) tt ⊗ nat w64 {n = c .args .whole - c .args .part} 100000000 (omega arith) tt
+left c = back w64 (from c) tt ⊗ nat w64 {n = c .args .whole} 100000000 (omega arith) tt
+
+abbrev gap : tie.Start → Num
+gap c = back w64 (to c) tt ⊖ back w64 (from c) tt
 
 abbrev right : tie.Start → Num
-right c = back w64 (to c) tt ⊗ nat w64 {n = c .args .part} 100000000 (omega arith) tt
+right c = back w64 (gap c) tt ⊗ nat w64 {n = c .args .part} 100000000 (omega arith) tt
 
 abbrev sum : tie.Start → Num
 sum c = back w64 (left c) tt ⊕ back w64 (right c) tt
@@ -40,6 +43,12 @@ mul-n c = fit (left c) tt
 
 cast-n-3 : tie.Need-cast-n-3
 cast-n-3 c = fit (to c) tt
+
+cast-n-4 : tie.Need-cast-n-4
+cast-n-4 c = fit (from c) tt
+
+sub-n : tie.Need-sub-n
+sub-n c = fit (gap c) tt
 
 mul-n-2 : tie.Need-mul-n-2
 mul-n-2 c = fit (right c) tt
@@ -78,5 +87,5 @@ returns c = back w32 (answer c) tt .same ∙ value c
 pub line-at-spec : {M : Type 1} → statement M
 line-at-spec =
     tie.close
-    (tie.spec cast-n (λ c. search needs) (λ c. search needs) mul-n cast-n-3 (λ c. search needs) mul-n-2 add-n mul-n-3
+    (tie.spec cast-n (λ c. search needs) mul-n cast-n-3 cast-n-4 sub-n (λ c. search needs) mul-n-2 add-n mul-n-3
     round-away-requires cast-result returns)

@@ -3,7 +3,7 @@ use mathlib.Core.Path.{ap₂, _∙_}
 use lib.IntN.{pos, negℤ, +ℤ-idl}
 use mir.Syntax.{w32}
 use Rattle.whole.proofs.Size.{Num, fit, param≤, num, back, _⊖_}
-use Rattle.book.specs.declared.Answer.the-variants.{Two}
+use Rattle.book.specs.declared.Values.the-variants.{Two}
 use Rattle.book.proofs.question.both_signs.Statement.{statement}
 use Rattle.book.proofs.question.both_signs.Tie as tie
 

@@ -17,4 +17,4 @@ pub flat-cell-spec : {M : Type 1} → statement M
 flat-cell-spec =
     tie.close
     (tie.spec (λ c. search needs) (λ c. search needs) (λ c. search needs) (λ c. search needs) (λ c. search needs)
-    returns)
+    (λ c. search needs) returns)

@@ -8,7 +8,8 @@ use borrow.Author.Needs.{needs}
 use lib.ListN.{length, getD, drop}
 use Rattle.book.specs.declared.line.Spot.{Spot}
 use Rattle.book.specs.Row.{Standing}
-use Rattle.book.specs.Line.{Way, wayIn, spotOf}
+use Rattle.book.specs.Line.{Way, between, wayIn}
+use Rattle.book.specs.Spot.{spotOf}
 use Rattle.book.proofs.Ways.{noStanding, way-on, way-passes, way-between, way-ends}
 use Rattle.book.proofs.Coded.{part, eight, eight-at, part-sized, stands-small}
 use Rattle.book.proofs.roofs.way_in.Statement.{statement}
@@ -37,11 +38,11 @@ printed : (f : Standing → ℕ) → f noStanding ≡ 0 → (k i : ℕ) → i < 
 printed f none k i h e g = e ∙ ap (λ (l : List ℕ). getD l i 0) g ∙ eight-at f none k i h
 
 module _ (c : tie.At-loop Inv-loop μ-loop) (i : ℕ) (h : i < 8) where
-  stands : {n : ℕ} → n ≡ getD (c .before .before .before .stands-of .result) i 0 → n ≡ row c i .at
-  stands e = printed (λ s. s .at) refl (start c .args .k) i h e (c .before .before .before .stands-of .ensures)
+  stands-at : {n : ℕ} → n ≡ getD (c .before .before .before .stands-of .result) i 0 → n ≡ row c i .at
+  stands-at e = printed (λ s. s .at) refl (start c .args .k) i h e (c .before .before .before .stands-of .ensures)
 
-  number : {n : ℕ} → n ≡ getD (c .before .before .numbers-of .result) i 0 → n ≡ row c i .row .number
-  number e = printed (λ s. s .row .number) refl (start c .args .k) i h e (c .before .before .numbers-of .ensures)
+  number-at : {n : ℕ} → n ≡ getD (c .before .before .numbers-of .result) i 0 → n ≡ row c i .row .number
+  number-at e = printed (λ s. s .row .number) refl (start c .args .k) i h e (c .before .before .numbers-of .ensures)
 
 small : {n : ℕ} (k i d : ℕ) → d ≤ 30000 → n ≡ getD (part k) i noStanding .at → n * d ≤ 900 * 30000
 small k i d h e = rw e (mul-le-mul (stands-small k i) h)
@@ -65,7 +66,7 @@ mul-s c =
     let l = c .before .before .before in
     let s = start l in
     let i = l .loop .i in
-    omega (arith, small (s .args .k) i (s .args .d) (s .pre .1) (stands l i (omega arith) (c .entry .ensures)))
+    omega (arith, small (s .args .k) i (s .args .d) (s .pre .1) (stands-at l i (omega arith) (c .stands .ensures)))
 
 -- what the walk comes to, with the rows' numbers
 met : (c : tie.At-loop Inv-loop μ-loop) {w : Way} →
@@ -81,9 +82,9 @@ returns c =
     let a = start l .args in
     let i = l .loop .i in
     let n = last l in
-    let e = scaled (a .d) (stands l i (omega arith) (t .before .entry .ensures)) in
+    let e = scaled (a .d) (stands-at l i (omega arith) (t .before .stands .ensures)) in
     c .on-row .ensures
-    ∙ ap onRow (number l i (omega arith) (r .entry2 .ensures))
+    ∙ ap onRow (number-at l i (omega arith) (r .number .ensures))
     ∙ met l (way-on (part (a .k)) (a .x) (a .d) i (omega arith) (omega arith))
 
 mul-t : tie.Need-mul-t Inv-loop μ-loop
@@ -91,22 +92,34 @@ mul-t c =
     let l = c .before .before .before .before .before .before in
     let s = start l in
     let i = l .loop .i + 1 in
-    omega (arith, small (s .args .k) i (s .args .d) (s .pre .1) (stands l i (omega arith) (c .entry3 .ensures)))
+    omega (arith, small (s .args .k) i (s .args .d) (s .pre .1) (stands-at l i (omega arith) (c .stands2 .ensures)))
+
+between-requires : tie.Need-between-requires Inv-loop μ-loop
+between-requires c κs =
+    let t = c .before .before .before .before in
+    let f = t .before .before .before .before in
+    let l = f .before .before .before in
+    let s = start l in
+    let i = l .loop .i + 1 in
+    let most = small (s .args .k) i (s .args .d) (s .pre .1) (stands-at l i (omega arith) (t .before .stands2 .ensures)) in
+    (omega arith, omega arith, omega arith)
 
 returns-2 : tie.Need-returns-2 Inv-loop μ-loop
 returns-2 c =
-    let r = c .before .before in
+    let q = c .before in
+    let r = q .before .before in
     let t = r .before .before in
     let f = t .before .before .before .before in
     let l = f .before .before .before in
     let a = start l .args in
     let i = l .loop .i in
     let n = last l in
-    let lower = stands l i (omega arith) (f .entry .ensures) in
-    let upper = stands l (i + 1) (omega arith) (t .before .entry3 .ensures) in
+    let lower = stands-at l i (omega arith) (f .stands .ensures) in
+    let upper = stands-at l (i + 1) (omega arith) (t .before .stands2 .ensures) in
     let from = scaled (a .d) lower in
     let to = scaled (a .d) upper in
-    rw (number l i (omega arith) (r .entry4 .ensures), number l (i + 1) (omega arith) (c .entry5 .ensures), lower, upper)
+    c .between .ensures
+    ∙ rw (number-at l i (omega arith) (r .number2 .ensures), number-at l (i + 1) (omega arith) (q .number3 .ensures), lower, upper)
     (met l (way-between (part (a .k)) (a .x) (a .d) i (omega arith) (omega arith) (omega arith)))
 
 loop-again : tie.Need-loop-again Inv-loop μ-loop
@@ -117,8 +130,8 @@ loop-again c =
     let a = start l .args in
     let i = l .loop .i in
     let n = last l in
-    let from = scaled (a .d) (stands l i (omega arith) (f .entry .ensures)) in
-    let to = scaled (a .d) (stands l (i + 1) (omega arith) (t .entry3 .ensures)) in (
+    let from = scaled (a .d) (stands-at l i (omega arith) (f .stands .ensures)) in
+    let to = scaled (a .d) (stands-at l (i + 1) (omega arith) (t .stands2 .ensures)) in (
       omega arith,
       omega arith,
       l .loop .inv .2 ∙ way-passes (part (a .k)) (a .x) (a .d) i (omega arith) (omega arith) (omega arith),
@@ -132,7 +145,7 @@ returns-3 c =
     let i = l .loop .i in
     let n = last l in
     c .on-row2 .ensures
-    ∙ ap onRow (number l i (omega arith) (r .entry6 .ensures))
+    ∙ ap onRow (number-at l i (omega arith) (r .number4 .ensures))
     ∙ met l (way-ends (part (a .k)) (a .x) (a .d) i (omega arith))
 
 pub way-in-spec : {M : Type 1} → statement M
@@ -141,5 +154,5 @@ way-in-spec =
     (tie.spec Inv-loop μ-loop (λ c κs. search needs) (λ c κs. search needs) (λ c κs. search needs) loop-holds
     (λ c. search needs) (λ c κs. search needs) mul-s (λ c κs. search needs) (λ c κs. search needs) returns
     (λ c. search needs) (λ c κs. search needs) mul-t (λ c κs. search needs) (λ c. search needs)
-    (λ c κs. search needs) (λ c. search needs) (λ c. search needs) returns-2 (λ c. search needs)
+    (λ c κs. search needs) (λ c. search needs) (λ c. search needs) between-requires returns-2 (λ c. search needs)
     (λ c. search needs) loop-again (λ c κs. search needs) (λ c κs. search needs) returns-3)

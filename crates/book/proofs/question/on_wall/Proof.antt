@@ -1,0 +1,35 @@
+-- `question::on_wall`: on the row itself.
+use mathlib.Core.Path.{ap, ap₂, _∙_}
+use borrow.Author.Needs.{needs}
+use lib.IntN.{ℤ}
+use Prim.Native.Nat.{ℕ}
+use mir.Syntax.{w32}
+use Rattle.whole.proofs.Size.{returned}
+use Rattle.book.specs.declared.line.Spot.{Spot}
+use Rattle.book.specs.declared.Values.the-variants.{One}
+use Rattle.book.specs.Row.{Row}
+use Rattle.book.specs.Line.{on, valueAt}
+use Rattle.book.proofs.Answers.{spotted}
+use Rattle.book.proofs.question.on_wall.Statement.{statement}
+use Rattle.book.proofs.question.on_wall.Tie as tie
+
+abbrev onRow : ℕ → Spot
+onRow n = record { lower = n; upper = n; part = 0; whole = 1 }
+
+returns : tie.Need-returns
+returns c =
+    let o = c .before in
+    let n = o .before in
+    let v = n .before in
+    let r = v .before in
+    let col = r .before .args .col in
+    c .cited .ensures
+    ∙ ap₂ (λ (z : ℤ) (w : Spot). spotted (One z) w)
+    (returned w32 (v .wall-value .result) (v .wall-value .ok) .same ∙ v .wall-value .ensures ∙ ap (λ (q : Row). valueAt (on q) col) (r .wall-row .ensures .1))
+    (o .on-row .ensures ∙ ap onRow (n .wall-number .ensures ∙ ap (λ (q : Row). q .number) (r .wall-row .ensures .1)))
+
+pub on-wall-spec : {M : Type 1} → statement M
+on-wall-spec =
+    tie.close
+    (tie.spec (λ c κs. search needs) (λ c κs. search needs) (λ c κs. search needs) (λ c κs. search needs)
+    (λ c κs. search needs) returns)
