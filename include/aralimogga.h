@@ -33,9 +33,17 @@ typedef struct { uint32_t number, line; } aral_answer;
 /* Accepted (0, 0) with the length of the text now at the start of the buffer; or the refusal, with length 0. */
 typedef struct { uint32_t number, line; uint64_t length; } aral_text;
 
-/* `count` coefficients in thousandths, a zone's alternatives in order; entries past the count are 0, and all are 0
-   where refused. Only zone F of a flat roof has two. */
-typedef struct { uint32_t number, line, count; int32_t value[2]; } aral_coefficient;
+/* `count` coefficients in thousandths, a zone's alternatives in order; entries past the count are 0. Only zone F of a
+   flat roof has two. They lie between the rows `lower` and `upper` of their table, `part` / `whole` of the way from
+   `lower` to `upper`, in lowest terms; on a row itself, and on walls, both are that row and the fraction is 0 / 1. Rows
+   are numbered from 1 in the book's order: walls 1 to 6; gable 1 to 22; flat 1 to 10, straight eaves being 1, where a
+   mansard of 90 degrees stands too. A net coefficient has the rows of the outside one.
+   Everything after `line` is 0 where refused. */
+typedef struct {
+    uint32_t number, line, count;
+    int32_t value[2];
+    uint32_t lower, upper, part, whole;
+} aral_coefficient;
 
 /* One of the six totals, in units of 0.00000000005 N (20,000,000,000 units are one newton), and the first case that
    reaches it: the wind, the internal coefficient and each face's alternative, all numbered from 1.

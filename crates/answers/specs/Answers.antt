@@ -1,7 +1,7 @@
 -- The records of include/aralimogga.h for each answer: accepted with what was asked for, or a refusal with zeros.
 use Prim.Native.Nat.{ℕ}
 use mathlib.Core.Bool.{cond}
-use mathlib.Core.List.{[], _∷_}
+use mathlib.Core.List.{List, [], _∷_}
 use lib.Dec.{eqb}
 use lib.IntN.{ℤ, pos, negsuc}
 use lib.ListN.{replicate}
@@ -11,6 +11,9 @@ use Rattle.page.specs.declared.Writing.{Writing}
 use Rattle.page.specs.declared.Writing.the-variants as written
 use Rattle.book.specs.declared.Answer as book
 use Rattle.book.specs.declared.Answer.the-variants as asked
+use Rattle.book.specs.declared.Cited.{Cited}
+use Rattle.book.specs.declared.Values.{Values}
+use Rattle.book.specs.declared.Values.the-variants.{One, Two}
 use Rattle.panel.specs.declared.Panel.{Panel}
 use Rattle.panel.specs.declared.Panel.the-variants.{Exact, Between}
 use Rattle.job.specs.Walk.{Reading, Accepted, Refused}
@@ -33,10 +36,27 @@ hostText (written.Refused v) = noHostText v
 
 -- ---- a coefficient
 
+abbrev pub hostCited : Cited → ℕ → List ℤ → Coefficient
+hostCited c count value =
+    record {
+      verdict = accepted;
+      count = count;
+      value = value;
+      lower = c .lower;
+      upper = c .upper;
+      part = c .part;
+      whole = c .whole;
+    }
+
+-- two values, or one and a zero
+abbrev pub hostValues : Cited → Values → Coefficient
+hostValues c (One v) = hostCited c 1 (v ∷ pos 0 ∷ [])
+hostValues c (Two v w) = hostCited c 2 (v ∷ w ∷ [])
+
 abbrev pub hostCoefficient : book.Answer → Coefficient
-hostCoefficient (asked.One v) = record { verdict = accepted; count = 1; value = v ∷ pos 0 ∷ [] }
-hostCoefficient (asked.Two v w) = record { verdict = accepted; count = 2; value = v ∷ w ∷ [] }
-hostCoefficient (asked.Refused r) = record { verdict = r; count = 0; value = pos 0 ∷ pos 0 ∷ [] }
+hostCoefficient (asked.Answered c) = hostValues c (c .values)
+hostCoefficient (asked.Refused v) =
+    record { verdict = v; count = 0; value = pos 0 ∷ pos 0 ∷ []; lower = 0; upper = 0; part = 0; whole = 0 }
 
 -- ---- a double
 

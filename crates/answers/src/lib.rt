@@ -1,11 +1,13 @@
 // The records that a host program in C gets, as include/aralimogga.h lays them out, and how an answer is turned into
 // one. Each that can refuse begins with a verdict: its number and line are the first two fields in C.
+use book::Cited;
+use book::Values;
 use page::Writing;
 use panel::Panel;
 use verdict::Verdict;
 ghost use mathlib.Core.Path.{_≡_};
-ghost use Rattle.answers.specs.Answers.{noHostText, hostText, hostCoefficient, hostDouble, noHostExtreme};
-ghost use Rattle.answers.specs.Answers.{hostExtreme, hostLine};
+ghost use Rattle.answers.specs.Answers.{noHostText, hostText, hostCited, hostValues, hostCoefficient};
+ghost use Rattle.answers.specs.Answers.{hostDouble, noHostExtreme, hostExtreme, hostLine};
 
 // The length of a text that is written, 0 where it is refused.
 #[repr(C)]
@@ -14,12 +16,17 @@ pub struct Text {
     pub length: u64,
 }
 
-// As many coefficients in thousandths as the count says, then zeros.
+// As many coefficients in thousandths as the count says, then zeros; the numbers of the two rows of their table that
+// they lie between, and the fraction of the way, part / whole, in lowest terms. All zero where it is refused.
 #[repr(C)]
 pub struct Coefficient {
     pub verdict: Verdict,
     pub count: u32,
     pub value: [i32; 2],
+    pub lower: u32,
+    pub upper: u32,
+    pub part: u32,
+    pub whole: u32,
 }
 
 // A total with the first case that reaches it, all zero where it is refused.
@@ -62,24 +69,44 @@ pub fn text_of(w: Writing) -> Text
     }
 }
 
+// The values in C's form, with the rows and the fraction.
+fn with_rows(c: Cited, count: u32, value: [i32; 2]) -> Coefficient
+    ensures { λ r. ⌜ r ≡ hostCited c count value ⌝ }
+{
+    Coefficient {
+        verdict: Verdict { number: 0, line: 0 },
+        count: count,
+        value: value,
+        lower: c.lower,
+        upper: c.upper,
+        part: c.part,
+        whole: c.whole,
+    }
+}
+
+fn of_cited(c: Cited) -> Coefficient
+    ensures { λ r. ⌜ r ≡ hostValues c (c .values) ⌝ }
+{
+    let values = c.values;
+    match values {
+        Values::One(v) => with_rows(c, 1, [v, 0]),
+        Values::Two(v, w) => with_rows(c, 2, [v, w]),
+    }
+}
+
 pub fn coefficient_of(a: book::Answer) -> Coefficient
     ensures { λ r. ⌜ r ≡ hostCoefficient a ⌝ }
 {
     match a {
-        book::Answer::One(v) => Coefficient {
-            verdict: Verdict { number: 0, line: 0 },
-            count: 1,
-            value: [v, 0],
-        },
-        book::Answer::Two(v, w) => Coefficient {
-            verdict: Verdict { number: 0, line: 0 },
-            count: 2,
-            value: [v, w],
-        },
+        book::Answer::Answered(c) => of_cited(c),
         book::Answer::Refused(r) => Coefficient {
             verdict: r,
             count: 0,
             value: [0, 0],
+            lower: 0,
+            upper: 0,
+            part: 0,
+            whole: 0,
         },
     }
 }

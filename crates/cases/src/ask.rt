@@ -1,5 +1,6 @@
 // Questions and records at the corners of paper 01, each with its answer.
 use book::Answer;
+use book::Values;
 use building::Building;
 use entry::Face;
 use entry::Wind;
@@ -30,9 +31,14 @@ fn print_value(v: i32) {
     print_number(v as i64);
 }
 
-fn print_values(v: i32, w: i32) {
-    print_value(v);
-    print_value(w);
+fn print_values(values: Values) {
+    match values {
+        Values::One(v) => print_value(v),
+        Values::Two(v, w) => {
+            print_value(v);
+            print_value(w);
+        }
+    }
 }
 
 fn print_refusal(v: Verdict) {
@@ -43,8 +49,10 @@ fn print_refusal(v: Verdict) {
 fn print_answer(title: &[u8], a: Answer) {
     print(title);
     match a {
-        Answer::One(v) => print_value(v),
-        Answer::Two(v, w) => print_values(v, w),
+        Answer::Answered(c) => {
+            let values = c.values;
+            print_values(values);
+        }
         Answer::Refused(v) => print_refusal(v),
     }
     print(b"\n");

@@ -1,6 +1,7 @@
 // Asks about every printed row of every table: at its ends, and one step to either side of each limit. tools/rows.py works
 // out from the book what must come out.
 use book::Answer;
+use book::Values;
 use building::Building;
 
 // At b 1000: the limits of h/b and of a/b, and the places on the walls.
@@ -135,12 +136,21 @@ fn put_value(v: i32) {
     put(v as i64);
 }
 
-fn put_answer(answer: Answer) {
-    match answer {
-        Answer::One(v) => put_value(v),
-        Answer::Two(v, w) => {
+fn put_values(values: Values) {
+    match values {
+        Values::One(v) => put_value(v),
+        Values::Two(v, w) => {
             put_value(v);
             put_value(w);
+        }
+    }
+}
+
+fn put_answer(answer: Answer) {
+    match answer {
+        Answer::Answered(c) => {
+            let values = c.values;
+            put_values(values);
         }
         Answer::Refused(v) => {
             io::write_all(1, b"refused ");

@@ -13,7 +13,6 @@ use lib.ListN.{length, getD}
 use Rattle.whole.specs.Lists.{firstOf, Every}
 use Rattle.whole.proofs.Parts.{lt-by}
 use Rattle.whole.proofs.Lists.{every-at, every-member, firstOf-length, firstOf-getD}
-use Rattle.book.specs.declared.Answer.{Answer}
 use Rattle.book.specs.Answer.{valuesOf, Alternatives, one, two}
 use Rattle.building.specs.declared.Building.{Building}
 use Rattle.building.specs.Places.{knows}
@@ -42,12 +41,12 @@ use Rattle.worst.proofs.Ranges.{FaceSmall, InRange, surface-small}
 
 -- ---- a zone's answer
 
-one-or-two : {k kind place : ℕ} {a : Answer} → Alternatives k kind place a → OneOrTwo (valuesOf a)
+one-or-two : {k kind place : ℕ} {values : List ℤ} → Alternatives k kind place values → OneOrTwo values
 one-or-two (one {v} h) = alone v
 one-or-two (two {v} {w} h k e f) = pair v w
 
-values-small : {kind place : ℕ} {a : Answer} → Alternatives 1200 kind place a → (i : ℕ)
-    → natAbs (getD (valuesOf a) i (pos 0)) ≤ 1200
+values-small : {kind place : ℕ} {values : List ℤ} → Alternatives 1200 kind place values → (i : ℕ)
+    → natAbs (getD values i (pos 0)) ≤ 1200
 values-small (one h) zero = h
 values-small (one h) (suc i) = omega arith
 values-small (two h k e f) zero = h
@@ -66,7 +65,7 @@ speed-within g w o =
 
 module _ (c : Carried) (o : InOrder c) where
   answered : (d : ℤ) → knows (c .building .kind) d ≡ true → (f : Face) → FaceInOrder (c .building) f
-      → Alternatives 1200 (natAbs (c .building .kind)) (f .zone) (outsideOf (c .building) d (f .zone))
+      → Alternatives 1200 (natAbs (c .building .kind)) (f .zone) (valuesOf (outsideOf (c .building) d (f .zone)))
   answered d e f h = zone-answered (c .building) d (f .zone) (o .building) e (h .on)
 
   face-in : (f : Face) → List·Memᴰ f (c .faces) → FaceInOrder (c .building) f

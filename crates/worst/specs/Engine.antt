@@ -45,9 +45,11 @@ abbrev pub noSurface : Surface
 noSurface = record { first = pos 0; second = pos 0; x = pos 0; y = pos 0; z = pos 0 }
 
 -- the first and the last of its outside coefficients, which are one where it has one
+abbrev pub surfaceAt : List ℤ → Face → Surface
+surfaceAt outs f = surfaceWith (getD outs 0 (pos 0)) (getD outs (length outs - 1) (pos 0)) f
+
 abbrev pub surfaceOf : List ℤ → ℤ → Face → Surface
-surfaceOf outs direction f =
-    cond (acts f direction) (surfaceWith (getD outs 0 (pos 0)) (getD outs (length outs - 1) (pos 0)) f) noSurface
+surfaceOf outs direction f = cond (acts f direction) (surfaceAt outs f) noSurface
 
 abbrev pub surfaceOn : Building → ℤ → Face → Surface
 surfaceOn b direction f = surfaceOf (valuesOf (outsideOf b direction (f .zone))) direction f

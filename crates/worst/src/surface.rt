@@ -1,9 +1,11 @@
 // A face as the winds of one direction meet it. The coefficients of a face are looked up here, and nowhere else.
 ghost use mathlib.Core.Path.{_≡_};
 ghost use mathlib.Core.Bool.{true};
+ghost use Rattle.book.specs.Answer.{valuesIn};
 ghost use Rattle.worst.specs.Forces.{acts};
-ghost use Rattle.worst.specs.Engine.{surfaceWith, surfaceOn};
+ghost use Rattle.worst.specs.Engine.{surfaceWith, surfaceAt, surfaceOn};
 use book::Answer;
+use book::Values;
 use building::Building;
 use entry::BOTH;
 use entry::Face;
@@ -41,6 +43,16 @@ fn with_outside(f: Face, first: i32, last: i32) -> Surface
     }
 }
 
+// With the coefficients that were answered.
+fn with_values(f: Face, values: Values) -> Surface
+    ensures { λ r. ⌜ r ≡ surfaceAt (valuesIn values) f ⌝ }
+{
+    match values {
+        Values::One(v) => with_outside(f, v, v),
+        Values::Two(v, w) => with_outside(f, v, w),
+    }
+}
+
 // A face that takes part: its coefficients are looked up.
 fn looked_up(b: Building, direction: i64, f: Face) -> Surface
     requires { ⌜ acts f direction ≡ true ⌝ }
@@ -48,8 +60,10 @@ fn looked_up(b: Building, direction: i64, f: Face) -> Surface
 {
     let answer = book::outside(b, direction, f.zone);
     match answer {
-        Answer::One(v) => with_outside(f, v, v),
-        Answer::Two(v, w) => with_outside(f, v, w),
+        Answer::Answered(c) => {
+            let values = c.values;
+            with_values(f, values)
+        }
         Answer::Refused(_) => with_outside(f, 0, 0),
     }
 }
