@@ -1,6 +1,6 @@
 -- The printed tables: their rows are numbered in the book's order, and each part's are as its roof wants them. Each
 -- by one test over the whole of them.
-use mathlib.Core.Path.{_≡_, refl, subst, ap}
+use mathlib.Core.Path.{_≡_, refl, subst}
 use mathlib.Core.Bool.{Bool, true}
 use mathlib.Core.List.{List, [], _∷_, map}
 use Prim.Native.Nat.{ℕ, zero-le, _+_, _≤_, _<_}

@@ -1,10 +1,8 @@
--- What an answer says in paper 01's terms: its number and line, and a zone's alternatives in order.
+-- An answer: the rows that its values cite, and a zone's alternatives in order.
 use mathlib.Core.Path.{_≡_}
 use mathlib.Core.List.{List, [], _∷_}
 use Prim.Native.Nat.{ℕ, _≤_}
 use lib.IntN.{ℤ, natAbs}
-use Rattle.verdict.specs.declared.Verdict.{Verdict}
-use Rattle.verdict.specs.Verdict.{accepted}
 use Rattle.building.specs.Places.{F}
 use Rattle.book.specs.declared.Values.{Values}
 use Rattle.book.specs.declared.Values.the-variants.{One, Two}
@@ -23,10 +21,6 @@ cites values w =
       part = w .part;
       whole = w .whole;
     }
-
-abbrev pub verdictOf : Answer → Verdict
-verdictOf (Answered c) = accepted
-verdictOf (Refused v) = v
 
 abbrev pub valuesIn : Values → List ℤ
 valuesIn (One v) = v ∷ []

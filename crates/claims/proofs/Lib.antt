@@ -1,10 +1,12 @@
 -- What the customer was promised, as theorems.
--- ---- the front door: the three demands, the panel, other sentences of paper 01, its printed cases and its sample
+-- ---- the front door: the three demands, the panel, other sentences of paper 01, its printed cases and
+-- its sample, and sentences of paper 02
 pub mod Demand1
 pub mod Demand2
 pub mod Demand3
 pub mod Panel
 pub mod Paper01
+pub mod Paper02
 pub mod Printed
 pub mod Sample
 -- ---- the lists, with a line for each public function

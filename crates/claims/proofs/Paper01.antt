@@ -13,8 +13,8 @@ use Rattle.whole.proofs.Lists.{every-by}
 use Rattle.verdict.specs.Verdict.{refusal}
 use Rattle.lines.specs.Lines.{LinesInForm}
 use Rattle.book.specs.Row.{hundredths, Standing}
-use Rattle.book.specs.Line.{Between}
-use Rattle.book.specs.Interpolated.{Rising, LiesBetween, Interpolated}
+use Rattle.book.specs.Line.{Way, Between}
+use Rattle.book.specs.Interpolated.{Rising, LiesBetween, LiesAt, NearLine}
 use Rattle.book.proofs.Interpolated.{interpolated-between}
 use Rattle.job.specs.declared.Job.{Job}
 use Rattle.job.specs.Carried.{Carried, carried}
@@ -43,8 +43,8 @@ use Rattle.claims.proofs.Accepted.{job-in-order, sheet-in-order}
 
 -- "It therefore lies between the neighbouring rows, ends included": once for all tables.
 abbrev pub LiesBetweenRows : Type 0
-LiesBetweenRows = (rows : List Standing) (col x d : ℕ) (v : ℤ) (lower upper : Standing) → Rising rows → 0 < d
-    → Interpolated rows col x d v → LiesBetween rows x d lower upper
+LiesBetweenRows = (rows : List Standing) (col x d : ℕ) (w : Way) (v : ℤ) (lower upper : Standing) → Rising rows → 0 < d
+    → LiesAt rows x d w → NearLine w col v → LiesBetween rows x d lower upper
     → Between (hundredths (lower .row) col *ℤ pos 10) (hundredths (upper .row) col *ℤ pos 10) v
 
 -- "With these ranges no total exceeds 7.92 × 10^18 in size."
@@ -75,7 +75,8 @@ PartAnswers = (s : List ℕ) (n : ℕ) → 881 ≤ n → reading (take n s) ≡ 
 -- ---- the proofs
 
 pub lies-between-rows : LiesBetweenRows
-lies-between-rows rows col x d v lower upper rises some = interpolated-between rows rises col x d some
+lies-between-rows rows col x d w v lower upper rises some lies near b =
+    interpolated-between rows rises x d some lower upper b col lies near
 
 pub totals-are-small : TotalsAreSmall
 totals-are-small j c a axis k = caseTotal-small (given c) (given-in-range c (job-in-order j c a)) axis k

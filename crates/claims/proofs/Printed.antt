@@ -15,13 +15,16 @@ use Rattle.field.specs.Field.{digitsInForm, unsigned, negative, numeral, fieldF
 use Rattle.lines.specs.Lines.{split, fieldsOf, linesFrom, linesIn}
 use Rattle.building.specs.declared.Building.{Building}
 use Rattle.building.specs.Test.{beyond, tooLong}
+use Rattle.whole.specs.Lowest.{divisorUpTo, commonDivisor}
 use Rattle.book.specs.Line.{wayIn, onStraight}
 use Rattle.book.specs.Walls.{wallRow}
 use Rattle.book.specs.Gable.{blockOf}
-use Rattle.book.specs.Roofs.{roofValue}
+use Rattle.book.specs.Roofs.{roofWay}
 use Rattle.building.specs.Roof.{roofOf}
 use Rattle.building.specs.Building.{givenFault, buildingFault, outOfForm, outOfRange, outOfWalls, outOfRoof}
-use Rattle.book.specs.Answer.{valuesOf}
+use Rattle.book.specs.declared.Answer.the-variants.{Answered}
+use Rattle.book.specs.declared.Values.{Values}
+use Rattle.book.specs.declared.Values.the-variants.{One}
 use Rattle.building.specs.Places.{E, L1, zoneOn, localOn}
 use Rattle.building.specs.Question.{askedOf}
 use Rattle.book.specs.Question.{outsideOf, coefficientOf, wallColumn, gableColumn, flatColumn}
@@ -35,10 +38,10 @@ use Rattle.worst.specs.Forces.{force}
 
 -- ---- what a row says
 
--- a coefficient's alternatives, in thousandths; the number that a building gets; a face's force in units and in whole
+-- a coefficient's alternatives, in thousandths, with its two rows and the fraction; the number that a building gets; a face's force in units and in whole
 -- newtons; the number and line that a text gets
 pub data Row : Type 0 where
-  gives : Building → (direction place : ℕ) → List ℤ → Row
+  gives : Building → (direction place : ℕ) → Values → (lower upper part whole : ℕ) → Row
   gets : Building → (number : ℕ) → Row
   pushes : (density speed : ℕ) (net area units newtons : ℤ) → Row
   reads : String → (number line : ℕ) → Row
@@ -52,7 +55,8 @@ alone density speed net area =
     (record { zone = 65; mark = both; x = area; y = pos 0; z = pos 0 }) 1
 
 abbrev pub Holds : Row → Type 0
-Holds (gives g direction place values) = valuesOf (outsideOf g (pos direction) place) ≡ values
+Holds (gives g direction place values lower upper part whole) = (outsideOf g (pos direction) place
+    ≡ Answered (record { values = values; lower = lower; upper = upper; part = part; whole = whole }))
 Holds (gets g number) = (givenFault g ≡ number)
 Holds (pushes density speed net area units whole) =
     (alone density speed net area ≡ units) × (newtons units ≡ whole) × (remainder units ≡ 0)
@@ -65,9 +69,6 @@ abbrev pub shed : ℕ → ℕ → ℕ → ℕ → ℕ → Building
 shed h a b kind x =
     record { h = pos h; a = pos a; b = pos b; density = pos 1250; kind = pos kind; x = pos x }
 
-abbrev pub one : ℤ → List ℤ
-one v = v ∷ []
-
 abbrev pub m : ℕ → ℤ
 m n = negℤ (pos n)
 
@@ -79,19 +80,19 @@ C = 67
 
 abbrev pub printed : List Row
 printed =
-    gives (shed 500 1200 1000 0 0) 0 B (one (m 200))  -- P1
-    ∷ gives (shed 501 1200 1000 0 0) 0 B (one (m 250))  -- P2
-    ∷ gives (shed 500 1500 1000 0 0) 0 C (one (m 500))  -- P3
-    ∷ gives (shed 500 1501 1000 0 0) 0 C (one (m 600))  -- P4
+    gives (shed 500 1200 1000 0 0) 0 B (One (m 200)) 1 1 0 1  -- P1
+    ∷ gives (shed 501 1200 1000 0 0) 0 B (One (m 250)) 3 3 0 1  -- P2
+    ∷ gives (shed 500 1500 1000 0 0) 0 C (One (m 500)) 1 1 0 1  -- P3
+    ∷ gives (shed 500 1501 1000 0 0) 0 C (One (m 600)) 2 2 0 1  -- P4
     ∷ gets (shed 500 1000 1000 0 0) 4  -- P5
     ∷ gets (shed 500 4000 1000 0 0) 0  -- P6
     ∷ gets (shed 500 4001 1000 0 0) 4
     ∷ gets (shed 6000 1200 1000 0 0) 0  -- P7
     ∷ gets (shed 6001 1200 1000 0 0) 4
-    ∷ gives (shed 500 1200 1000 1 123) 0 E (one (m 1016))  -- P8
-    ∷ gives (shed 500 1200 1000 1 451) 0 E (one (pos 303))  -- P9
-    ∷ gives (shed 500 1200 1000 1 150) 0 E (one (m 800))  -- P10
-    ∷ gives (shed 12000 12000 10000 4 603) 0 L1 (one (m 1499))  -- P11
+    ∷ gives (shed 500 1200 1000 1 123) 0 E (One (m 1016)) 3 4 23 100  -- P8
+    ∷ gives (shed 500 1200 1000 1 451) 0 E (One (pos 303)) 6 7 1 150  -- P9
+    ∷ gives (shed 500 1200 1000 1 150) 0 E (One (m 800)) 3 4 1 2  -- P10
+    ∷ gives (shed 12000 12000 10000 4 603) 0 L1 (One (m 1499)) 5 6 1 200  -- P11
     ∷ pushes 1250 400 (pos 700) (pos 1000) (pos 140_000_000_000_000) (pos 7000)  -- P12
     ∷ reads "" 1 1
     ∷ reads "B 1\n500 1200 1000 1250 0 0\nW 1\n0 400\nI 1\n0\nF 25\n" 2 7
@@ -103,8 +104,8 @@ _and_ : {P Q : Type 0} → P → Q → P × Q
 p and q = (p, q)
 
 pub printed-hold : Every Holds printed
-unfolding outsideOf askedOf givenFault buildingFault outOfForm outOfRange outOfWalls outOfRoof tooLong beyond zoneOn
-    localOn roofOf coefficientOf wallColumn gableColumn flatColumn wallRow blockOf roofValue
+unfolding divisorUpTo commonDivisor outsideOf askedOf givenFault buildingFault outOfForm outOfRange outOfWalls outOfRoof tooLong beyond zoneOn
+    localOn roofOf coefficientOf wallColumn gableColumn flatColumn wallRow blockOf roofWay
     wayIn onStraight halfUp roundAway roundDown leftOver reading linesIn linesFrom split fieldsOf
     fieldFrom numeral unsigned negative digitsInForm allDigits valueAfter value readLines walk lineFault inForm hasForm
 printed-hold =

@@ -9,7 +9,7 @@ use lib.IntN.{ℤ, natAbs}
 use borrow.Author.Tests.{eqb-true, eqb-false}
 use Rattle.whole.proofs.Tests.{by-test}
 use Rattle.verdict.specs.declared.Verdict.{Verdict}
-use Rattle.verdict.specs.Verdict.{accepted, refusal}
+use Rattle.verdict.specs.Verdict.{refusal}
 use Rattle.building.specs.declared.Building.{Building}
 use Rattle.building.specs.declared.Question.{Question}
 use Rattle.building.specs.declared.Question.the-variants as asked
@@ -20,24 +20,53 @@ use Rattle.building.proofs.Accepted.{in-order, given-none, none-given}
 use Rattle.building.proofs.Judged as judged
 use Rattle.job.proofs.Written.{building-given}
 use Rattle.book.specs.declared.Answer as book
-use Rattle.book.specs.declared.Answer.the-variants.{One, Two, Refused}
-use Rattle.book.specs.Answer.{verdictOf, valuesOf}
+use Rattle.book.specs.declared.Answer.the-variants.{Answered, Refused}
+use Rattle.book.specs.declared.Cited.{Cited}
+use Rattle.book.specs.declared.Values.{Values}
+use Rattle.book.specs.declared.Values.the-variants.{One, Two}
+use Rattle.book.specs.Answer.{valuesIn}
 use Rattle.book.specs.Coefficient.{IsCoefficient}
-use Rattle.book.specs.Question.{outsideOf, net, tooGreat, then, minus, netOf}
-use Rattle.book.proofs.Answers.{same-answer}
+use Rattle.book.specs.Question.{outsideOf, net, minus, netCited, tooGreat, netOf}
 use Rattle.book.proofs.Coefficients.{coefficient-unique, outside-is}
 use Rattle.claims.specs.Question.{Judged, not-asked, asked-of}
 use Rattle.job.specs.Carried.{nothing, before}
 use Rattle.claims.specs.Question.{Refusal, bad-building, bad-direction, bad-place, InQuestion, Outside, refused}
-use Rattle.claims.specs.Question.{told, Net, as-outside, bad-internal, less-internal, sheetFault}
+use Rattle.claims.specs.Question.{told, SameRows, Net, as-outside, bad-internal, less-internal, sheetFault}
 
 -- no test both holds and fails
 pub clash : {A : Type 0} {t : Bool} → t ≡ true → t ≡ false → A
 clash e f = absurd (subst T (sym e ∙ f) tt)
 
+-- the alternatives less the internal coefficient, one by one
+pub minus-values : (internal : ℤ) (v : Values) → valuesIn (minus v internal) ≡ map (λ z. net z internal) (valuesIn v)
+minus-values internal (One v) = refl
+minus-values internal (Two v w) = refl
+
+-- the values and the rows make the answer
+same-values : (v w : Values) → valuesIn v ≡ valuesIn w → v ≡ w
+same-values (One v) (One w) e = cc
+same-values (One v) (Two w y) e = cc
+same-values (Two v x) (One w) e = cc
+same-values (Two v x) (Two w y) e = cc
+
+same-cited : {c d : Cited} → valuesIn (c .values) ≡ valuesIn (d .values) → SameRows c d → c ≡ d
+same-cited {c} {d} e r =
+    λ i.
+    record {
+      values = same-values (c .values) (d .values) e i;
+      lower = r .lower i;
+      upper = r .upper i;
+      part = r .part i;
+      whole = r .whole i;
+    }
+
 module _ (g : Building) (direction : ℤ) (place : ℕ) where
   sheet-fault : givenFault g ≡ sheetFault g
   sheet-fault = building-given g (before nothing)
+
+  -- a building in question has no fault
+  pub faultless : InQuestion g direction place → buildingFault g ≡ 0
+  faultless q = none-given g (sheet-fault ∙ q .in-order)
 
   -- ---- the refusals come in one order, and not where the question is in order
 
@@ -93,71 +122,70 @@ module _ (g : Building) (direction : ℤ) (place : ℕ) where
 
   outside-by : {P : Type 0}
       → ((v : Verdict) → Refusal g direction place v → outsideOf g direction place ≡ Refused v → P)
-      → (InQuestion g direction place
-      → IsCoefficient (sizes g) (natAbs direction) place (valuesOf (outsideOf g direction place)) → P) → P
+      → (InQuestion g direction place → (c : Cited) → outsideOf g direction place ≡ Answered c
+      → IsCoefficient (sizes g) (natAbs direction) place c → P) → P
   unfolding outsideOf
   outside-by bad good =
       judged-so (λ v f e. bad v f (rw e))
-      (λ q e. good q (outside-is g direction place (none-given g (sheet-fault ∙ q .in-order)) (q .known) (q .there)))
-
-  -- a coefficient is no refusal
-  told-accepted : (r : book.Answer) → IsCoefficient (sizes g) (natAbs direction) place (valuesOf r)
-      → verdictOf r ≡ accepted
-  told-accepted (One v) i = refl
-  told-accepted (Two v w) i = refl
+      (λ q e.
+      let is = outside-is g direction place (faultless q) (q .known) (q .there) in
+      good q (is .0) (is .1) (is .2))
 
   pub outside-got : Outside g direction place (outsideOf g direction place)
   outside-got =
       outside-by (λ v f e. subst (Outside g direction place) (sym e) (refused f))
-      (λ q i. told q (told-accepted (outsideOf g direction place) i) i)
+      (λ q c e i. subst (Outside g direction place) (sym e) (told q i))
+
+  -- what is answered is the coefficient, and the question was in order
+  pub answered-so : {c : Cited} → outsideOf g direction place ≡ Answered c
+      → InQuestion g direction place × IsCoefficient (sizes g) (natAbs direction) place c
+  answered-so {c} h =
+      outside-by (λ v f e. let z : _≡_ {A = ℕ} 0 1 = cc in absurd (omega arith))
+      (λ q d e i. let same : d ≡ c = cc in (q, subst (IsCoefficient (sizes g) (natAbs direction) place) same i))
+
+  -- the coefficient of a question in order is one
+  coefficient-one : {c d : Cited} → InQuestion g direction place → IsCoefficient (sizes g) (natAbs direction) place c
+      → IsCoefficient (sizes g) (natAbs direction) place d → c ≡ d
+  coefficient-one q = coefficient-unique (sizes g) (in-order g (faultless q)) (natAbs direction) place
 
   pub outside-unique : {r r′ : book.Answer} → Outside g direction place r → Outside g direction place r′ → r ≡ r′
   outside-unique (refused f) (refused h) = ap Refused (refusal-unique f h)
-  outside-unique (refused f) (told q a i) = not-both f q
-  outside-unique (told q a i) (refused f) = not-both f q
-  outside-unique (told {r} q a i) (told {r = r′} q′ a′ i′) =
-      let good : buildingFault g ≡ 0 = none-given g (sheet-fault ∙ q .in-order) in
-      same-answer r r′ (a ∙ sym a′)
-      (coefficient-unique (sizes g) (in-order g good) (natAbs direction) place i i′)
+  outside-unique (refused f) (told q i) = not-both f q
+  outside-unique (told q i) (refused f) = not-both f q
+  outside-unique (told q i) (told q′ i′) = ap Answered (coefficient-one q i i′)
 
   -- ---- the net coefficient
 
   module _ (internal : ℤ) where
-    minus-values : (r : book.Answer) → valuesOf (minus r internal) ≡ map (λ v. net v internal) (valuesOf r)
-    minus-values (One v) = refl
-    minus-values (Two v w) = refl
-    minus-values (Refused v) = refl
-
-    minus-verdict : (r : book.Answer) → verdictOf (minus r internal) ≡ verdictOf r
-    minus-verdict (One v) = refl
-    minus-verdict (Two v w) = refl
-    minus-verdict (Refused v) = refl
-
-    then-told : (r s : book.Answer) → IsCoefficient (sizes g) (natAbs direction) place (valuesOf r) → then r s ≡ s
-    then-told (One v) s i = refl
-    then-told (Two v w) s i = refl
-
     pub net-got : Net g direction place internal (netOf g direction place internal)
     unfolding netOf
     net-got =
         outside-by (λ v f e. rw e (as-outside f))
-        (λ q i. let o = outsideOf g direction place in
-        rw (then-told o _ i)
-        (by-test (tooGreat internal)
-        (λ e. rw e (bad-internal q e))
-        (λ e.
-        rw e (less-internal q e outside-got (minus-verdict o ∙ told-accepted o i) (minus-values o)))))
+        (λ q c e i. by-test (tooGreat internal)
+        (λ t. rw (e, t) (bad-internal q t))
+        (λ t.
+        let same : SameRows c (netCited c internal) =
+        record { lower = refl; upper = refl; part = refl; whole = refl } in
+        rw (e, t) (less-internal q t i (minus-values internal (c .values)) same)))
 
     pub net-unique : {r r′ : book.Answer} → Net g direction place internal r → Net g direction place internal r′
         → r ≡ r′
     net-unique (as-outside f) (as-outside h) = ap Refused (refusal-unique f h)
     net-unique (as-outside f) (bad-internal q e) = not-both f q
-    net-unique (as-outside f) (less-internal q e o a v) = not-both f q
+    net-unique (as-outside f) (less-internal q e o v r) = not-both f q
     net-unique (bad-internal q e) (as-outside f) = not-both f q
     net-unique (bad-internal q e) (bad-internal q′ e′) = refl
-    net-unique (bad-internal q e) (less-internal q′ e′ o a v) = clash e e′
-    net-unique (less-internal q e o a v) (as-outside f) = not-both f q
-    net-unique (less-internal q e o a v) (bad-internal q′ e′) = clash e′ e
-    net-unique (less-internal {r = r} q e o a v) (less-internal {r = r′} q′ e′ o′ a′ v′) =
-        same-answer r r′ (a ∙ sym a′)
-        (v ∙ ap (λ x. map (λ y. net y internal) (valuesOf x)) (outside-unique o o′) ∙ sym v′)
+    net-unique (bad-internal q e) (less-internal q′ e′ o v r) = clash e e′
+    net-unique (less-internal q e o v r) (as-outside f) = not-both f q
+    net-unique (less-internal q e o v r) (bad-internal q′ e′) = clash e′ e
+    net-unique (less-internal q e o v r) (less-internal q′ e′ o′ v′ r′) =
+        let outside = coefficient-one q o o′ in
+        let values = v ∙ ap (λ c. map (λ y. net y internal) (valuesIn (c .values))) outside ∙ sym v′ in
+        ap Answered
+        (same-cited values
+        (record {
+          lower = sym (r .lower) ∙ ap (λ c. c .lower) outside ∙ r′ .lower;
+          upper = sym (r .upper) ∙ ap (λ c. c .upper) outside ∙ r′ .upper;
+          part = sym (r .part) ∙ ap (λ c. c .part) outside ∙ r′ .part;
+          whole = sym (r .whole) ∙ ap (λ c. c .whole) outside ∙ r′ .whole;
+        }))

@@ -9,10 +9,11 @@ use Rattle.whole.specs.Round.{halfUp, roundAway}
 use Rattle.whole.specs.Digits.{digitsWithin, digits, decimal, allDigits, valueAfter, value}
 use Rattle.field.specs.Field.{digitsInForm, unsigned, negative, numeral, fieldFrom}
 use Rattle.lines.specs.Lines.{split, fieldsOf, linesFrom, linesIn}
+use Rattle.whole.specs.Lowest.{divisorUpTo, commonDivisor}
 use Rattle.book.specs.Line.{wayIn, onStraight}
 use Rattle.book.specs.Walls.{wallRow}
 use Rattle.book.specs.Gable.{blockOf}
-use Rattle.book.specs.Roofs.{roofValue}
+use Rattle.book.specs.Roofs.{roofWay}
 use Rattle.building.specs.Roof.{roofOf}
 use Rattle.building.specs.Building.{givenFault, buildingFault, outOfForm, outOfRange, outOfWalls, outOfRoof}
 use Rattle.building.specs.Places.{zoneOn, localOn}
@@ -43,9 +44,9 @@ lines =
     & "z min -200000000000000 1 2 1 1 1\n"
 
 pub sample : totalsText (reading (bytes sheet)) ≡ bytes lines
-unfolding halfUp roundAway digitsWithin digits decimal allDigits valueAfter value digitsInForm unsigned negative
+unfolding divisorUpTo commonDivisor halfUp roundAway digitsWithin digits decimal allDigits valueAfter value digitsInForm unsigned negative
     numeral fieldFrom split fieldsOf linesFrom linesIn wayIn onStraight wallRow blockOf outOfRoof roofOf
-    roofValue givenFault buildingFault outOfForm outOfRange outOfWalls tooLong zoneOn
+    roofWay givenFault buildingFault outOfForm outOfRange outOfWalls tooLong zoneOn
     localOn wallColumn gableColumn flatColumn coefficientOf outsideOf askedOf beyond hasForm inForm lineFault walk
     readLines reading better best numbers each choices total cases caseTotal worst padded shown sixExtremes spaced
     extremeText axisText sixText reportText

@@ -1,6 +1,6 @@
 -- The totals of the permitted cases of a job in order are those sums over the faces, and nothing else is.
 use mathlib.Core.Path.{_≡_, refl, ap, _∙_}
-use mathlib.Core.Bool.{true, false, cond}
+use mathlib.Core.Bool.{true, false}
 use mathlib.Core.List.{List, [], _∷_, map, List·Memᴰ, List·Memᴰ·eq-of-singleton}
 use Prim.Native.Nat.{ℕ, _-_, _≤_, _<_}
 use native.Mathlib.Omega.{arith}
@@ -9,23 +9,22 @@ use lib.ListN.{length, getD, length-map}
 use borrow.Author.Tests.{le-ltb}
 use Rattle.whole.proofs.Lists.{getD-map, every-member}
 use Rattle.whole.proofs.Tests.{by-test}
-use Rattle.verdict.specs.Verdict.{refusal}
 use Rattle.building.specs.Test.{beyond}
 use Rattle.entry.specs.declared.Wind.{Wind}
 use Rattle.entry.specs.declared.Face.{Face}
 use Rattle.job.specs.Carried.{Carried}
 use Rattle.job.specs.InOrder.{InOrder, InternalInOrder}
 use Rattle.book.specs.declared.Answer as book
-use Rattle.book.specs.declared.Answer.the-variants.{One, Two, Refused}
+use Rattle.book.specs.declared.Answer.the-variants.{Answered, Refused}
 use Rattle.book.specs.Answer.{valuesOf}
-use Rattle.book.specs.Question.{outsideOf, net, tooGreat, then, minus, netOf}
+use Rattle.book.specs.Question.{outsideOf, net, tooGreat, netTo, netOf}
 use Rattle.worst.specs.declared.Axis.{Axis}
 use Rattle.worst.specs.Cases.{Permitted, Chosen, Case, total, caseTotal}
 use Rattle.worst.specs.Forces.{acts, alternatives, pressure, area, force, windAt, internalAt, loads}
 use Rattle.worst.specs.Worst.{given}
 use Rattle.worst.proofs.Lists.{numbers-member, getD-all}
 use Rattle.claims.specs.Total.{Force, acting, idle, Total, none, face}
-use Rattle.claims.proofs.Question.{clash, net-got, net-unique}
+use Rattle.claims.proofs.Question.{clash, minus-values, net-got, net-unique}
 
 -- ---- the net coefficients of a place, beside its outside coefficients
 
@@ -35,11 +34,8 @@ not-too-great (pos n) h = le-ltb 100 n h
 not-too-great (negsuc n) h = rw (le-ltb 99 n (omega arith))
 
 net-values : (r : book.Answer) (internal : ℤ) → tooGreat internal ≡ false
-    → valuesOf (then r (cond (tooGreat internal) (Refused (refusal 3 0)) (minus r internal)))
-    ≡ map (λ v. net v internal)
-    (valuesOf r)
-net-values (One v) internal e = rw e
-net-values (Two v w) internal e = rw e
+    → valuesOf (netTo r internal) ≡ map (λ v. net v internal) (valuesOf r)
+net-values (Answered c) internal e = rw e (minus-values internal (c .values))
 net-values (Refused v) internal e = refl
 
 -- ---- one face

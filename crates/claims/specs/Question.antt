@@ -5,7 +5,7 @@ use mathlib.Core.List.{map}
 use Prim.Native.Nat.{ℕ, _<_}
 use lib.IntN.{ℤ, natAbs}
 use Rattle.verdict.specs.declared.Verdict.{Verdict}
-use Rattle.verdict.specs.Verdict.{accepted, refusal}
+use Rattle.verdict.specs.Verdict.{refusal}
 use Rattle.building.specs.declared.Building.{Building}
 use Rattle.building.specs.declared.Question as asked
 use Rattle.building.specs.declared.Question.the-variants as judged
@@ -17,14 +17,22 @@ use Rattle.rules.specs.Sections.{lineFault}
 use Rattle.entry_written.specs.Fields.{buildingFields}
 use Rattle.job.specs.Carried.{nothing, before}
 use Rattle.book.specs.declared.Answer as book
-use Rattle.book.specs.declared.Answer.the-variants.{Refused}
-use Rattle.book.specs.Answer.{verdictOf, valuesOf}
+use Rattle.book.specs.declared.Answer.the-variants.{Answered, Refused}
+use Rattle.book.specs.declared.Cited.{Cited}
+use Rattle.book.specs.Answer.{valuesIn}
 use Rattle.book.specs.Coefficient.{IsCoefficient}
 use Rattle.book.specs.Question.{net, tooGreat}
 
 -- the number that the building's line would get in its sheet, where it stands on line 2 and nothing is carried yet
 abbrev pub sheetFault : Building → ℕ
 sheetFault g = lineFault (Entry B) (before nothing) (buildingFields g)
+
+-- the rows and the fraction of two answers are the same
+pub record SameRows (c d : Cited) : Type 0 where
+  pub lower : c .lower ≡ d .lower
+  pub upper : c .upper ≡ d .upper
+  pub part : c .part ≡ d .part
+  pub whole : c .whole ≡ d .whole
 
 module _ (g : Building) (direction : ℤ) (place : ℕ) where
   -- "the building, with the number and line that its sheet would get; then the direction, 3 with line 0, for locals
@@ -46,20 +54,20 @@ module _ (g : Building) (direction : ℤ) (place : ℕ) where
     not-asked : {v : Verdict} → Refusal v → Judged (judged.Refused v)
     asked-of : InQuestion → Judged (judged.Of (sizes g))
 
-  -- an answer is accepted, with the alternatives
+  -- an answer is the coefficient with its rows
   pub data Outside : book.Answer → Type 0 where
     refused : {v : Verdict} → Refusal v → Outside (Refused v)
-    told : {r : book.Answer} → InQuestion → verdictOf r ≡ accepted
-        → IsCoefficient (sizes g) (natAbs direction) place (valuesOf r) → Outside r
+    told : {c : Cited} → InQuestion → IsCoefficient (sizes g) (natAbs direction) place c → Outside (Answered c)
 
   -- "then, where the net is asked, the internal coefficient, 3 with line 0"; else outside minus internal, alternative
   -- by alternative
   pub data Net (internal : ℤ) : book.Answer → Type 0 where
     as-outside : {v : Verdict} → Refusal v → Net internal (Refused v)
     bad-internal : InQuestion → tooGreat internal ≡ true → Net internal (Refused (refusal 3 0))
-    less-internal : {outside r : book.Answer} → InQuestion → tooGreat internal ≡ false → Outside outside
-        → verdictOf r ≡ accepted
-        → valuesOf r ≡ map (λ v. net v internal) (valuesOf outside) → Net internal r
+    less-internal : {outside c : Cited} → InQuestion → tooGreat internal ≡ false
+        → IsCoefficient (sizes g) (natAbs direction) place outside
+        → valuesIn (c .values) ≡ map (λ v. net v internal) (valuesIn (outside .values)) → SameRows outside c
+        → Net internal (Answered c)
 
 -- ---- from C
 

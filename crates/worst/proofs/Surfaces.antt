@@ -3,9 +3,7 @@
 use mathlib.Core.Path.{_≡_, sym, ap, _∙_}
 use mathlib.Core.Bool.{true, false, cond}
 use Prim.Native.Nat.{_-_}
-use lib.IntN.{ℤ, pos}
-use lib.ListN.{length, getD}
-use Rattle.verdict.specs.declared.Verdict.{Verdict}
+use lib.IntN.{ℤ}
 use Rattle.building.specs.declared.Building.{Building}
 use Rattle.book.specs.declared.Answer.{Answer}
 use Rattle.book.specs.Answer.{valuesOf}

@@ -1,6 +1,5 @@
 -- `common_divisor`: each turn leaves the divisors that both have as they are.
 use mathlib.Core.Path.{_≡_, subst}
-use Prim.Native.Nat.{ℕ}
 use native.Mathlib.Nat.{mod-lt}
 use native.Mathlib.Omega.{arith}
 use borrow.Author.Needs.{needs}

@@ -1,11 +1,10 @@
 -- `line::between`: the divisor is above 0, and what it leaves is no larger.
-use mathlib.Core.Path.{_≡_, sym, ap, subst}
-use Prim.Native.Nat.{ℕ, _/_, _≤_, _<_}
+use mathlib.Core.Path.{sym, ap, subst}
+use Prim.Native.Nat.{ℕ, _/_, _<_}
 use native.Mathlib.Nat.{div-le-self}
 use native.Mathlib.Omega.{arith}
 use borrow.Author.Needs.{needs}
 use Rattle.whole.proofs.Lowest.{divisor-some}
-use Rattle.book.specs.declared.line.Spot.{Spot}
 use Rattle.book.proofs.line.between.Statement.{statement}
 use Rattle.book.proofs.line.between.Tie as tie
 
