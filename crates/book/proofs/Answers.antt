@@ -21,10 +21,8 @@ use Rattle.building.specs.Question.{askedOf}
 use Rattle.building.proofs.Places.{needs-roof, must-be-E}
 use Rattle.building.proofs.Judged.{Told, told, in-question}
 use Rattle.building.proofs.Accepted.{in-order}
-use Rattle.book.specs.declared.line.Spot.{Spot}
 use Rattle.book.specs.declared.Answer.the-variants.{Answered}
 use Rattle.book.specs.declared.Cited.{Cited}
-use Rattle.book.specs.declared.Values.{Values}
 use Rattle.book.specs.Row.{hundredths}
 use Rattle.book.specs.Line.{valueAt}
 use Rattle.book.specs.Walls.{wallRow, wallWay}
@@ -35,11 +33,6 @@ use Rattle.book.specs.Question.{outsideOf}
 use Rattle.book.proofs.Between.{line-small}
 use Rattle.book.proofs.Rows.{wallRow-small}
 use Rattle.book.proofs.Roofed.{roofValue-small, flatValue-small, gableValue-small}
-
--- values that lie at a spot
-abbrev pub spotted : Values → Spot → Cited
-spotted values w =
-    record { values = values; lower = w .lower; upper = w .upper; part = w .part; whole = w .whole }
 
 -- ---- the four cases of a coefficient
 
@@ -146,8 +139,10 @@ module _ (g : Building) (direction : ℤ) (place : ℕ) where
   -- any answer: no alternative is above 2.500
   small-answer : (q : Question) → Told g direction place q → Small (valuesOf (answerTo q (natAbs direction) place))
   small-answer (asked.Of s) f =
+      let o = f .order in
       small-of
-      (alternatives s (f .order) (natAbs direction) place 2500 (lit≤ tt) (f .roofed) (λ w i h. roofValue-small s (f .order) (f .roofed w) (flatColumn place)))
+      (alternatives s o (natAbs direction) place 2500 (lit≤ tt) (f .roofed)
+      (λ w i h. roofValue-small s o (f .roofed w) (flatColumn place)))
   small-answer (asked.Refused v) f = tt
 
   pub answer-small : Small (valuesOf (outsideOf g direction place))

@@ -17,17 +17,17 @@ use Rattle.book.specs.Line.{on, alongLine, onStraight, valueAt, Between}
 module _ (p q : ℕ) (v w m : ℤ) where
   mean-above : m ≤ℤ v → m ≤ℤ w → ((m *ℤ pos 10) *ℤ pos (p + q)) ≤ℤ ((v *ℤ pos p +ℤ w *ℤ pos q) *ℤ pos 10)
   mean-above h k =
-      le-by _ _
-      (simp (up-scale, down-scale)
-      (omega
-      (arith, simp (up-scale, down-scale) at (add-law (v *ℤ pos p) (w *ℤ pos q)), mul-le-mul-right p (le-at m v h), mul-le-mul-right q (le-at m w k))))
+      let sum = simp (up-scale, down-scale) at (add-law (v *ℤ pos p) (w *ℤ pos q)) in
+      let left = mul-le-mul-right p (le-at m v h) in
+      let right = mul-le-mul-right q (le-at m w k) in
+      le-by _ _ (simp (up-scale, down-scale) (omega (arith, sum, left, right)))
 
   mean-below : v ≤ℤ m → w ≤ℤ m → ((v *ℤ pos p +ℤ w *ℤ pos q) *ℤ pos 10) ≤ℤ ((m *ℤ pos 10) *ℤ pos (p + q))
   mean-below h k =
-      le-by _ _
-      (simp (up-scale, down-scale)
-      (omega
-      (arith, simp (up-scale, down-scale) at (add-law (v *ℤ pos p) (w *ℤ pos q)), mul-le-mul-right p (le-at v m h), mul-le-mul-right q (le-at w m k))))
+      let sum = simp (up-scale, down-scale) at (add-law (v *ℤ pos p) (w *ℤ pos q)) in
+      let left = mul-le-mul-right p (le-at v m h) in
+      let right = mul-le-mul-right q (le-at w m k) in
+      le-by _ _ (simp (up-scale, down-scale) (omega (arith, sum, left, right)))
 
 tenfold : (k : ℕ) → negℤ (pos k) *ℤ pos 10 ≡ negℤ (pos (k * 10))
 tenfold k =
@@ -38,15 +38,19 @@ tenfold k =
 -- part/whole of the way is such a mean
 weights : (v w : ℤ) (p q : ℕ) → v *ℤ pos (p + q) +ℤ (w -ℤ v) *ℤ pos q ≡ v *ℤ pos p +ℤ w *ℤ pos q
 weights v w p q =
-    eq-by _ _
-    (omega
-    (arith, simp (up-scale, down-scale) at (add-law (v *ℤ pos (p + q)) ((w -ℤ v) *ℤ pos q)), simp (up-scale, down-scale) at (add-law (v *ℤ pos p) (w *ℤ pos q)), ap (λ (n : ℕ). n * q) (sub-lawℤ w v)))
+    let along = simp (up-scale, down-scale) at (add-law (v *ℤ pos (p + q)) ((w -ℤ v) *ℤ pos q)) in
+    let mean = simp (up-scale, down-scale) at (add-law (v *ℤ pos p) (w *ℤ pos q)) in
+    let gap = ap (λ (n : ℕ). n * q) (sub-lawℤ w v) in
+    eq-by _ _ (omega (arith, along, mean, gap))
 
 module _ (v w : ℤ) (part whole : ℕ) (within : part ≤ whole) (some : 0 < whole) where
   both : (whole - part) + part ≡ whole
   both = omega arith
 
-  weighted : alongLine v w part whole ≡ (v *ℤ pos (whole - part) +ℤ w *ℤ pos part) *ℤ pos 10
+  abbrev mean : ℤ
+  mean = (v *ℤ pos (whole - part) +ℤ w *ℤ pos part) *ℤ pos 10
+
+  weighted : alongLine v w part whole ≡ mean
   weighted = ap (λ (z : ℤ). z *ℤ pos 10) (rw both at (weights v w (whole - part) part))
 
   line-above : (m : ℤ) → m ≤ℤ v → m ≤ℤ w → (m *ℤ pos 10) ≤ℤ onStraight v w part whole
@@ -55,7 +59,7 @@ module _ (v w : ℤ) (part whole : ℕ) (within : part ≤ whole) (some : 0 < wh
       subst (λ (z : ℤ). z ≤ℤ onStraight v w part whole) (roundAway-exact (m *ℤ pos 10) whole some)
       (roundAway-mono whole _ _
       (rw weighted
-      (subst (λ (d : ℕ). ((m *ℤ pos 10) *ℤ pos d) ≤ℤ ((v *ℤ pos (whole - part) +ℤ w *ℤ pos part) *ℤ pos 10)) both (mean-above (whole - part) part v w m h k))))
+      (subst (λ (d : ℕ). ((m *ℤ pos 10) *ℤ pos d) ≤ℤ mean) both (mean-above (whole - part) part v w m h k))))
 
   line-below : (m : ℤ) → v ≤ℤ m → w ≤ℤ m → onStraight v w part whole ≤ℤ (m *ℤ pos 10)
   unfolding onStraight
@@ -63,7 +67,7 @@ module _ (v w : ℤ) (part whole : ℕ) (within : part ≤ whole) (some : 0 < wh
       subst (λ (z : ℤ). onStraight v w part whole ≤ℤ z) (roundAway-exact (m *ℤ pos 10) whole some)
       (roundAway-mono whole _ _
       (rw weighted
-      (subst (λ (d : ℕ). ((v *ℤ pos (whole - part) +ℤ w *ℤ pos part) *ℤ pos 10) ≤ℤ ((m *ℤ pos 10) *ℤ pos d)) both (mean-below (whole - part) part v w m h k))))
+      (subst (λ (d : ℕ). mean ≤ℤ ((m *ℤ pos 10) *ℤ pos d)) both (mean-below (whole - part) part v w m h k))))
 
   -- the one fact over all tables: the value lies between its rows' hundredths, as thousandths
   pub line-between : Between (v *ℤ pos 10) (w *ℤ pos 10) (onStraight v w part whole)

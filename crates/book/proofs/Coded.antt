@@ -4,7 +4,7 @@ use mathlib.Core.Bool.{Bool, true}
 use mathlib.Core.List.{List, [], _∷_, _++_, map}
 use Prim.Native.Nat.{ℕ, zero, suc, _+_, _-_, _^_, _≤_, _<_}
 use native.Mathlib.Omega.{arith}
-use lib.Dec.{T, leb, ltb, eqb, leb→le, lit<, lit≤}
+use lib.Dec.{T, leb, ltb, eqb, leb→le, ltb→lt}
 use lib.IntN.{ℤ, pos, natAbs}
 use lib.ListN.{length, getD, take, drop, List·getD-map, List·getD-append}
 use lib.Seq.{getD-take, getD-drop, getD-append-add}
@@ -49,7 +49,8 @@ module _ (i col : ℕ) where
   printed = hundredths (getD walls i noWall .row) col
 
   -- a number of the row's, whatever of the row the code reads it from
-  of-row : (f : coded.Wall → ℤ) → ((r : Wall) → f (coded-wall r) ≡ hundredths (r .row) col) → f (codedWall i) ≡ printed
+  of-row : (f : coded.Wall → ℤ) → ((r : Wall) → f (coded-wall r) ≡ hundredths (r .row) col)
+      → f (codedWall i) ≡ printed
   of-row f e = ap f (wall-is i) ∙ e (getD walls i noWall)
 
   pub wind-0 : col < 4 → getD (codedWall i .4) col (pos 0) ≡ printed
@@ -147,12 +148,13 @@ count-is k = List·getD-map length parts k []
 abbrev Sized : ℕ → Type 0
 Sized k = (0 < length (part k)) × (length (part k) ≤ 8)
 
+sized : {n : ℕ} → T (ltb 0 n) → T (leb n 8) → (0 < n) × (n ≤ 8)
+sized {n} s t = (ltb→lt 0 n s, leb→le n 8 t)
+
 pub part-sized : (k : ℕ) → k < 7 → Sized k
 part-sized =
-    each-at Sized 7 (
-      (lit< tt, lit≤ tt),
-      ((lit< tt, lit≤ tt), ((lit< tt, lit≤ tt), ((lit< tt, lit≤ tt), ((lit< tt, lit≤ tt), ((lit< tt, lit≤ tt), ((lit< tt, lit≤ tt), tt)))))),
-    )
+    each-at Sized 7
+    (sized tt tt, (sized tt tt, (sized tt tt, (sized tt tt, (sized tt tt, (sized tt tt, (sized tt tt, tt)))))))
 
 pub stands-small : (k i : ℕ) → getD (part k) i noStanding .at ≤ 900
 stands-small k i =

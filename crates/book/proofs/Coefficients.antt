@@ -34,7 +34,8 @@ module _ (s : Sizes) (o : SizesInOrder s) (wind place : ℕ) where
   on-roof roofed col =
       record { lies = roof-lies s o roofed; near = value-near (roofWay s) col (way-is s .some) }
 
-  pub coefficient-is : (wallPlace place ≡ false → 0 < s .kind) → IsCoefficient s wind place (coefficientOf s wind place)
+  pub coefficient-is : (wallPlace place ≡ false → 0 < s .kind)
+      → IsCoefficient s wind place (coefficientOf s wind place)
   unfolding flatColumn
   coefficient-is roofed =
       by-test (wallPlace place)
@@ -62,7 +63,9 @@ module _ (s : Sizes) (o : SizesInOrder s) (wind place : ℕ) where
 
   pub coefficient-only : {c : Cited} → IsCoefficient s wind place c → c ≡ coefficientOf s wind place
   unfolding flatColumn
-  coefficient-only (onWall w n) = rw (on-wall s wind place w, near-value (wallWay s) (wallColumn wind place) (lit< tt) n)
+  coefficient-only (onWall w n) =
+      let value = near-value (wallWay s) (wallColumn wind place) (lit< tt) n in
+      rw (on-wall s wind place w, value)
   coefficient-only (onGable w k r) =
       one-only (omega arith) (gableColumn wind place) One r ∙ sym (on-gable s wind place w k)
   coefficient-only (onFlat w k p r) =

@@ -1,6 +1,7 @@
--- The value of a column where a number lies among the rows of a part: there is one only, and it lies between its rows.
+-- The value of a column where a number lies among the rows of a part: there is one only, and it lies between its
+-- rows.
 use mathlib.Core.Path.{_≡_, sym, ap, subst, _∙_}
-use mathlib.Core.List.{List}
+use mathlib.Core.List.{List, List·Memᴰ}
 use Prim.Native.Nat.{ℕ, _*_, _<_}
 use native.Mathlib.Omega.{arith}
 use lib.Dec.{leb}
@@ -41,17 +42,20 @@ module _ (rows : List Standing) (rises : Rising rows) (x d : ℕ) (some : 0 < d)
   abbrev Lies-between : ℤ → Type 0
   Lies-between v = Between (hundredths (lower .row) col *ℤ pos 10) (hundredths (upper .row) col *ℤ pos 10) v
 
+  -- on one of the two rows itself
+  on-row : (r : Standing) → List·Memᴰ r rows → x ≡ r .at * d
+      → valueAt (wayIn rows x d) col ≡ hundredths (r .row) col *ℤ pos 10
+  on-row r m e = ap (λ (w : Way). valueAt w col) (walk-on x d some rows rises m e) ∙ value-on (r .row) col
+
   walked-between : Lies-between (valueAt (wayIn rows x d) col)
   walked-between =
       by-test (leb x (lower .at * d))
       (λ e. let h = leb-true x (lower .at * d) e in
-      at-lower
-      (ap (λ (w : Way). valueAt w col) (walk-on x d some rows rises (lower-among (b .next)) (omega arith)) ∙ value-on (lower .row) col))
+      at-lower (on-row lower (lower-among (b .next)) (omega arith)))
       (λ e. let h = leb-false x (lower .at * d) e in
       by-test (leb (upper .at * d) x)
       (λ f. let g = leb-true (upper .at * d) x f in
-      at-upper
-      (ap (λ (w : Way). valueAt w col) (walk-on x d some rows rises (upper-among (b .next)) (omega arith)) ∙ value-on (upper .row) col))
+      at-upper (on-row upper (upper-among (b .next)) (omega arith)))
       (λ f. let g = leb-false (upper .at * d) x f in
       let p = between-proper lower upper x d h g in
       rw (walk-within x d some rows rises (b .next) h g)

@@ -43,15 +43,16 @@ module _ (s : Sizes) (o : SizesInOrder s) (wind place : ℕ) where
       rw (on-wall s wind place w, w) (one-redone wallTable (wallWay s) (wallColumn wind place) (lit< tt) l l))
       (λ w. let l = rows-listed s o (roofed w) in
       let some = way-is s .some in
+      let table = roofTable (s .kind) in
       by-test (eqb (s .kind) 1)
       (λ e.
       rw (on-gable s wind place w (eqb-true (s .kind) 1 e), w, e)
-      (rw e at (one-redone (roofTable (s .kind)) (roofWay s) (gableColumn wind place) some (l .0 .found) (l .1 .found))))
+      (rw e at (one-redone table (roofWay s) (gableColumn wind place) some (l .0 .found) (l .1 .found))))
       (λ e. let k = eqb-false (s .kind) 1 e in
       by-test (eqb place F)
       (λ f. let p = eqb-true place F f in
       rw (on-f s wind place w k p, w, e, column-F p)
-      (rw e at (both-redone (roofTable (s .kind)) (roofWay s) 1 some (l .0 .found) (l .1 .found))))
+      (rw e at (both-redone table (roofWay s) 1 some (l .0 .found) (l .1 .found))))
       (λ f. let p = eqb-false place F f in
       rw (on-flat s wind place w k p, w, e)
-      (rw e at (one-redone (roofTable (s .kind)) (roofWay s) (flatColumn place) some (l .0 .found) (l .1 .found))))))
+      (rw e at (one-redone table (roofWay s) (flatColumn place) some (l .0 .found) (l .1 .found))))))

@@ -20,7 +20,8 @@ use Rattle.book.specs.Gable.{blockOf}
 use Rattle.book.specs.Roofs.{partOf, roofTable, roofWay}
 use Rattle.book.proofs.Ways.{noStanding, way-rows, Proper, way-proper, way-small}
 use Rattle.book.proofs.Walked.{lastAt, lies-walked, lies-only}
-use Rattle.book.proofs.Tables.{SmallRow, SmallZones, Listed, Part, gable-part, flat-part, gable-small, flat-small}
+use Rattle.book.proofs.Tables.{SmallRow, SmallZones, Listed, Part, gable-part, flat-part, gable-small}
+use Rattle.book.proofs.Tables.{flat-small}
 use Rattle.book.proofs.Rows.{blockOf-most}
 use Rattle.book.proofs.Between.{line-small}
 

@@ -202,21 +202,24 @@ unfolding flatTable
 flat-row-small i = numbered-small 250 i flatTable tt
 
 -- no coefficient of a zone is above 1.20: none of a gable, and none of the columns E and F
-gable-test : (k : ℕ) → T (all (λ (s : Standing). all (small 120) (s .row .cells)) (getD gableParts k []))
-gable-test =
-    all-at (λ (rows : List Standing). all (λ (s : Standing). all (small 120) (s .row .cells)) rows) gableParts [] tt tt
+abbrev every : Standing → Bool
+every s = all (small 120) (s .row .cells)
+
+abbrev first-two : Standing → Bool
+first-two s = all (small 120) (take 2 (s .row .cells))
+
+gable-test : (k : ℕ) → T (all every (getD gableParts k []))
+gable-test = all-at (all every) gableParts [] tt tt
 
 pub gable-small : (k : ℕ) → Every (λ s. SmallRow 120 (s .row)) (getD gableParts k [])
 gable-small k =
     every-by (λ (s : Standing) t. small-row 120 (s .row) t) (getD gableParts k [])
-    (passed (λ (s : Standing). all (small 120) (s .row .cells)) (getD gableParts k []) (gable-test k))
+    (passed every (getD gableParts k []) (gable-test k))
 
-flat-test : (k : ℕ) → T (all (λ (s : Standing). all (small 120) (take 2 (s .row .cells))) (getD flatParts k []))
-flat-test =
-    all-at (λ (rows : List Standing). all (λ (s : Standing). all (small 120) (take 2 (s .row .cells))) rows) flatParts
-    [] tt tt
+flat-test : (k : ℕ) → T (all first-two (getD flatParts k []))
+flat-test = all-at (all first-two) flatParts [] tt tt
 
 pub flat-small : (k : ℕ) → Every (λ s. SmallZones 120 (s .row)) (getD flatParts k [])
 flat-small k =
     every-by (λ (s : Standing) t. small-zones 120 (s .row) t) (getD flatParts k [])
-    (passed (λ (s : Standing). all (small 120) (take 2 (s .row .cells))) (getD flatParts k []) (flat-test k))
+    (passed first-two (getD flatParts k []) (flat-test k))

@@ -1,5 +1,5 @@
--- Flat roofs, table 3.2.2.2.4: the rows' numbers, the numbers at which they stand, and the hundredths of E, F, L1, L2.
--- F is printed with both signs.
+-- Flat roofs, table 3.2.2.2.4: the rows' numbers, the numbers at which they stand, and the hundredths of E, F, L1,
+-- L2. F is printed with both signs.
 use mathlib.Core.List.{List, [], _∷_}
 use Prim.Native.Nat.{ℕ}
 use Rattle.book.specs.Number.{p, m}

@@ -17,8 +17,8 @@ pub enum Values {
     Two(i32, i32),
 }
 
-// A coefficient and where it comes from: it lies between the rows with these numbers of its table, `part` / `whole` of
-// the way from `lower` to `upper`, in lowest terms. On a row itself both are that row, and the fraction is 0 / 1.
+// A coefficient and where it comes from: it lies between the rows with these numbers of its table, `part` / `whole`
+// of the way from `lower` to `upper`, in lowest terms. On a row itself both are that row, and the fraction is 0 / 1.
 pub struct Cited {
     pub values: Values,
     pub lower: u32,

@@ -5,6 +5,7 @@ ghost use lib.IntN.{natAbs};
 ghost use Rattle.whole.specs.Round.{roundAway};
 ghost use Rattle.whole.specs.Lowest.{commonDivisor};
 ghost use Rattle.book.specs.Line.{onStraight};
+ghost use Rattle.book.specs.Spot.{rowSpot};
 
 // From row `lower` to row `upper` of a table, by their numbers, `part` / `whole` of the way, in lowest terms.
 pub(crate) struct Spot {
@@ -16,7 +17,7 @@ pub(crate) struct Spot {
 
 // On a row itself.
 pub(crate) fn on_row(row: u32) -> Spot
-    ensures { λ r. ⌜ r ≡ record { lower = row; upper = row; part = 0; whole = 1 } ⌝ }
+    ensures { λ r. ⌜ r ≡ rowSpot row ⌝ }
 {
     Spot {
         lower: row,

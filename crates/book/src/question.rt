@@ -8,6 +8,7 @@ ghost use Rattle.building.specs.Places.{wallPlace};
 ghost use Rattle.building.specs.Order.{SizesInOrder};
 ghost use Rattle.book.specs.declared.Values.the-variants.{Two};
 ghost use Rattle.book.specs.Answer.{valuesIn};
+ghost use Rattle.book.specs.Spot.{citesAt};
 ghost use Rattle.book.specs.Walls.{wallWay};
 ghost use Rattle.book.specs.Question as question;
 ghost use Rattle.book.specs.Question.{wallColumn, gableColumn, flatColumn, oneAt, coefficientOf, netCited};
@@ -90,7 +91,7 @@ fn both_signs(v: i32) -> Values
 
 // Values that lie at a spot.
 fn cited(values: Values, w: Spot) -> Cited
-    ensures { λ r. ⌜ r ≡ record { values = values; lower = w .lower; upper = w .upper; part = w .part; whole = w .whole } ⌝ }
+    ensures { λ r. ⌜ r ≡ citesAt values w ⌝ }
 {
     Cited {
         values,

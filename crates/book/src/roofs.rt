@@ -150,7 +150,8 @@ fn stands_of(k: usize) -> [u16; 8]
 
 fn numbers_of(k: usize) -> [u16; 8]
     requires { ⌜ k < 7 ⌝ }
-    ensures { λ r. ⌜ r ≡ firstOf 0 8 (map (λ (s : Standing). s .row .number) (getD (gableParts ++ flatParts) k [])) ⌝ }
+    ensures { λ r. ⌜ (let part = getD (gableParts ++ flatParts) k [] in
+        r ≡ firstOf 0 8 (map (λ (s : Standing). s .row .number) part)) ⌝ }
 {
     NUMBERS[k]
 }

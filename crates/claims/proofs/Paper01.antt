@@ -43,8 +43,8 @@ use Rattle.claims.proofs.Accepted.{job-in-order, sheet-in-order}
 
 -- "It therefore lies between the neighbouring rows, ends included": once for all tables.
 abbrev pub LiesBetweenRows : Type 0
-LiesBetweenRows = (rows : List Standing) (col x d : ℕ) (w : Way) (v : ℤ) (lower upper : Standing) → Rising rows → 0 < d
-    → LiesAt rows x d w → NearLine w col v → LiesBetween rows x d lower upper
+LiesBetweenRows = (rows : List Standing) (col x d : ℕ) (w : Way) (v : ℤ) (lower upper : Standing)
+    → Rising rows → 0 < d → LiesAt rows x d w → NearLine w col v → LiesBetween rows x d lower upper
     → Between (hundredths (lower .row) col *ℤ pos 10) (hundredths (upper .row) col *ℤ pos 10) v
 
 -- "With these ranges no total exceeds 7.92 × 10^18 in size."

@@ -38,8 +38,8 @@ use Rattle.worst.specs.Forces.{force}
 
 -- ---- what a row says
 
--- a coefficient's alternatives, in thousandths, with its two rows and the fraction; the number that a building gets; a face's force in units and in whole
--- newtons; the number and line that a text gets
+-- a coefficient's alternatives, in thousandths, with its two rows and the fraction; the number that a building gets;
+-- a face's force in units and in whole newtons; the number and line that a text gets
 pub data Row : Type 0 where
   gives : Building → (direction place : ℕ) → Values → (lower upper part whole : ℕ) → Row
   gets : Building → (number : ℕ) → Row
@@ -104,10 +104,10 @@ _and_ : {P Q : Type 0} → P → Q → P × Q
 p and q = (p, q)
 
 pub printed-hold : Every Holds printed
-unfolding divisorUpTo commonDivisor outsideOf askedOf givenFault buildingFault outOfForm outOfRange outOfWalls outOfRoof tooLong beyond zoneOn
-    localOn roofOf coefficientOf wallColumn gableColumn flatColumn wallRow blockOf roofWay
-    wayIn onStraight halfUp roundAway roundDown leftOver reading linesIn linesFrom split fieldsOf
-    fieldFrom numeral unsigned negative digitsInForm allDigits valueAfter value readLines walk lineFault inForm hasForm
+unfolding divisorUpTo commonDivisor outsideOf askedOf givenFault buildingFault outOfForm outOfRange outOfWalls
+    outOfRoof tooLong beyond zoneOn localOn roofOf coefficientOf wallColumn gableColumn flatColumn wallRow blockOf
+    roofWay wayIn onStraight halfUp roundAway roundDown leftOver reading linesIn linesFrom split fieldsOf fieldFrom
+    numeral unsigned negative digitsInForm allDigits valueAfter value readLines walk lineFault inForm hasForm
 printed-hold =
     refl and refl and refl and refl  -- P1 to P4
     and refl and refl and refl and refl and refl  -- P5 to P7

@@ -44,10 +44,10 @@ lines =
     & "z min -200000000000000 1 2 1 1 1\n"
 
 pub sample : totalsText (reading (bytes sheet)) ≡ bytes lines
-unfolding divisorUpTo commonDivisor halfUp roundAway digitsWithin digits decimal allDigits valueAfter value digitsInForm unsigned negative
-    numeral fieldFrom split fieldsOf linesFrom linesIn wayIn onStraight wallRow blockOf outOfRoof roofOf
-    roofWay givenFault buildingFault outOfForm outOfRange outOfWalls tooLong zoneOn
-    localOn wallColumn gableColumn flatColumn coefficientOf outsideOf askedOf beyond hasForm inForm lineFault walk
-    readLines reading better best numbers each choices total cases caseTotal worst padded shown sixExtremes spaced
-    extremeText axisText sixText reportText
+unfolding divisorUpTo commonDivisor halfUp roundAway digitsWithin digits decimal allDigits valueAfter value
+    digitsInForm unsigned negative numeral fieldFrom split fieldsOf linesFrom linesIn wayIn onStraight wallRow
+    blockOf outOfRoof roofOf roofWay givenFault buildingFault outOfForm outOfRange outOfWalls tooLong zoneOn localOn
+    wallColumn gableColumn flatColumn coefficientOf outsideOf askedOf beyond hasForm inForm lineFault walk readLines
+    reading better best numbers each choices total cases caseTotal worst padded shown sixExtremes spaced extremeText
+    axisText sixText reportText
 sample = refl

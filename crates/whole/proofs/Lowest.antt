@@ -2,7 +2,8 @@
 use mathlib.Core.Path.{_≡_, refl, sym, ap, _∙_, subst}
 use mathlib.Core.Bool.{Bool, true, false, _&&_}
 use Prim.Native.Nat.{ℕ, zero, suc, _+_, _-_, _*_, _/_, _%_, _≤_, _<_, _∣_}
-use native.Mathlib.Nat.{div-add-mod', mod-lt, mod-one, mul-le-mul-right, le-of-mul-le-mul-right, eq-of-mul-eq-mul-right}
+use native.Mathlib.Nat.{div-add-mod', mod-lt, mod-one, mul-le-mul-right, le-of-mul-le-mul-right}
+use native.Mathlib.Nat.{eq-of-mul-eq-mul-right}
 use native.Mathlib.Nat.{dvd-refl, dvd-zero, dvd-mul-right, le-of-dvd, pos-of-dvd-of-pos, dvd-antisymm, dvd-mod-iff}
 use native.Mathlib.Nat.{mod-eq-zero-of-dvd, dvd-of-mod-eq-zero, div-mul-cancel, div-le-self, mul-dvd-mul-right}
 use native.Mathlib.Omega.{arith}
@@ -51,18 +52,21 @@ module _ (part whole : ℕ) (none : (n : ℕ) → 1 < n → n ∣ part → n ∣
       by-test (eqb t 0)
       (λ z. let gone = eqb-true t 0 z in no-multiple s r q e (omega arith) some less)
       (λ z. let left = eqb-false t 0 z in
-      no-smaller most (part - q * s) t (omega arith) (left-over part whole s r q t e split (omega arith)) (omega arith) (omega arith))
+      let over = left-over part whole s r q t e split (omega arith) in
+      no-smaller most (part - q * s) t (omega arith) over (omega arith) (omega arith))
 
   -- its own is above 0
   pub whole-some : (x y : ℕ) → 0 < y → part * y ≡ x * whole → 0 < whole
   whole-some x y some e = go whole refl
     where
+      even : {n : ℕ} → n ≡ 0 → 2 ∣ n
+      even e = rw e (dvd-zero 2)
+
       go : (n : ℕ) → whole ≡ n → 0 < whole
       go zero f =
           let gone : x * whole ≡ x * 0 = ap (λ (n : ℕ). x * n) f in
           let p : part ≡ 0 = eq-of-mul-eq-mul-right y some part 0 (omega arith) in
-          absurd
-          (none 2 (omega arith) (subst (λ (n : ℕ). 2 ∣ n) (sym p) (dvd-zero 2)) (subst (λ (n : ℕ). 2 ∣ n) (sym f) (dvd-zero 2)))
+          absurd (none 2 (omega arith) (even p) (even f))
       go (suc n) f = omega arith
 
 -- ---- so there is one form only
@@ -81,12 +85,12 @@ module _ (x y : ℕ) (some : 0 < y) {part whole part′ whole′ : ℕ} (v : Low
       let q = whole-some part′ whole′ (w .lowest) x y some (w .same) in
       let e : whole ≡ whole′ =
       by-test (leb whole whole′)
-      (λ h.
-      by-test (leb whole′ whole) (λ g. omega (arith, leb-true whole whole′ h, leb-true whole′ whole g))
-      (λ g. absurd
-      (no-smaller part′ whole′ (w .lowest) whole part whole (omega arith) crossed p (leb-false whole′ whole g))))
-      (λ h. absurd
-      (no-smaller part whole (v .lowest) whole′ part′ whole′ (omega arith) (sym crossed) q (leb-false whole whole′ h))) in
+      (λ h. let under = leb-true whole whole′ h in
+      by-test (leb whole′ whole) (λ g. omega (arith, leb-true whole′ whole g))
+      (λ g. let less = leb-false whole′ whole g in
+      absurd (no-smaller part′ whole′ (w .lowest) whole part whole (omega arith) crossed p less)))
+      (λ h. let less = leb-false whole whole′ h in
+      absurd (no-smaller part whole (v .lowest) whole′ part′ whole′ (omega arith) (sym crossed) q less)) in
       let scaled : part * whole ≡ part * whole′ = ap (λ (n : ℕ). part * n) e in
       (eq-of-mul-eq-mul-right whole p part part′ (scaled ∙ crossed), e)
 

@@ -35,8 +35,8 @@ returns c =
     let o = r .before .before in
     let s = o .before in
     let a = s .args in
-    sym
-    (net-bad (a .g) (a .direction) (a .place) (a .internal) (sym (asked o) ∙ r .r .given .1) (tested (a .internal) (c .before .too-great .ensures) (s .fits .internal .sfits) (c .if1 .taken)))
+    let great = tested (a .internal) (c .before .too-great .ensures) (s .fits .internal .sfits) (c .if1 .taken) in
+    sym (net-bad (a .g) (a .direction) (a .place) (a .internal) (sym (asked o) ∙ r .r .given .1) great)
 
 net-cited-requires : tie.Need-net-cited-requires
 net-cited-requires c κs =
@@ -58,10 +58,11 @@ returns-2 c =
     let o = r .before .before in
     let s = o .before in
     let a = s .args in
-    ap Answered
-    (said (λ (z : ℤ). netCited (r .r .given .0 .0) z) (a .internal) (c .net-cited .ensures) (s .fits .internal .sfits))
-    ∙ sym
-    (net-answered (a .g) (a .direction) (a .place) (a .internal) (sym (asked o) ∙ r .r .given .1) (tested (a .internal) (t .before .too-great .ensures) (s .fits .internal .sfits) (t .if1 .left)))
+    let outside = r .r .given .0 .0 in
+    let fits = s .fits .internal .sfits in
+    let small = tested (a .internal) (t .before .too-great .ensures) fits (t .if1 .left) in
+    ap Answered (said (λ (z : ℤ). netCited outside z) (a .internal) (c .net-cited .ensures) fits)
+    ∙ sym (net-answered (a .g) (a .direction) (a .place) (a .internal) (sym (asked o) ∙ r .r .given .1) small)
 
 returns-3 : tie.Need-returns-3
 returns-3 c =

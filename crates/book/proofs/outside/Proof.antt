@@ -36,8 +36,8 @@ returns c =
     let d = q .before .before in
     let s = d .before in
     let a = s .args in
-    ap Answered
-    (c .coefficient .ensures ∙ ap (λ (n : ℕ). coefficientOf (q .q .given .0 .0) n (a .place)) (said natAbs (a .direction) (c .before .magnitude .ensures) (s .fits .direction .sfits)))
+    let wind = said natAbs (a .direction) (c .before .magnitude .ensures) (s .fits .direction .sfits) in
+    ap Answered (c .coefficient .ensures ∙ ap (λ (n : ℕ). coefficientOf (q .q .given .0 .0) n (a .place)) wind)
     ∙ ap (λ (q : Question). answerTo q (natAbs (a .direction)) (a .place)) (sym (q .q .given .1) ∙ asked d)
 
 returns-2 : tie.Need-returns-2

@@ -11,7 +11,8 @@ use Rattle.book.proofs.line.between.Tie as tie
 above : (c : tie.After-common-divisor) → 0 < c .common-divisor .result
 above c =
     let s = c .before in
-    subst (λ (n : ℕ). 0 < n) (sym (c .common-divisor .ensures)) (divisor-some (s .args .part) (s .args .whole) (s .pre .0))
+    let some = divisor-some (s .args .part) (s .args .whole) (s .pre .0) in
+    subst (λ (n : ℕ). 0 < n) (sym (c .common-divisor .ensures)) some
 
 div-t6 : tie.Need-div-t6
 div-t6 c = omega (arith, above c)

@@ -40,7 +40,10 @@ returns c =
 on-roof-requires : tie.Need-on-roof-requires
 on-roof-requires c κs = let s = c .before .before in (s .pre .0, (s .pre .1 (off-wall c), off-wall c))
 
+returns-2 : tie.Need-returns-2
+returns-2 c = c .on-roof .ensures
+
 pub coefficient-spec : {M : Type 1} → statement M
 coefficient-spec =
     tie.close
-    (tie.spec (λ c κs. search needs) wall-column-requires on-wall-requires returns on-roof-requires (λ c. search needs))
+    (tie.spec (λ c κs. search needs) wall-column-requires on-wall-requires returns on-roof-requires returns-2)

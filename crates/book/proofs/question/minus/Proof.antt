@@ -59,8 +59,9 @@ returns c =
     let r = k .before in
     let s = r .before .before in
     let z = s .args .internal in
-    ap One
-    (taken-off (r .values .given .0 .0) z (c .less .result) (k .known-told .given .0 .1) (s .fits .internal .sfits) (c .less .ok) (c .less .ensures))
+    let fits = s .fits .internal .sfits in
+    let v = r .values .given .0 .0 in
+    ap One (taken-off v z (c .less .result) (k .known-told .given .0 .1) fits (c .less .ok) (c .less .ensures))
     ∙ ap (λ (v : Values). minus v z) (sym (r .values .given .1))
 
 returns-2 : tie.Need-returns-2
@@ -70,9 +71,11 @@ returns-2 c =
     let r = k .before in
     let s = r .before .before in
     let z = s .args .internal in
-    ap₂ Two
-    (taken-off (r .values2 .given .0 .0) z (l .less2 .result) (k .known-told2 .given .0 .1) (s .fits .internal .sfits) (l .less2 .ok) (l .less2 .ensures))
-    (taken-off (r .values2 .given .0 .1 .0) z (c .less3 .result) (k .known-told2 .given .1 .0 .1) (s .fits .internal .sfits) (c .less3 .ok) (c .less3 .ensures))
+    let fits = s .fits .internal .sfits in
+    let v = r .values2 .given .0 .0 in
+    let w = r .values2 .given .0 .1 .0 in
+    ap₂ Two (taken-off v z (l .less2 .result) (k .known-told2 .given .0 .1) fits (l .less2 .ok) (l .less2 .ensures))
+    (taken-off w z (c .less3 .result) (k .known-told2 .given .1 .0 .1) fits (c .less3 .ok) (c .less3 .ensures))
     ∙ ap (λ (v : Values). minus v z) (sym (r .values2 .given .1))
 
 pub minus-spec : {M : Type 1} → statement M

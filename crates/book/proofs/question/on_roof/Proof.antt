@@ -9,23 +9,25 @@ use Rattle.whole.proofs.Size.{returned}
 use Rattle.book.specs.declared.line.Spot.{Spot}
 use Rattle.book.specs.declared.Values.the-variants.{One, Two}
 use Rattle.book.specs.Line.{valueAt}
+use Rattle.book.specs.Spot.{citesAt}
 use Rattle.book.specs.Roofs.{roofWay}
 use Rattle.book.specs.Question.{flatColumn}
 use Rattle.book.proofs.Roofed.{roofValue-small}
 use Rattle.book.proofs.Columns.{gableColumn-below, flatColumn-below}
-use Rattle.book.proofs.Answers.{spotted, on-gable, on-f, on-flat, column-F}
+use Rattle.book.proofs.Answers.{on-gable, on-f, on-flat, column-F}
 use Rattle.book.proofs.question.on_roof.Statement.{statement}
 use Rattle.book.proofs.question.on_roof.Tie as tie
 
 roof-value-requires : tie.Need-roof-value-requires
 roof-value-requires c κs =
     let w = c .before .before .before in
-    let s = w .before in (
+    let s = w .before in
+    let below = gableColumn-below (s .args .wind) (s .args .place) in (
       s .pre .0,
       (
         s .pre .1 .0,
         w .roof-way .ensures,
-        subst (λ (n : ℕ). n < 4) (sym (c .gable-column .ensures)) (gableColumn-below (s .args .wind) (s .args .place)),
+        subst (λ (n : ℕ). n < 4) (sym (c .gable-column .ensures)) below,
       ),
     )
 
@@ -37,10 +39,10 @@ returns c =
     let w = t .before .before in
     let s = w .before in
     let a = s .args in
+    let same = returned w32 (v .roof-value .result) (v .roof-value .ok) .same in
+    let column = ap (valueAt (roofWay (a .s))) (g .gable-column .ensures) in
     c .cited .ensures
-    ∙ ap₂ (λ (z : ℤ) (q : Spot). spotted (One z) q)
-    (returned w32 (v .roof-value .result) (v .roof-value .ok) .same ∙ v .roof-value .ensures ∙ ap (valueAt (roofWay (a .s))) (g .gable-column .ensures))
-    (w .roof-way .ensures)
+    ∙ ap₂ (λ (z : ℤ) (q : Spot). citesAt (One z) q) (same ∙ v .roof-value .ensures ∙ column) (w .roof-way .ensures)
     ∙ sym (on-gable (a .s) (a .wind) (a .place) (s .pre .1 .1) (t .if1 .taken))
 
 roof-value-requires-2 : tie.Need-roof-value-requires-2
@@ -80,9 +82,10 @@ returns-2 c =
     let w = e .before .before in
     let s = w .before in
     let a = s .args in
+    let column = ap (valueAt (roofWay (a .s))) (column-F (t .if2 .taken)) in
+    let signs = ap (λ (z : ℤ). Two z (negℤ z)) (value v ∙ column) in
     c .cited2 .ensures
-    ∙ ap₂ spotted (b .both-signs .ensures ∙ ap (λ (z : ℤ). Two z (negℤ z)) (value v ∙ ap (valueAt (roofWay (a .s))) (column-F (t .if2 .taken))))
-    (w .roof-way .ensures)
+    ∙ ap₂ citesAt (b .both-signs .ensures ∙ signs) (w .roof-way .ensures)
     ∙ sym (on-f (a .s) (a .wind) (a .place) (s .pre .1 .1) (e .if1 .left) (t .if2 .taken))
 
 returns-3 : tie.Need-returns-3
@@ -94,7 +97,7 @@ returns-3 c =
     let s = w .before in
     let a = s .args in
     c .cited3 .ensures
-    ∙ ap₂ (λ (z : ℤ) (q : Spot). spotted (One z) q) (value v) (w .roof-way .ensures)
+    ∙ ap₂ (λ (z : ℤ) (q : Spot). citesAt (One z) q) (value v) (w .roof-way .ensures)
     ∙ sym (on-flat (a .s) (a .wind) (a .place) (s .pre .1 .1) (e .if1 .left) (t .if2 .left))
 
 pub on-roof-spec : {M : Type 1} → statement M

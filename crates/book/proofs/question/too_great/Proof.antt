@@ -12,8 +12,8 @@ returns : tie.Need-returns
 unfolding beyond
 returns c =
     let s = c .before in
-    rw
-    (ap (λ (z : ℤ). ltZ z (negℤ (pos 100))) (sym (returned w64 (s .args .internal) (s .fits .internal .sfits) .same)) ∙ c .if1 .taken)
+    let e = returned w64 (s .args .internal) (s .fits .internal .sfits) .same in
+    rw (ap (λ (z : ℤ). ltZ z (negℤ (pos 100))) (sym e) ∙ c .if1 .taken)
 
 returns-2 : tie.Need-returns-2
 unfolding beyond

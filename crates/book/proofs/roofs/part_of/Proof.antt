@@ -13,7 +13,8 @@ returns c =
     let s = c .before .before .before in
     let z = s .args .s in
     let most = blockOf-most (z .h) (z .b) (s .pre .0 .h-over-b) in
-    rw (eq-eqb (z .kind) 1 (c .before .if1 .taken), c .block-of .ensures) (omega arith, gable-among (blockOf (z .h) (z .b)) (omega arith))
+    let gable = eq-eqb (z .kind) 1 (c .before .if1 .taken) in
+    rw (gable, c .block-of .ensures) (omega arith, gable-among (blockOf (z .h) (z .b)) (omega arith))
 
 returns-2 : tie.Need-returns-2
 returns-2 c =

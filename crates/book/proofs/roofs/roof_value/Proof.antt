@@ -63,16 +63,18 @@ from : (c : tie.After-cell) → let a = c .before .args in
     toZ w16 (ofZ w16 (c .cell .result)) ≡ hundredths (roofWay (a .s) .lower) (a .col)
 from c =
     let s = c .before in
-    let kind = s .args .s .kind in
-    read (roofTable kind) (lastNumber kind) (s .args .w .lower) (s .args .col) (c .cell .ok) (c .cell .ensures) (lower s)
+    let a = s .args in
+    let kind = a .s .kind in
+    read (roofTable kind) (lastNumber kind) (a .w .lower) (a .col) (c .cell .ok) (c .cell .ensures) (lower s)
     (listed s .0)
 
 to : (c : tie.After-cell2) → let a = c .before .before .args in
     toZ w16 (ofZ w16 (c .cell2 .result)) ≡ hundredths (roofWay (a .s) .upper) (a .col)
 to c =
     let s = c .before .before in
-    let kind = s .args .s .kind in
-    read (roofTable kind) (lastNumber kind) (s .args .w .upper) (s .args .col) (c .cell2 .ok) (c .cell2 .ensures) (upper s)
+    let a = s .args in
+    let kind = a .s .kind in
+    read (roofTable kind) (lastNumber kind) (a .w .upper) (a .col) (c .cell2 .ok) (c .cell2 .ensures) (upper s)
     (listed s .1)
 
 line-at-requires : tie.Need-line-at-requires
@@ -94,10 +96,11 @@ returns : tie.Need-returns
 returns c =
     let s = c .before .before .before in
     let w = roofWay (s .args .s) in
+    let at = s .args .w in
     let col = s .args .col in
     returned w32 (c .line-at .result) (c .line-at .ok) .same
     ∙ c .line-at .ensures
-    ∙ ap₂ (λ (v u : ℤ). onStraight v u (s .args .w .part) (s .args .w .whole)) (from (c .before .before)) (to (c .before))
+    ∙ ap₂ (λ (v u : ℤ). onStraight v u (at .part) (at .whole)) (from (c .before .before)) (to (c .before))
     ∙ ap (λ (r : Spot). onStraight (hundredths (w .lower) col) (hundredths (w .upper) col) (r .part) (r .whole))
     (s .pre .1 .1)
 

@@ -6,10 +6,9 @@ use native.Mathlib.Nat.{mul-le-mul}
 use native.Mathlib.Omega.{arith}
 use borrow.Author.Needs.{needs}
 use lib.ListN.{length, getD, drop}
-use Rattle.book.specs.declared.line.Spot.{Spot}
 use Rattle.book.specs.Row.{Standing}
 use Rattle.book.specs.Line.{Way, between, wayIn}
-use Rattle.book.specs.Spot.{spotOf}
+use Rattle.book.specs.Spot.{spotOf, rowSpot}
 use Rattle.book.proofs.Ways.{noStanding, way-on, way-passes, way-between, way-ends}
 use Rattle.book.proofs.Coded.{part, eight, eight-at, part-sized, stands-small}
 use Rattle.book.proofs.roofs.way_in.Statement.{statement}
@@ -51,9 +50,6 @@ small k i d h e = rw e (mul-le-mul (stands-small k i) h)
 scaled : {n m : ℕ} (d : ℕ) → n ≡ m → n * d ≡ m * d
 scaled d e = ap (λ (n : ℕ). n * d) e
 
-abbrev onRow : ℕ → Spot
-onRow n = record { lower = n; upper = n; part = 0; whole = 1 }
-
 loop-holds : tie.Need-loop-holds Inv-loop μ-loop
 loop-holds c =
     let s = c .before .before .before in
@@ -84,7 +80,7 @@ returns c =
     let n = last l in
     let e = scaled (a .d) (stands-at l i (omega arith) (t .before .stands .ensures)) in
     c .on-row .ensures
-    ∙ ap onRow (number-at l i (omega arith) (r .number .ensures))
+    ∙ ap rowSpot (number-at l i (omega arith) (r .number .ensures))
     ∙ met l (way-on (part (a .k)) (a .x) (a .d) i (omega arith) (omega arith))
 
 mul-t : tie.Need-mul-t Inv-loop μ-loop
@@ -101,7 +97,8 @@ between-requires c κs =
     let l = f .before .before .before in
     let s = start l in
     let i = l .loop .i + 1 in
-    let most = small (s .args .k) i (s .args .d) (s .pre .1) (stands-at l i (omega arith) (t .before .stands2 .ensures)) in
+    let upper = stands-at l i (omega arith) (t .before .stands2 .ensures) in
+    let most = small (s .args .k) i (s .args .d) (s .pre .1) upper in
     (omega arith, omega arith, omega arith)
 
 returns-2 : tie.Need-returns-2 Inv-loop μ-loop
@@ -118,8 +115,10 @@ returns-2 c =
     let upper = stands-at l (i + 1) (omega arith) (t .before .stands2 .ensures) in
     let from = scaled (a .d) lower in
     let to = scaled (a .d) upper in
+    let this = number-at l i (omega arith) (r .number2 .ensures) in
+    let next = number-at l (i + 1) (omega arith) (q .number3 .ensures) in
     c .between .ensures
-    ∙ rw (number-at l i (omega arith) (r .number2 .ensures), number-at l (i + 1) (omega arith) (q .number3 .ensures), lower, upper)
+    ∙ rw (this, next, lower, upper)
     (met l (way-between (part (a .k)) (a .x) (a .d) i (omega arith) (omega arith) (omega arith)))
 
 loop-again : tie.Need-loop-again Inv-loop μ-loop
@@ -145,7 +144,7 @@ returns-3 c =
     let i = l .loop .i in
     let n = last l in
     c .on-row2 .ensures
-    ∙ ap onRow (number-at l i (omega arith) (r .number4 .ensures))
+    ∙ ap rowSpot (number-at l i (omega arith) (r .number4 .ensures))
     ∙ met l (way-ends (part (a .k)) (a .x) (a .d) i (omega arith))
 
 pub way-in-spec : {M : Type 1} → statement M

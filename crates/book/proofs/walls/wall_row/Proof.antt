@@ -31,8 +31,10 @@ returns c =
     let t = c .before in
     let l = t .before .before in
     let s = l .before .args .s in
-    found s (l .before .pre) (l .loop .row)
-    (left-here (within (s .h) (s .a) (s .b)) noWall walls (wallIndex (s .h) (s .a) (s .b)) (l .loop .row) (l .loop .inv) (omega arith) (sym (t .in-row .ensures) ∙ c .if1 .taken))
+    let here =
+    left-here (within (s .h) (s .a) (s .b)) noWall walls (wallIndex (s .h) (s .a) (s .b)) (l .loop .row)
+    (l .loop .inv) (omega arith) (sym (t .in-row .ensures) ∙ c .if1 .taken) in
+    found s (l .before .pre) (l .loop .row) here
 
 loop-again : tie.Need-loop-again Inv-loop μ-loop
 loop-again c =
@@ -46,8 +48,10 @@ returns-2 : tie.Need-returns-2 Inv-loop μ-loop
 returns-2 c =
     let l = c .before in
     let s = l .before .args .s in
-    found s (l .before .pre) (l .loop .row)
-    (left-none (within (s .h) (s .a) (s .b)) noWall walls (wallIndex (s .h) (s .a) (s .b)) (l .loop .row) (l .loop .inv) (omega arith))
+    let none =
+    left-none (within (s .h) (s .a) (s .b)) noWall walls (wallIndex (s .h) (s .a) (s .b)) (l .loop .row)
+    (l .loop .inv) (omega arith) in
+    found s (l .before .pre) (l .loop .row) none
 
 pub wall-row-spec : {M : Type 1} → statement M
 wall-row-spec =
