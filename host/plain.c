@@ -36,40 +36,45 @@ static const struct { int general[2][4], local; } walls[3][2] = {
     {{{{80, -25, -80, -80}, {-80, -80, 80, -25}}, -120}, {{{70, -40, -70, -70}, {-50, -50, 80, -10}}, -120}},
 };
 
+/* A row of a roof's table: its number there from 1, where it stands, and its columns. */
+typedef struct { int number, at, value[4]; } printed_row;
+
 /* Gables: by h/b; rows at slopes in tenths of a degree; wind 0 EF, wind 0 GH, wind 90 EG, wind 90 FH. */
-typedef struct { int slope, value[4]; } gable_row;
-static const gable_row gables[3][8] = {
-    {{0, {-80, -40, -80, -40}},
-     {50, {-90, -40, -80, -40}},
-     {100, {-120, -40, -80, -60}},
-     {200, {-40, -40, -70, -60}},
-     {300, {0, -40, -70, -60}},
-     {450, {30, -50, -70, -60}},
-     {600, {70, -60, -70, -60}}},
-    {{0, {-80, -60, -100, -60}},
-     {50, {-90, -60, -90, -60}},
-     {100, {-110, -60, -80, -60}},
-     {200, {-70, -50, -80, -60}},
-     {300, {-20, -50, -80, -80}},
-     {450, {20, -50, -80, -80}},
-     {600, {60, -50, -80, -80}}},
-    {{0, {-70, -60, -90, -70}},
-     {50, {-70, -60, -80, -80}},
-     {100, {-70, -60, -80, -80}},
-     {200, {-80, -60, -80, -80}},
-     {300, {-100, -50, -80, -70}},
-     {400, {-20, -50, -80, -70}},
-     {500, {20, -50, -80, -70}},
-     {600, {50, -50, -80, -70}}},
+static const printed_row gables[3][8] = {
+    {{1, 0, {-80, -40, -80, -40}},
+     {2, 50, {-90, -40, -80, -40}},
+     {3, 100, {-120, -40, -80, -60}},
+     {4, 200, {-40, -40, -70, -60}},
+     {5, 300, {0, -40, -70, -60}},
+     {6, 450, {30, -50, -70, -60}},
+     {7, 600, {70, -60, -70, -60}}},
+    {{8, 0, {-80, -60, -100, -60}},
+     {9, 50, {-90, -60, -90, -60}},
+     {10, 100, {-110, -60, -80, -60}},
+     {11, 200, {-70, -50, -80, -60}},
+     {12, 300, {-20, -50, -80, -80}},
+     {13, 450, {20, -50, -80, -80}},
+     {14, 600, {60, -50, -80, -80}}},
+    {{15, 0, {-70, -60, -90, -70}},
+     {16, 50, {-70, -60, -80, -80}},
+     {17, 100, {-70, -60, -80, -80}},
+     {18, 200, {-80, -60, -80, -80}},
+     {19, 300, {-100, -50, -80, -70}},
+     {20, 400, {-20, -50, -80, -70}},
+     {21, 500, {20, -50, -80, -70}},
+     {22, 600, {50, -50, -80, -70}}},
 };
 
-/* Flat roofs: rows at thousandths of h, or at tenths of a degree for a mansard; E, L1, L2. */
-typedef struct { int at, value[3]; } flat_row;
-static const flat_row straight_row[] = {{0, {-70, -250, -200}}};
-static const flat_row parapet_rows[] = {{25, {-70, -220, -180}}, {50, {-70, -200, -160}}, {100, {-70, -180, -140}}};
-static const flat_row curved_rows[] = {{50, {-40, -150, -180}}, {100, {-30, -120, -140}}, {200, {-30, -80, -80}}};
-static const flat_row mansard_rows[] = {
-    {300, {-30, -150, -150}}, {450, {-40, -180, -190}}, {600, {-50, -190, -190}}, {900, {-70, -250, -200}}};
+/* Flat roofs: rows at thousandths of h, or at tenths of a degree for a mansard, which ends in row 1; E, L1, L2. */
+static const printed_row straight_row = {1, 0, {-70, -250, -200}};
+static const printed_row parapet_rows[] = {
+    {2, 25, {-70, -220, -180}}, {3, 50, {-70, -200, -160}}, {4, 100, {-70, -180, -140}}};
+static const printed_row curved_rows[] = {
+    {5, 50, {-40, -150, -180}}, {6, 100, {-30, -120, -140}}, {7, 200, {-30, -80, -80}}};
+static const printed_row mansard_rows[] = {{8, 300, {-30, -150, -150}},
+                                           {9, 450, {-40, -180, -190}},
+                                           {10, 600, {-50, -190, -190}},
+                                           {1, 900, {-70, -250, -200}}};
 
 static int flat(const building *house) { return house->kind >= STRAIGHT; }
 
@@ -81,52 +86,76 @@ static int height_block(const building *house)
 
 static int side_block(const building *house) { return 2 * house->a > 3 * house->b; }
 
-/* The line from v at s to w at t, met at x: hundredths in, thousandths out, rounded once, a half away from zero. */
-static int on_line(int64_t s, int v, int64_t t, int w, int64_t x)
+/* ---- The outside coefficients ---- */
+
+/* `count` coefficients in thousandths, found `part` of `whole` from row `lower` to row `upper`; the fraction is as it
+   came up, not yet in lowest terms. */
+typedef struct { int count, value[2], lower, upper; int64_t part, whole; } finding;
+
+static finding on_row(int number, int hundredths) { return (finding){1, {10 * hundredths, 0}, number, number, 0, 1}; }
+
+/* The line from v to w, met part/whole of the way: hundredths in, thousandths out, rounded once, a half away from 0. */
+static int on_line(int v, int w, int64_t part, int64_t whole)
 {
-    int64_t width = t - s, exact = 10 * (v * (t - x) + w * (x - s)), size = exact < 0 ? -exact : exact;
-    int rounded = (int)((2 * size + width) / (2 * width));
+    int64_t exact = 10 * (v * (whole - part) + w * part), size = exact < 0 ? -exact : exact;
+    int rounded = (int)((2 * size + whole) / (2 * whole));
     return exact < 0 ? -rounded : rounded;
 }
 
-static int gable_value(const building *house, int column)
+/* The rows stand at multiples of the unit, and x is not past the last. */
+static finding between_rows(const printed_row *row, int column, int64_t unit, int64_t x)
 {
-    const gable_row *row = gables[height_block(house)];
-    while (house->x > row[1].slope) row++;
-    return on_line(row[0].slope, row[0].value[column], row[1].slope, row[1].value[column], house->x);
-}
-
-static int flat_value(const building *house, int column)
-{
-    const flat_row *row = house->kind == PARAPET ? parapet_rows : house->kind == CURVED ? curved_rows : mansard_rows;
-    int64_t unit = house->kind == MANSARD ? 1 : house->h, x = house->kind == MANSARD ? house->x : 1000 * house->x;
-    if (house->kind == STRAIGHT) return 10 * straight_row[0].value[column];
     while (x > row[1].at * unit) row++;
-    return on_line(row[0].at * unit, row[0].value[column], row[1].at * unit, row[1].value[column], x);
+    int64_t part = x - row[0].at * unit, whole = (row[1].at - row[0].at) * unit;
+    if (part == 0) return on_row(row[0].number, row[0].value[column]);
+    if (part == whole) return on_row(row[1].number, row[1].value[column]);
+    int value = on_line(row[0].value[column], row[1].value[column], part, whole);
+    return (finding){1, {value, 0}, row[0].number, row[1].number, part, whole};
 }
 
-/* The outside coefficients of a place in thousandths, and how many; 0 where the building has no such place. */
-static int outside(const building *house, int direction, uint8_t place, int value[2])
+static finding on_wall(const building *house, int ninety, uint8_t place)
+{
+    int tall = height_block(house), wide = side_block(house);
+    int hundredths = place == 'w' ? walls[tall][wide].local : walls[tall][wide].general[ninety][place - 'A'];
+    return on_row(2 * tall + wide + 1, hundredths);
+}
+
+static finding on_gable(const building *house, int ninety, uint8_t place)
+{
+    int second = ninety ? place == 'F' || place == 'H' : place >= 'G';
+    return between_rows(gables[height_block(house)], 2 * ninety + second, 1, house->x);
+}
+
+static finding on_flat(const building *house, int column)
+{
+    switch (house->kind) {
+    case PARAPET: return between_rows(parapet_rows, column, house->h, 1000 * house->x);
+    case CURVED: return between_rows(curved_rows, column, house->h, 1000 * house->x);
+    case MANSARD: return between_rows(mansard_rows, column, 1, house->x);
+    default: return on_row(straight_row.number, straight_row.value[column]);
+    }
+}
+
+/* Zone F of a flat roof has the rows of E, and in each of them both signs of one value. */
+static finding on_flat_f(const building *house)
+{
+    finding f = on_flat(house, 0);
+    f.count = 2;
+    f.value[0] = 200;
+    f.value[1] = -200;
+    return f;
+}
+
+/* What the tables have for a place; no coefficient where the building has no such place. */
+static finding outside(const building *house, int direction, uint8_t place)
 {
     int ninety = direction == 90;
-    value[0] = value[1] = 0;
-    if ('A' <= place && place <= 'D') {
-        value[0] = 10 * walls[height_block(house)][side_block(house)].general[ninety][place - 'A'];
-    } else if (place == 'w') {
-        value[0] = 10 * walls[height_block(house)][side_block(house)].local;
-    } else if (house->kind == GABLE && 'E' <= place && place <= 'H') {
-        int second = ninety ? place == 'F' || place == 'H' : place >= 'G';
-        value[0] = gable_value(house, 2 * ninety + second);
-    } else if (flat(house) && place == 'F') {
-        value[0] = 200;
-        value[1] = -200;
-        return 2;
-    } else if (flat(house) && (place == 'E' || place == '1' || place == '2')) {
-        value[0] = flat_value(house, place == 'E' ? 0 : place - '0');
-    } else {
-        return 0;
-    }
-    return 1;
+    if (('A' <= place && place <= 'D') || place == 'w') return on_wall(house, ninety, place);
+    if (house->kind == GABLE && 'E' <= place && place <= 'H') return on_gable(house, ninety, place);
+    if (flat(house) && place == 'F') return on_flat_f(house);
+    if (flat(house) && place == 'E') return on_flat(house, 0);
+    if (flat(house) && (place == '1' || place == '2')) return on_flat(house, place - '0');
+    return (finding){0};
 }
 
 static int zone_exists(const building *house, char zone)
@@ -359,8 +388,10 @@ static void gather_offers(const job *j, worst *w)
         const face *f = &j->face[i];
         for (int ninety = 0; ninety < 2; ninety++) {
             offer *o = &w->offer[i][ninety];
-            if (!used[ninety] || (f->mark != BOTH && f->mark != 90 * ninety)) o->count = 0;
-            else o->count = outside(&j->house, 90 * ninety, (uint8_t)f->zone, o->value);
+            *o = (offer){0};
+            if (!used[ninety] || (f->mark != BOTH && f->mark != 90 * ninety)) continue;
+            finding here = outside(&j->house, 90 * ninety, (uint8_t)f->zone);
+            *o = (offer){here.count, {here.value[0], here.value[1]}};
         }
     }
 }
@@ -485,20 +516,38 @@ aral_text ENTRY(digits)(int64_t number, uint8_t *out, size_t room)
     return hand_over(&w, out, room);
 }
 
+static aral_coefficient refused(int fault, uint32_t line)
+{
+    return (aral_coefficient){.number = (uint32_t)fault, .line = line};
+}
+
+/* The greatest number that divides both. */
+static int64_t common(int64_t p, int64_t q) { return q == 0 ? p : common(q, p % q); }
+
+static aral_coefficient answered(const finding *f)
+{
+    int64_t shared = common(f->part, f->whole);
+    return (aral_coefficient){.count = (uint32_t)f->count,
+                              .value = {f->value[0], f->value[1]},
+                              .lower = (uint32_t)f->lower,
+                              .upper = (uint32_t)f->upper,
+                              .part = (uint32_t)(f->part / shared),
+                              .whole = (uint32_t)(f->whole / shared)};
+}
+
 aral_coefficient ENTRY(outside)(int64_t h, int64_t a, int64_t b, int64_t density, int64_t kind, int64_t x,
                                 int64_t direction, uint8_t place)
 {
     building house = {h, a, b, density, kind, x};
     int64_t number[6] = {h, a, b, density, kind, x};
-    int value[2], fault = 0;
+    int fault = 0;
     for (int i = 0; i < 6; i++)
         if (!within(number[i], -9999999, 9999999)) fault = FORM;
     if (!fault) fault = building_fault(&house);
-    if (fault) return (aral_coefficient){(uint32_t)fault, 2, 0, {0, 0}};
-    if (direction != 0 && direction != 90) return (aral_coefficient){RANGE, 0, 0, {0, 0}};
-    int count = outside(&house, (int)direction, place, value);
-    if (count == 0) return (aral_coefficient){PLACE, 0, 0, {0, 0}};
-    return (aral_coefficient){0, 0, (uint32_t)count, {value[0], value[1]}};
+    if (fault) return refused(fault, 2);
+    if (direction != 0 && direction != 90) return refused(RANGE, 0);
+    finding f = outside(&house, (int)direction, place);
+    return f.count ? answered(&f) : refused(PLACE, 0);
 }
 
 aral_coefficient ENTRY(net)(int64_t h, int64_t a, int64_t b, int64_t density, int64_t kind, int64_t x,
@@ -506,7 +555,7 @@ aral_coefficient ENTRY(net)(int64_t h, int64_t a, int64_t b, int64_t density, in
 {
     aral_coefficient c = ENTRY(outside)(h, a, b, density, kind, x, direction, place);
     if (c.number) return c;
-    if (!within(internal, -100, 100)) return (aral_coefficient){RANGE, 0, 0, {0, 0}};
+    if (!within(internal, -100, 100)) return refused(RANGE, 0);
     for (uint32_t i = 0; i < c.count; i++) c.value[i] -= 10 * (int32_t)internal;
     return c;
 }

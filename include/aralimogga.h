@@ -1,6 +1,7 @@
 /* The entry points of libaralimogga.a, a proved wind load calculator, for a host program in C.
    Each call answers one record by value. None keeps anything between calls, none allocates, none prints and none
-   fails otherwise than by the numbers below, so any thread may call any of them at any time.
+   fails otherwise than by the numbers below, so any thread may call any of them at any time. The library's objects are
+   x86-64 code on every machine.
 
    number  given when
    0       accepted; the line is 0 too
@@ -27,6 +28,26 @@
 extern "C" {
 #endif
 
+/* The version of these shapes: it rises where a record or a call changes. 2: a coefficient names its rows. */
+#define ARAL_VERSION 2
+
+/* The refusals by name. */
+enum {
+    ARAL_FORM = 1,
+    ARAL_COUNT = 2,
+    ARAL_RANGE = 3,
+    ARAL_WALLS = 4,
+    ARAL_ROOF = 5,
+    ARAL_ZONE = 6,
+    ARAL_ROOM = 7
+};
+
+/* The greatest lengths: of an acceptable sheet, a report and the digits of a number in bytes, and of a job's faces. */
+#define ARAL_SHEET_MOST 827
+#define ARAL_REPORT_MOST 474
+#define ARAL_DIGITS_MOST 20
+#define ARAL_FACES_MOST 24
+
 /* Accepted (0, 0), or the refusal. */
 typedef struct { uint32_t number, line; } aral_answer;
 
@@ -34,15 +55,20 @@ typedef struct { uint32_t number, line; } aral_answer;
 typedef struct { uint32_t number, line; uint64_t length; } aral_text;
 
 /* `count` coefficients in thousandths, a zone's alternatives in order; entries past the count are 0. Only zone F of a
-   flat roof has two. They lie between the rows `lower` and `upper` of their table, `part` / `whole` of the way from
-   `lower` to `upper`, in lowest terms; on a row itself, and on walls, both are that row and the fraction is 0 / 1. Rows
-   are numbered from 1 in the book's order: walls 1 to 6; gable 1 to 22; flat 1 to 10, straight eaves being 1, where a
-   mansard of 90 degrees stands too. A net coefficient has the rows of the outside one.
+   flat roof has two.
+   The rest says which printed rows they come from: the outside coefficient lies `part`/`whole` of the way from row
+   `lower` to row `upper`, and was rounded after that. The fraction is exact and in lowest terms. On a row itself, and
+   where the table has nothing to interpolate, both are that row and the fraction is 0/1. A net coefficient has the rows
+   of its outside one, and zone F of a flat roof those of E.
+   Rows are numbered from 1 as the book prints them: in the table of the walls 1 to 6; of gables 1 to 22, 7 for h/b to
+   1/2, 7 to 3/2 and 8 above; of flat roofs straight eaves 1, parapets 2 to 4, curved eaves 5 to 7, mansards 8 to 10.
+   A mansard of over 60 degrees lies between row 10 and row 1, which stands at 90 degrees, counted from row 10.
    Everything after `line` is 0 where refused. */
 typedef struct {
     uint32_t number, line, count;
     int32_t value[2];
-    uint32_t lower, upper, part, whole;
+    uint32_t lower, upper;
+    uint32_t part, whole;
 } aral_coefficient;
 
 /* One of the six totals, in units of 0.00000000005 N (20,000,000,000 units are one newton), and the first case that
@@ -52,7 +78,7 @@ typedef struct {
     uint32_t number, line;
     int64_t total;
     uint32_t wind, internal, faces;
-    uint8_t alternative[24];
+    uint8_t alternative[ARAL_FACES_MOST];
 } aral_extreme;
 
 /* `exact` 1: low and high are both the number. `exact` 0: no double equals it, low is the nearest double below and
@@ -68,12 +94,12 @@ aral_answer aral_read(const uint8_t *sheet, size_t n);
 /* Reads a sheet and writes the job that was read as a sheet again.
    Refuses with 1 to 6 and the line as aral_read does; then with 7, line 0, where the text is longer than `room`.
    The text stands at the buffer's start and the bytes after it stay as they were; a refused call changes no byte.
-   No text is longer than 827 bytes. */
+   No text is longer than ARAL_SHEET_MOST bytes. */
 aral_text aral_rewrite(const uint8_t *sheet, size_t n, uint8_t *out, size_t room);
 
 /* Reads a sheet and writes the report of its worst cases: six lines, `x max`, `x min`, `y max`, `y min`, `z max`,
    `z min`, each followed by the total in units, the wind, the internal coefficient and each face's alternative.
-   Refusals and the buffer as for aral_rewrite. No report is longer than 474 bytes. */
+   Refusals and the buffer as for aral_rewrite. No report is longer than ARAL_REPORT_MOST bytes. */
 aral_text aral_report(const uint8_t *sheet, size_t n, uint8_t *out, size_t room);
 
 /* Reads a sheet and answers one line of its report as numbers: line 1 is `x max`, 2 `x min`, to 6 `z min`.
@@ -82,10 +108,10 @@ aral_extreme aral_total(const uint8_t *sheet, size_t n, int64_t line);
 
 /* Writes the decimal digits of any number, most significant first, after a `-` where it is negative.
    Refuses only with 7, line 0, where the text is longer than `room`. The buffer as for aral_rewrite.
-   No text is longer than 20 bytes. */
+   No text is longer than ARAL_DIGITS_MOST bytes. */
 aral_text aral_digits(int64_t number, uint8_t *out, size_t room);
 
-/* The outside coefficient of one place on a building under one wind direction, in thousandths.
+/* The outside coefficient of one place on a building under one wind direction, in thousandths, and its rows.
    Height h, longer side a and shorter side b in cm, density in g/m3, the roof's kind and its number x, as on line 2 of
    a sheet. `place` is the letter of a zone, `A` to `H`, or `w` for the wall local, `1` for L1, `2` for L2.
    Refuses, in this order: the building with 1, 3, 4 or 5 at line 2, as its sheet would be (1 for a number of more than
