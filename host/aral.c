@@ -28,7 +28,7 @@ static const char help[] =
 
 /* ---- Sheets ---- */
 
-/* The longest acceptable sheet has 827 bytes, so what lies past this much of a text changes no answer. */
+/* No acceptable sheet is so long (ARAL_SHEET_MOST), so what lies past this much of a text changes no answer. */
 static uint8_t sheet[1 << 16];
 static size_t length;
 

@@ -11,7 +11,7 @@
 #include <stdlib.h>
 #include <string.h>
 
-enum { OUT = 1024, WALKED = 4096, LONGEST_SHEET = 827, LONGEST_REPORT = 474 };
+enum { OUT = 1024, WALKED = 4096 };
 static struct { unsigned long sheets, accepted, refused[8], walked, questions, answered, numbers, calls; } tally;
 static dice die;
 
@@ -62,7 +62,7 @@ static aral_text compare_writing(const char *what, writes *ours, writes *theirs,
     }
     if (p.number == 0 && ours == aral_rewrite && (p.length != t->length || memcmp(mine, t->byte, p.length)))
         differ("an accepted sheet and the sheet written again", t);
-    if (p.length > (ours == aral_rewrite ? LONGEST_SHEET : LONGEST_REPORT)) differ("a length and the header's", t);
+    if (p.length > (ours == aral_rewrite ? ARAL_SHEET_MOST : ARAL_REPORT_MOST)) differ("a length and the header's", t);
     return p;
 }
 
@@ -143,7 +143,27 @@ static void compare_sheets(unsigned long count)
 static int same_coefficient(const aral_coefficient *p, const aral_coefficient *q)
 {
     return p->number == q->number && p->line == q->line && p->count == q->count && p->value[0] == q->value[0]
-        && p->value[1] == q->value[1];
+        && p->value[1] == q->value[1] && p->lower == q->lower && p->upper == q->upper && p->part == q->part
+        && p->whole == q->whole;
+}
+
+/* That the rows are right by themselves: none where refused, one with 0/1, or two with a part of the way that no number
+   shortens, since none divides both. */
+static int right_rows(const aral_coefficient *c)
+{
+    if (c->number) return !c->lower && !c->upper && !c->part && !c->whole;
+    if (c->lower == c->upper) return c->lower > 0 && c->part == 0 && c->whole == 1;
+    uint32_t p = c->part, q = c->whole;
+    while (p > 0 && q > 0)
+        if (p > q) p %= q;
+        else q %= p;
+    return c->lower > 0 && c->upper > 0 && 0 < c->part && c->part < c->whole && p + q == 1;
+}
+
+static void show_coefficient(const char *whose, const aral_coefficient *c)
+{
+    printf("%s %u %u %u %d %d, ", whose, c->number, c->line, c->count, c->value[0], c->value[1]);
+    printf("rows %u and %u, %u/%u\n", c->lower, c->upper, c->part, c->whole);
 }
 
 static void ask_both(const sample *s, int64_t direction, uint8_t place, int64_t internal)
@@ -157,12 +177,12 @@ static void ask_both(const sample *s, int64_t direction, uint8_t place, int64_t 
     tally.questions++;
     tally.answered += p[0].number == 0;
     for (int net = 0; net < 2; net++) {
-        if (same_coefficient(&p[net], &q[net])) continue;
+        if (same_coefficient(&p[net], &q[net]) && right_rows(&p[net])) continue;
         printf("%s of %" PRId64 " %" PRId64 " %" PRId64 " %" PRId64 " %" PRId64 " %" PRId64, net ? "net" : "outside",
                s->h, s->a, s->b, s->density, s->kind, s->x);
         printf(", direction %" PRId64 ", place %u, internal %" PRId64 "\n", direction, place, internal);
-        printf("library %u %u %u %d %d, ", p[net].number, p[net].line, p[net].count, p[net].value[0], p[net].value[1]);
-        printf("plain %u %u %u %d %d\n", q[net].number, q[net].line, q[net].count, q[net].value[0], q[net].value[1]);
+        show_coefficient("library", &p[net]);
+        show_coefficient("plain", &q[net]);
         differ("a question", NULL);
     }
 }

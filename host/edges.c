@@ -10,7 +10,7 @@
 #include <string.h>
 #include <sys/mman.h>
 
-enum { PAGE = 65536, WATCHED = 4096, FILL = 0xa5, LONGEST = 827 }; /* PAGE: a multiple of any machine's page */
+enum { PAGE = 65536, WATCHED = 4096, FILL = 0xa5 }; /* PAGE: a multiple of any machine's page */
 typedef struct { uint8_t *start, *end; } fence; /* bytes between two pages that can't be touched */
 static fence input, output;
 static unsigned long calls;
@@ -162,7 +162,7 @@ static void longest(text *t)
         for (int axis = 0; axis < 3; axis++) s.area[i][axis] = -100000;
     }
     write_sample(&s, t);
-    if (t->length != LONGEST || aral_read(t->byte, t->length).number) fail("the longest sheet");
+    if (t->length != ARAL_SHEET_MOST || aral_read(t->byte, t->length).number) fail("the longest sheet");
 }
 
 static void no_pointers(const text *t)

@@ -25,39 +25,56 @@ static void expect(const calculator *c, const char *what, int holds)
     printf("%s: not so: %s\n", c->name, what);
 }
 
+/* Rows by hand. The walls' rows go h/b to 1/2, 3/2, 6, and in each a/b to 3/2, 4: P1 and P3 are in row 1, P4 and P6
+   in 2, P2 in 3, P7 in 5. Gable slopes 0, 5, 10, 20, 30, 45, 60 are rows 1 to 7, and 8 to 14 in the second block; the
+   third has 40 and 50 for 45: rows 15 to 22. P8: (12.3 - 10) / (20 - 10) = 23/100. P9: (45.1 - 45) / (60 - 45) = 1/150.
+   P10: (15 - 10) / 10 = 1/2. P11: x/h = 603/12000 = 0.05025, and (0.05025 - 0.05) / (0.10 - 0.05) = 1/200; so is
+   201/4000. 601 tenths of a degree: (60.1 - 60) / (90 - 60) = 1/300. 350 of 4000: (0.0875 - 0.05) / 0.05 = 3/4. */
 typedef struct {
     const char *name;
     int64_t h, a, b, kind, x, direction;
     char place;
     uint32_t number, line;
     int32_t value;
+    uint32_t lower, upper, part, whole;
 } row;
 static const row questions[] = {
-    {"P1", 500, 1200, 1000, 0, 0, 0, 'B', 0, 0, -200},
-    {"P2", 501, 1200, 1000, 0, 0, 0, 'B', 0, 0, -250},
-    {"P3", 500, 1500, 1000, 0, 0, 0, 'C', 0, 0, -500},
-    {"P4", 500, 1501, 1000, 0, 0, 0, 'C', 0, 0, -600},
-    {"P5", 500, 1000, 1000, 0, 0, 0, 'A', 4, 2, 0},
-    {"P6 accepted", 500, 4000, 1000, 0, 0, 0, 'A', 0, 0, 700},
-    {"P6 refused", 500, 4001, 1000, 0, 0, 0, 'A', 4, 2, 0},
-    {"P7 accepted", 6000, 1200, 1000, 0, 0, 0, 'A', 0, 0, 800},
-    {"P7 refused", 6001, 1200, 1000, 0, 0, 0, 'A', 4, 2, 0},
-    {"P8", 500, 1200, 1000, 1, 123, 0, 'E', 0, 0, -1016},
-    {"P9", 500, 1200, 1000, 1, 451, 0, 'E', 0, 0, 303},
-    {"P10", 500, 1200, 1000, 1, 150, 0, 'E', 0, 0, -800},
-    {"P11", 12000, 12000, 10000, 4, 603, 0, '1', 0, 0, -1499},
-    {"half, away from zero", 4000, 1200, 1000, 4, 201, 0, 'E', 0, 0, -400},
-    {"the third gable block has 40 degrees", 1501, 1200, 1000, 1, 400, 0, 'E', 0, 0, -200},
-    {"the third gable block has 50 degrees", 1501, 1200, 1000, 1, 500, 0, 'E', 0, 0, 200},
-    {"straight eaves at 90", 500, 1200, 1000, 5, 900, 0, '1', 0, 0, -2500},
-    {"no local on a gable", 500, 1200, 1000, 1, 100, 0, '1', 6, 0, 0},
-    {"no roof zone without a roof", 500, 1200, 1000, 0, 0, 90, 'E', 6, 0, 0},
-    {"the direction, for locals too", 500, 1200, 1000, 2, 0, 45, 'w', 3, 0, 0},
-    {"the direction before the zone", 500, 1200, 1000, 0, 0, 45, 'E', 3, 0, 0},
-    {"the building before the direction", 500, 1000, 1000, 0, 0, 45, 'E', 4, 2, 0},
-    {"eight digits are a form fault", 10000000, 1200, 1000, 0, 0, 0, 'A', 1, 2, 0},
-    {"seven digits are out of range", 9999999, 1200, 1000, 0, 0, 0, 'A', 3, 2, 0},
-    {"no such roof number", 500, 1200, 1000, 2, 1, 0, 'A', 5, 2, 0},
+    {"P1", 500, 1200, 1000, 0, 0, 0, 'B', 0, 0, -200, 1, 1, 0, 1},
+    {"P2", 501, 1200, 1000, 0, 0, 0, 'B', 0, 0, -250, 3, 3, 0, 1},
+    {"P3", 500, 1500, 1000, 0, 0, 0, 'C', 0, 0, -500, 1, 1, 0, 1},
+    {"P4", 500, 1501, 1000, 0, 0, 0, 'C', 0, 0, -600, 2, 2, 0, 1},
+    {"P5", 500, 1000, 1000, 0, 0, 0, 'A', 4, 2, 0, 0, 0, 0, 0},
+    {"P6 accepted", 500, 4000, 1000, 0, 0, 0, 'A', 0, 0, 700, 2, 2, 0, 1},
+    {"P6 refused", 500, 4001, 1000, 0, 0, 0, 'A', 4, 2, 0, 0, 0, 0, 0},
+    {"P7 accepted", 6000, 1200, 1000, 0, 0, 0, 'A', 0, 0, 800, 5, 5, 0, 1},
+    {"P7 refused", 6001, 1200, 1000, 0, 0, 0, 'A', 4, 2, 0, 0, 0, 0, 0},
+    {"P8", 500, 1200, 1000, 1, 123, 0, 'E', 0, 0, -1016, 3, 4, 23, 100},
+    {"P9", 500, 1200, 1000, 1, 451, 0, 'E', 0, 0, 303, 6, 7, 1, 150},
+    {"P10", 500, 1200, 1000, 1, 150, 0, 'E', 0, 0, -800, 3, 4, 1, 2},
+    {"P11", 12000, 12000, 10000, 4, 603, 0, '1', 0, 0, -1499, 5, 6, 1, 200},
+    {"P12's coefficient", 500, 1200, 1000, 0, 0, 0, 'A', 0, 0, 700, 1, 1, 0, 1},
+    {"half, away from zero", 4000, 1200, 1000, 4, 201, 0, 'E', 0, 0, -400, 5, 6, 1, 200},
+    {"the local of the last row", 1501, 1501, 1000, 0, 0, 90, 'w', 0, 0, -1200, 6, 6, 0, 1},
+    {"the first slope", 500, 1200, 1000, 1, 0, 0, 'E', 0, 0, -800, 1, 1, 0, 1},
+    {"the last slope of the second block", 1500, 1200, 1000, 1, 600, 90, 'H', 0, 0, -800, 14, 14, 0, 1},
+    {"equal neighbours are two rows all the same", 500, 1200, 1000, 1, 75, 0, 'G', 0, 0, -400, 2, 3, 1, 2},
+    {"the third gable block begins at row 15", 1501, 1200, 1000, 1, 25, 90, 'E', 0, 0, -850, 15, 16, 1, 2},
+    {"the third gable block has 40 degrees", 1501, 1200, 1000, 1, 400, 0, 'E', 0, 0, -200, 20, 20, 0, 1},
+    {"the third gable block has 50 degrees", 1501, 1200, 1000, 1, 500, 0, 'E', 0, 0, 200, 21, 21, 0, 1},
+    {"straight eaves", 500, 1200, 1000, 2, 0, 0, 'E', 0, 0, -700, 1, 1, 0, 1},
+    {"the least parapet", 4000, 1200, 1000, 3, 100, 0, '2', 0, 0, -1800, 2, 2, 0, 1},
+    {"a parapet between", 4000, 1200, 1000, 3, 350, 0, '1', 0, 0, -1850, 3, 4, 3, 4},
+    {"a mansard on its last own row", 500, 1200, 1000, 5, 600, 0, '1', 0, 0, -1900, 10, 10, 0, 1},
+    {"a mansard towards straight eaves", 500, 1200, 1000, 5, 601, 0, '1', 0, 0, -1902, 10, 1, 1, 300},
+    {"straight eaves at 90", 500, 1200, 1000, 5, 900, 0, '1', 0, 0, -2500, 1, 1, 0, 1},
+    {"no local on a gable", 500, 1200, 1000, 1, 100, 0, '1', 6, 0, 0, 0, 0, 0, 0},
+    {"no roof zone without a roof", 500, 1200, 1000, 0, 0, 90, 'E', 6, 0, 0, 0, 0, 0, 0},
+    {"the direction, for locals too", 500, 1200, 1000, 2, 0, 45, 'w', 3, 0, 0, 0, 0, 0, 0},
+    {"the direction before the zone", 500, 1200, 1000, 0, 0, 45, 'E', 3, 0, 0, 0, 0, 0, 0},
+    {"the building before the direction", 500, 1000, 1000, 0, 0, 45, 'E', 4, 2, 0, 0, 0, 0, 0},
+    {"eight digits are a form fault", 10000000, 1200, 1000, 0, 0, 0, 'A', 1, 2, 0, 0, 0, 0, 0},
+    {"seven digits are out of range", 9999999, 1200, 1000, 0, 0, 0, 'A', 3, 2, 0, 0, 0, 0, 0},
+    {"no such roof number", 500, 1200, 1000, 2, 1, 0, 'A', 5, 2, 0, 0, 0, 0, 0},
 };
 
 #define SAMPLE "B 1\n500 1200 1000 1250 2 0\nW 1\n0 400\nI 2\n20\n-30\n" \
@@ -101,22 +118,44 @@ static const verdict sheets[] = {
 static const char report[] = "x max 180000000000000 1 1 1 1 1\nx min 180000000000000 1 1 1 1 1\ny max 0 1 1 1 1 1\n"
                              "y min 0 1 1 1 1 1\nz max 160000000000000 1 1 1 1 2\nz min -200000000000000 1 2 1 1 1\n";
 
-static void check_questions(const calculator *c)
+static int has_rows(const aral_coefficient *c, uint32_t lower, uint32_t upper, uint32_t part, uint32_t whole)
+{
+    return c->lower == lower && c->upper == upper && c->part == part && c->whole == whole;
+}
+
+/* Every question, outside and net of an internal coefficient of 0, which changes nothing. */
+static void check_table(const calculator *c)
 {
     for (size_t i = 0; i < sizeof questions / sizeof *questions; i++) {
         const row *q = &questions[i];
-        aral_coefficient r = c->outside(q->h, q->a, q->b, 1250, q->kind, q->x, q->direction, (uint8_t)q->place);
-        expect(c, q->name, r.number == q->number && r.line == q->line && r.value[0] == q->value && r.value[1] == 0
-                               && r.count == (q->number ? 0 : 1));
+        uint8_t place = (uint8_t)q->place;
+        aral_coefficient answer[] = {c->outside(q->h, q->a, q->b, 1250, q->kind, q->x, q->direction, place),
+                                     c->net(q->h, q->a, q->b, 1250, q->kind, q->x, q->direction, place, 0)};
+        for (int net = 0; net < 2; net++) {
+            const aral_coefficient *r = &answer[net];
+            expect(c, q->name, r->number == q->number && r->line == q->line && r->value[0] == q->value
+                                   && r->value[1] == 0 && r->count == (q->number ? 0 : 1)
+                                   && has_rows(r, q->lower, q->upper, q->part, q->whole));
+        }
     }
+}
+
+/* Zone F has the rows of E; (1400 - 800) / (1600 - 800) at h 8000 is 3/4. The net's 82/1600 = 0.05125 is 1/40. */
+static void check_questions(const calculator *c)
+{
     aral_coefficient f = c->outside(500, 1200, 1000, 1250, 2, 0, 90, 'F');
     expect(c, "zone F of a flat roof has +0.2 and -0.2", f.count == 2 && f.value[0] == 200 && f.value[1] == -200);
+    expect(c, "zone F of straight eaves is in row 1", has_rows(&f, 1, 1, 0, 1));
+    f = c->net(8000, 9600, 8000, 1250, 4, 1400, 90, 'F', 20);
+    expect(c, "zone F's net", f.count == 2 && f.value[0] == 0 && f.value[1] == -400 && has_rows(&f, 6, 7, 3, 4));
     f = c->net(1600, 1200, 1000, 1250, 4, 82, 0, 'E', -100);
     expect(c, "rounded first, then the internal comes off", f.number == 0 && f.value[0] == 602);
+    expect(c, "the net has the rows of the outside", has_rows(&f, 5, 6, 1, 40));
     f = c->net(500, 1200, 1000, 1250, 0, 0, 0, 'E', 101);
-    expect(c, "the zone before the internal coefficient", f.number == 6 && f.line == 0);
+    expect(c, "the zone before the internal coefficient", f.number == 6 && f.line == 0 && has_rows(&f, 0, 0, 0, 0));
     f = c->net(500, 1200, 1000, 1250, 0, 0, 0, 'A', 101);
-    expect(c, "the internal coefficient's range", f.number == 3 && f.line == 0 && f.count == 0);
+    expect(c, "the internal coefficient's range", f.number == 3 && f.line == 0 && f.count == 0 && f.value[0] == 0);
+    expect(c, "no rows where the internal coefficient is refused", has_rows(&f, 0, 0, 0, 0));
 }
 
 static void check_sheets(const calculator *c)
@@ -160,6 +199,7 @@ static void check_doubles(const calculator *c)
 int main(void)
 {
     for (int i = 0; i < 2; i++) {
+        check_table(&both[i]);
         check_questions(&both[i]);
         check_sheets(&both[i]);
         check_greatest(&both[i]);
