@@ -1,5 +1,6 @@
 /* aral: the calculator on the command line, for people. It links libaralimogga.a and reckons nothing itself. */
 #include "aralimogga.h"
+#include "rows.h"
 #include "words.h"
 #include <errno.h>
 #include <inttypes.h>
@@ -15,7 +16,8 @@ static const char help[] =
     "  aral totals FILE   the six worst totals: axis, max or min, total, wind, internal, each face's alternative\n"
     "  aral check FILE    whether the sheet is accepted, and if not, which line is wrong and what it may say\n"
     "  aral panel FILE    the six totals in newtons, and the doubles that a panel shows for them\n"
-    "  aral ask WORDS     one coefficient, as:  aral ask h 500 a 1200 b 1000 kind 1 x 123 wind 0 zone E internal -30\n"
+    "  aral ask WORDS     one coefficient and the printed rows that it comes from, as:\n"
+    "                       aral ask h 500 a 1200 b 1000 kind 1 x 123 wind 0 zone E internal -30\n"
     "  aral help          this text\n"
     "\n"
     "FILE is a sheet, or - for standard input. A total is in units of 0.00000000005 N: 20000000000 of them are 1 N.\n"
@@ -196,22 +198,26 @@ static int refuse_question(const question *q, const aral_coefficient *c)
     return REFUSED;
 }
 
-static void answer_question(const question *q, const aral_coefficient *outside, const aral_coefficient *net)
+static void answer_question(const question *q, const asked *what, const aral_coefficient c[2])
 {
     print_place(q->place);
     printf(" of a building with ");
-    print_roof(q->number[KIND], q->number[X]);
-    printf(", wind %d:\n", (int)q->number[WIND]);
-    print_values("  outside", outside);
+    print_roof(what->kind, what->x);
+    printf(", wind %d:\n", (int)what->direction);
+    print_values("  outside", &c[0]);
+    printf("\n    ");
+    print_rows(what, &c[0]);
     printf("\n");
     if (q->given[INTERNAL]) {
-        print_values("  net", net);
+        print_values("  net", &c[1]);
         printf(", the outside less the internal ");
         print_thousandths(10 * (int32_t)q->number[INTERNAL]);
         printf("\n");
     }
+    printf("Rows are counted from 1 as table %s prints them.\n", table_of(what));
+    if (c->lower != c->upper) printf("Between rows a value is on the straight line, rounded once to a thousandth.\n");
     printf("A coefficient is the part of the wind's pressure that acts: positive pushes the surface, negative sucks.\n");
-    if (outside->count == 2) printf("Of two alternatives each face takes the one that is worse for the total.\n");
+    if (c->count == 2) printf("Of two alternatives each face takes the one that is worse for the total.\n");
     if (is_local(q->place)) printf("Local coefficients are for secondary elements and enter no total.\n");
 }
 
@@ -221,11 +227,13 @@ static int ask(int count, char **word)
     const int64_t *v = q.number;
     int status = take_words(count, word, &q);
     if (status) return status;
-    aral_coefficient outside = aral_outside(v[H], v[A], v[B], v[DENSITY], v[KIND], v[X], v[WIND], q.place);
-    aral_coefficient net = aral_net(v[H], v[A], v[B], v[DENSITY], v[KIND], v[X], v[WIND], q.place, v[INTERNAL]);
-    if (outside.number) return refuse_question(&q, &outside);
-    if (net.number) return refuse_question(&q, &net);
-    answer_question(&q, &outside, &net);
+    asked what = {v[H], v[A], v[B], v[DENSITY], v[KIND], v[X], v[WIND], q.place};
+    aral_coefficient c[] = {
+        aral_outside(v[H], v[A], v[B], v[DENSITY], v[KIND], v[X], v[WIND], q.place),
+        aral_net(v[H], v[A], v[B], v[DENSITY], v[KIND], v[X], v[WIND], q.place, v[INTERNAL])};
+    for (int net = 0; net < 2; net++)
+        if (c[net].number) return refuse_question(&q, &c[net]);
+    answer_question(&q, &what, c);
     return ACCEPTED;
 }
 

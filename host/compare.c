@@ -147,8 +147,8 @@ static int same_coefficient(const aral_coefficient *p, const aral_coefficient *q
         && p->whole == q->whole;
 }
 
-/* That the rows are right by themselves: none where refused, one with 0/1, or two with a part of the way that no number
-   shortens, since none divides both. */
+/* That the rows are right by themselves: none where refused, one with 0/1, or two with a fraction between 0 and 1 in
+   lowest terms. */
 static int right_rows(const aral_coefficient *c)
 {
     if (c->number) return !c->lower && !c->upper && !c->part && !c->whole;

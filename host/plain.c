@@ -94,7 +94,7 @@ typedef struct { int count, value[2], lower, upper; int64_t part, whole; } findi
 
 static finding on_row(int number, int hundredths) { return (finding){1, {10 * hundredths, 0}, number, number, 0, 1}; }
 
-/* The line from v to w, met part/whole of the way: hundredths in, thousandths out, rounded once, a half away from 0. */
+/* The line from v to w, part/whole of the way: hundredths in, thousandths out, rounded once, a half away from zero. */
 static int on_line(int v, int w, int64_t part, int64_t whole)
 {
     int64_t exact = 10 * (v * (whole - part) + w * part), size = exact < 0 ? -exact : exact;

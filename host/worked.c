@@ -25,11 +25,11 @@ static void expect(const calculator *c, const char *what, int holds)
     printf("%s: not so: %s\n", c->name, what);
 }
 
-/* Rows by hand. The walls' rows go h/b to 1/2, 3/2, 6, and in each a/b to 3/2, 4: P1 and P3 are in row 1, P4 and P6
-   in 2, P2 in 3, P7 in 5. Gable slopes 0, 5, 10, 20, 30, 45, 60 are rows 1 to 7, and 8 to 14 in the second block; the
-   third has 40 and 50 for 45: rows 15 to 22. P8: (12.3 - 10) / (20 - 10) = 23/100. P9: (45.1 - 45) / (60 - 45) = 1/150.
-   P10: (15 - 10) / 10 = 1/2. P11: x/h = 603/12000 = 0.05025, and (0.05025 - 0.05) / (0.10 - 0.05) = 1/200; so is
-   201/4000. 601 tenths of a degree: (60.1 - 60) / (90 - 60) = 1/300. 350 of 4000: (0.0875 - 0.05) / 0.05 = 3/4. */
+/* Rows by hand. The walls' rows go h/b to 1/2, 3/2, 6, and in each a/b to 3/2, 4: P1, P3 and P12 are in row 1, P4 and
+   P6 in 2, P2 in 3, P7 in 5. Gable slopes 0, 5, 10, 20, 30, 45, 60 are rows 1 to 7, and 8 to 14 in the second block;
+   the third has 40 and 50 for 45: rows 15 to 22. P8: (12.3 - 10) / (20 - 10) = 23/100. P9: (45.1 - 45) / (60 - 45) =
+   1/150. P10: (15 - 10) / 10 = 1/2. P11: x/h = 603/12000 = 0.05025, and (0.05025 - 0.05) / (0.10 - 0.05) = 1/200; so
+   is 201/4000. A parapet of 350 in 4000: (0.0875 - 0.05) / 0.05 = 3/4. A mansard of 60.1: 0.1 / (90 - 60) = 1/300. */
 typedef struct {
     const char *name;
     int64_t h, a, b, kind, x, direction;

@@ -42,7 +42,7 @@ enum {
     ARAL_ROOM = 7
 };
 
-/* The greatest lengths: of an acceptable sheet, a report and the digits of a number in bytes, and of a job's faces. */
+/* The greatest lengths: in bytes of an acceptable sheet, a report and the digits of a number; and of a job's faces. */
 #define ARAL_SHEET_MOST 827
 #define ARAL_REPORT_MOST 474
 #define ARAL_DIGITS_MOST 20

@@ -1,0 +1,78 @@
+/* Says which printed rows a coefficient comes from. Where each row stands is written here; what is printed in it is
+   asked of the library at that place, so that no coefficient is written twice. */
+#include "rows.h"
+#include <stdio.h>
+
+/* Gables at tenths of a degree: rows 1 to 7 for h/b to 1/2, 8 to 14 to 3/2, 15 to 22 above. */
+static const int gable_at[] = {0, 50, 100, 200, 300, 450, 600, 0, 50, 100, 200, 300, 450, 600,
+                               0, 50, 100, 200, 300, 400, 500, 600};
+
+/* Flat roofs, the kind of each row and where it stands: parapets and curved eaves at thousandths of h, mansards at
+   tenths of a degree. */
+static const struct { int kind, at; } flat_at[] = {{2, 0},   {3, 25},  {3, 50},  {3, 100}, {4, 50},
+                                                   {4, 100}, {4, 200}, {5, 300}, {5, 450}, {5, 600}};
+
+static int on_wall(const asked *q) { return (q->place >= 'A' && q->place <= 'D') || q->place == 'w'; }
+
+/* Where a row stands, as the book says it. */
+static void print_place_of_row(const asked *q, uint32_t row)
+{
+    static const char *const tall[] = {"to 1/2", "over 1/2 to 3/2", "over 3/2 to 6"};
+    static const char *const wide[] = {"to 3/2", "over 3/2 to 4"};
+    uint32_t k = row - 1;
+    if (on_wall(q)) printf("h/b %s, a/b %s", tall[k / 2], wide[k % 2]);
+    else if (q->kind == 1) printf("%d degrees", gable_at[k] / 10);
+    else if (flat_at[k].kind == 2) printf("straight eaves%s", q->kind == 5 ? " at 90 degrees" : "");
+    else if (flat_at[k].kind == 5) printf("%d degrees", flat_at[k].at / 10);
+    else printf("x/h 0.%03d", flat_at[k].at);
+}
+
+/* What is printed for the place in a row of a roof's table. On flat roofs h, a and b make no difference: those here
+   put every row at a whole number of centimetres. */
+static aral_coefficient printed_in(const asked *q, uint32_t row)
+{
+    uint32_t k = row - 1;
+    if (q->kind == 1) return aral_outside(q->h, q->a, q->b, q->density, 1, gable_at[k], q->direction, q->place);
+    int kind = flat_at[k].kind, x = kind == 5 ? flat_at[k].at : 4 * flat_at[k].at;
+    return aral_outside(4000, 4800, 4000, q->density, kind, x, q->direction, q->place);
+}
+
+/* As the book prints it: with its sign where both signs are meant, else only where it is negative. */
+static void print_decimals(const aral_coefficient *c, int decimals)
+{
+    for (uint32_t i = 0; i < c->count; i++) {
+        int size = c->value[i] < 0 ? -c->value[i] : c->value[i];
+        printf("%s%s%d.", i ? " or " : "", c->value[i] < 0 ? "-" : c->count == 2 ? "+" : "", size / 1000);
+        if (decimals == 3) printf("%03d", size % 1000);
+        else printf("%02d", size % 1000 / 10);
+    }
+}
+
+static void print_row(const asked *q, uint32_t row)
+{
+    aral_coefficient printed = printed_in(q, row);
+    printf("row %u (", row);
+    print_place_of_row(q, row);
+    printf(", ");
+    print_decimals(&printed, 2);
+    printf(")");
+}
+
+void print_rows(const asked *q, const aral_coefficient *c)
+{
+    if (c->lower == c->upper) {
+        printf("row %u (", c->lower);
+        print_place_of_row(q, c->lower);
+        printf(")");
+    } else {
+        printf("between ");
+        print_row(q, c->lower);
+        printf(" and ");
+        print_row(q, c->upper);
+        printf(", %u/%u of the way", c->part, c->whole);
+    }
+    printf(": ");
+    print_decimals(c, 3);
+}
+
+const char *table_of(const asked *q) { return on_wall(q) ? "3.2.2.2.1" : q->kind == 1 ? "3.2.2.2.2" : "3.2.2.2.4"; }
