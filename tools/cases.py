@@ -85,17 +85,19 @@ with open(__file__.replace('cases.py', 'sheets.txt')) as listed:
         if number != '0':
             case(f'sheets.txt, line {place}', text.replace('\\n', '\n').replace('\\r', '\r').replace('\\t', '\t'), f'refused {number} {line}')
 
-# what the program asks by itself: questions, then records, with number and line, or thousandths
-asked = '''point 18: curved, zone E, exactly -0.3995: -400
-flat, zone F: 200 -200
+# What the program asks by itself: questions, then records, with number and line, or thousandths and rows: lower, upper, part,
+# whole. 201/4000 = 0.05025 is 1/200 of the way from 0.05 (row 5) to 0.10 (row 6), and 82/1600 = 0.05125 is 1/40 of it; straight
+# eaves are row 1; h/b 1.6 is over 3/2 and a/b 1.2 is not: row 5 of the walls.
+asked = '''point 18: curved, zone E, exactly -0.3995: -400 rows 5 6 1 200
+flat, zone F: 200 -200 rows 1 1 0 1
 point 6: zone I: 6 0
 zone G on a flat roof: 6 0
 L1 on a gable: 6 0
 point 7: h 10000000: 1 2
 point 7: h -9999999: 3 2
 point 7: direction 1000000000000, for a local too: 3 0
-point 11: rounded first, then the internal coefficient comes off: 602
-point 12: the net of the wall local: -1400
+point 11: rounded first, then the internal coefficient comes off: 602 rows 5 6 1 40
+point 12: the net of the wall local: -1400 rows 5 5 0 1
 point 7: internal 101: 3 0
 6 before 3: zone H with internal 101: 6 0
 a record in order: 0 0

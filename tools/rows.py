@@ -3,7 +3,8 @@
 
 The tables below were typed from paper 01 and held against ROM 0.4-95 (document 000). Every value is reckoned with exact fractions
 by the book's words: the row whose limits hold the ratio, the straight line between rows, one rounding to a thousandth with a
-half away from zero. Nothing here is taken from, or run with, the proved code.
+half away from zero. A row's number is its place in the printed table, and a fraction is in lowest terms by itself. Nothing
+here is taken from, or run with, the proved code.
 
     tools/rows.py > crates/printed_rows/stdout
 """
@@ -27,13 +28,13 @@ GABLE = {
     Q(6): {0: '-70 -60 -90 -70', 5: '-70 -60 -80 -80', 10: '-70 -60 -80 -80', 20: '-80 -60 -80 -80',
            30: '-100 -50 -80 -70', 40: '-20 -50 -80 -70', 50: '20 -50 -80 -70', 60: '50 -50 -80 -70'},
 }
-# E, L1, L2, by x/h or by degrees; straight eaves stand at 90 degrees of mansard
+# E, L1, L2, by x/h or by degrees
 STRAIGHT = '-70 -250 -200'
 FLAT = {
     2: {Q(0): STRAIGHT},
     3: {Q('0.025'): '-70 -220 -180', Q('0.05'): '-70 -200 -160', Q('0.10'): '-70 -180 -140'},
     4: {Q('0.05'): '-40 -150 -180', Q('0.10'): '-30 -120 -140', Q('0.20'): '-30 -80 -80'},
-    5: {Q(30): '-30 -150 -150', Q(45): '-40 -180 -190', Q(60): '-50 -190 -190', Q(90): STRAIGHT},
+    5: {Q(30): '-30 -150 -150', Q(45): '-40 -180 -190', Q(60): '-50 -190 -190'},
 }
 RANGE = {0: (0, 0), 1: (0, 60), 2: (0, 0), 3: (Q('0.025'), Q('0.10')), 4: (Q('0.05'), Q('0.20')), 5: (30, 90)}
 
@@ -45,12 +46,27 @@ def thousandths(hundredths):
     return size if hundredths >= 0 else -size
 
 
-def on_line(rows, at):
-    below = max(row for row in rows if row <= at)
-    above = min(row for row in rows if row >= at)
-    if below == above:
-        return rows[below]
-    return rows[below] + (rows[above] - rows[below]) * (at - below) / (above - below)
+def numbered(table):
+    """Each part's rows in the printed order: the number, counted through all parts from 1, where it stands, its cells."""
+    rows, count = {}, 0
+    for part, printed in table.items():
+        rows[part] = [(count + i, Q(at), cells.split()) for i, (at, cells) in enumerate(printed.items(), 1)]
+        count += len(printed)
+    return rows
+
+
+GABLE_ROWS, FLAT_ROWS = numbered(GABLE), numbered(FLAT)
+# the one row of straight eaves stands at 90 degrees of mansard too
+FLAT_ROWS[5].append((FLAT_ROWS[2][0][0], Q(90), STRAIGHT.split()))
+
+
+def on_line(rows, column, at):
+    """The value met at `at`; then the last row up to there, the first from there on, and how far it is between them."""
+    lower = max((row for row in rows if row[1] <= at), key=lambda row: row[1])
+    upper = min((row for row in rows if row[1] >= at), key=lambda row: row[1])
+    way = Q(0) if lower == upper else (at - lower[1]) / (upper[1] - lower[1])
+    first, last = Q(lower[2][column]), Q(upper[2][column])
+    return thousandths(first + way * (last - first)), (lower[0], upper[0], way)
 
 
 def place_of_x(h, kind, x):
@@ -72,6 +88,7 @@ def fault(h, a, b, density, kind, x):
 
 
 def outside(h, a, b, density, kind, x, direction, place):
+    """A refusal, which is a pair of numbers; or a list of values, and its rows: lower, upper and the fraction of the way."""
     n = fault(h, a, b, density, kind, x)
     if n:
         return (n, 2)
@@ -81,30 +98,31 @@ def outside(h, a, b, density, kind, x, direction, place):
     if not (place in 'ABCDw' or kind == 1 and place in 'EFGH' or flat and place in 'EF12'):
         return (6, 0)
     if place in 'ABCDw':
-        row = next(r for r in WALLS if Q(h, b) <= r[0] and Q(a, b) <= r[1])
-        if place == 'w':
-            return [thousandths(Q(row[4]))]
+        number, row = next((n, r) for n, r in enumerate(WALLS, 1) if Q(h, b) <= r[0] and Q(a, b) <= r[1])
         printed = row[2] if direction == 0 else row[3]
-        return [thousandths(Q(printed.split()['ABCD'.index(place)]))]
+        cell = row[4] if place == 'w' else printed.split()['ABCD'.index(place)]
+        return [thousandths(Q(cell))], (number, number, Q(0))
     at = place_of_x(h, kind, x)
     if kind == 1:
-        block = GABLE[next(limit for limit in sorted(GABLE) if Q(h, b) <= limit)]
+        block = GABLE_ROWS[next(limit for limit in sorted(GABLE) if Q(h, b) <= limit)]
         column = (0 if place in 'EF' else 1) if direction == 0 else (2 if place in 'EG' else 3)
-        return [thousandths(on_line({Q(s): Q(cells.split()[column]) for s, cells in block.items()}, at))]
-    if place == 'F':
-        return [200, -200]
-    column = 'E12'.index(place)
-    return [thousandths(on_line({s: Q(cells.split()[column]) for s, cells in FLAT[kind].items()}, at))]
+        value, rows = on_line(block, column, at)
+        return [value], rows
+    # zone F has the rows of E, and both signs of one value in each
+    value, rows = on_line(FLAT_ROWS[kind], {'E': 0, 'F': 0, '1': 1, '2': 2}[place], at)
+    return [200, -200] if place == 'F' else [value], rows
 
 
 def show(h, a, b, kind, x, direction, place):
-    """The question, the outside answer, and the net one at internal -0.30; a space after each number."""
-    answer = outside(h, a, b, 1250, kind, x, direction, place)
-    if isinstance(answer, tuple):
-        said = ['refused %d %d ' % answer] * 2
+    """The question, the outside answer, the net one at internal -0.30, and the rows of both; a space after each number."""
+    answer, rest = outside(h, a, b, 1250, kind, x, direction, place)
+    if isinstance(answer, int):
+        said = 'refused %d %d net refused %d %d ' % (answer, rest, answer, rest)
     else:
-        said = [''.join('%d ' % v for v in answer), ''.join('%d ' % (v + 300) for v in answer)]
-    print(h, a, b, kind, x, direction, place, said[0] + 'net ' + said[1])
+        values, nets = (''.join('%d ' % (v - internal) for v in answer) for internal in (0, -300))
+        lower, upper, way = rest
+        said = '%snet %srows %d %d %d %d ' % (values, nets, lower, upper, way.numerator, way.denominator)
+    print(h, a, b, kind, x, direction, place, said)
 
 
 # one step inside and outside of each limit of h/b and a/b, at b 1000, and each end itself
