@@ -1,5 +1,5 @@
-/* The plain calculator: an ordinary C program for the same entry points, written from the build definition alone. It
-   shares no code and no table with the proved crates, so that where the two differ one of them misread the paper.
+/* The plain calculator: an ordinary C program for the same entry points, written from the papers alone. It shares no
+   code and no table with the proved crates, so that where the two differ one of them misread the papers.
    With -DSTAND_IN its functions carry the library's own names, and tests can be tried without the library. */
 #include "plain.h"
 #include "step.h"
@@ -29,11 +29,14 @@ static int within(int64_t value, int64_t least, int64_t greatest) { return least
 
 /* ---- The printed tables, in hundredths ---- */
 
-/* Walls: by h/b, then by a/b; wind 0 and wind 90 on A, B, C, D; the local. */
-static const struct { int general[2][4], local; } walls[3][2] = {
-    {{{{70, -20, -50, -50}, {-50, -50, 70, -20}}, -80}, {{{70, -25, -60, -60}, {-50, -50, 70, -10}}, -100}},
-    {{{{70, -25, -60, -60}, {-60, -60, 70, -25}}, -110}, {{{70, -30, -70, -70}, {-50, -50, 70, -10}}, -110}},
-    {{{{80, -25, -80, -80}, {-80, -80, 80, -25}}, -120}, {{{70, -40, -70, -70}, {-50, -50, 80, -10}}, -120}},
+/* Walls: rows 1 to 6, by h/b, then by a/b; wind 0 and wind 90 on A, B, C, D; the local. */
+static const struct { int general[2][4], local; } walls[6] = {
+    {{{70, -20, -50, -50}, {-50, -50, 70, -20}}, -80},
+    {{{70, -25, -60, -60}, {-50, -50, 70, -10}}, -100},
+    {{{70, -25, -60, -60}, {-60, -60, 70, -25}}, -110},
+    {{{70, -30, -70, -70}, {-50, -50, 70, -10}}, -110},
+    {{{80, -25, -80, -80}, {-80, -80, 80, -25}}, -120},
+    {{{70, -40, -70, -70}, {-50, -50, 80, -10}}, -120},
 };
 
 /* A row of a roof's table: its number there from 1, where it stands, and its columns. */
@@ -86,76 +89,62 @@ static int height_block(const building *house)
 
 static int side_block(const building *house) { return 2 * house->a > 3 * house->b; }
 
-/* ---- The outside coefficients ---- */
+static int wall_row(const building *house) { return 2 * height_block(house) + side_block(house) + 1; }
 
-/* `count` coefficients in thousandths, found `part` of `whole` from row `lower` to row `upper`; the fraction is as it
-   came up, not yet in lowest terms. */
-typedef struct { int count, value[2], lower, upper; int64_t part, whole; } finding;
-
-static finding on_row(int number, int hundredths) { return (finding){1, {10 * hundredths, 0}, number, number, 0, 1}; }
-
-/* The line from v to w, part/whole of the way: hundredths in, thousandths out, rounded once, a half away from zero. */
-static int on_line(int v, int w, int64_t part, int64_t whole)
-{
-    int64_t exact = 10 * (v * (whole - part) + w * part), size = exact < 0 ? -exact : exact;
-    int rounded = (int)((2 * size + whole) / (2 * whole));
-    return exact < 0 ? -rounded : rounded;
-}
+/* Where a roof lies in its table: `part` of `whole` on the way from one row to the next. */
+typedef struct { const printed_row *lower, *upper; int64_t part, whole; } spot;
 
 /* The rows stand at multiples of the unit, and x is not past the last. */
-static finding between_rows(const printed_row *row, int column, int64_t unit, int64_t x)
+static spot between(const printed_row *row, int64_t unit, int64_t x)
 {
     while (x > row[1].at * unit) row++;
-    int64_t part = x - row[0].at * unit, whole = (row[1].at - row[0].at) * unit;
-    if (part == 0) return on_row(row[0].number, row[0].value[column]);
-    if (part == whole) return on_row(row[1].number, row[1].value[column]);
-    int value = on_line(row[0].value[column], row[1].value[column], part, whole);
-    return (finding){1, {value, 0}, row[0].number, row[1].number, part, whole};
+    return (spot){&row[0], &row[1], x - row[0].at * unit, (row[1].at - row[0].at) * unit};
 }
 
-static finding on_wall(const building *house, int ninety, uint8_t place)
-{
-    int tall = height_block(house), wide = side_block(house);
-    int hundredths = place == 'w' ? walls[tall][wide].local : walls[tall][wide].general[ninety][place - 'A'];
-    return on_row(2 * tall + wide + 1, hundredths);
-}
-
-static finding on_gable(const building *house, int ninety, uint8_t place)
-{
-    int second = ninety ? place == 'F' || place == 'H' : place >= 'G';
-    return between_rows(gables[height_block(house)], 2 * ninety + second, 1, house->x);
-}
-
-static finding on_flat(const building *house, int column)
+static spot spot_of(const building *house)
 {
     switch (house->kind) {
-    case PARAPET: return between_rows(parapet_rows, column, house->h, 1000 * house->x);
-    case CURVED: return between_rows(curved_rows, column, house->h, 1000 * house->x);
-    case MANSARD: return between_rows(mansard_rows, column, 1, house->x);
-    default: return on_row(straight_row.number, straight_row.value[column]);
+    case GABLE: return between(gables[height_block(house)], 1, house->x);
+    case PARAPET: return between(parapet_rows, house->h, 1000 * house->x);
+    case CURVED: return between(curved_rows, house->h, 1000 * house->x);
+    case MANSARD: return between(mansard_rows, 1, house->x);
+    default: return (spot){&straight_row, &straight_row, 0, 1};
     }
 }
 
-/* Zone F of a flat roof has the rows of E, and in each of them both signs of one value. */
-static finding on_flat_f(const building *house)
+/* A column of the roof's table, on the straight line: thousandths, rounded once, a half away from zero. */
+static int roof_value(const building *house, int column)
 {
-    finding f = on_flat(house, 0);
-    f.count = 2;
-    f.value[0] = 200;
-    f.value[1] = -200;
-    return f;
+    spot s = spot_of(house);
+    int64_t exact = 10 * (s.lower->value[column] * (s.whole - s.part) + s.upper->value[column] * s.part);
+    int64_t size = exact < 0 ? -exact : exact;
+    int rounded = (int)((2 * size + s.whole) / (2 * s.whole));
+    return exact < 0 ? -rounded : rounded;
 }
 
-/* What the tables have for a place; no coefficient where the building has no such place. */
-static finding outside(const building *house, int direction, uint8_t place)
+static int on_wall(uint8_t place) { return ('A' <= place && place <= 'D') || place == 'w'; }
+
+/* The outside coefficients of a place in thousandths, and how many; 0 where the building has no such place. */
+static int outside(const building *house, int direction, uint8_t place, int value[2])
 {
     int ninety = direction == 90;
-    if (('A' <= place && place <= 'D') || place == 'w') return on_wall(house, ninety, place);
-    if (house->kind == GABLE && 'E' <= place && place <= 'H') return on_gable(house, ninety, place);
-    if (flat(house) && place == 'F') return on_flat_f(house);
-    if (flat(house) && place == 'E') return on_flat(house, 0);
-    if (flat(house) && (place == '1' || place == '2')) return on_flat(house, place - '0');
-    return (finding){0};
+    value[0] = value[1] = 0;
+    if (on_wall(place)) {
+        int row = wall_row(house) - 1;
+        value[0] = 10 * (place == 'w' ? walls[row].local : walls[row].general[ninety][place - 'A']);
+    } else if (house->kind == GABLE && 'E' <= place && place <= 'H') {
+        int second = ninety ? place == 'F' || place == 'H' : place >= 'G';
+        value[0] = roof_value(house, 2 * ninety + second);
+    } else if (flat(house) && place == 'F') {
+        value[0] = 200;
+        value[1] = -200;
+        return 2;
+    } else if (flat(house) && (place == 'E' || place == '1' || place == '2')) {
+        value[0] = roof_value(house, place == 'E' ? 0 : place - '0');
+    } else {
+        return 0;
+    }
+    return 1;
 }
 
 static int zone_exists(const building *house, char zone)
@@ -388,10 +377,8 @@ static void gather_offers(const job *j, worst *w)
         const face *f = &j->face[i];
         for (int ninety = 0; ninety < 2; ninety++) {
             offer *o = &w->offer[i][ninety];
-            *o = (offer){0};
-            if (!used[ninety] || (f->mark != BOTH && f->mark != 90 * ninety)) continue;
-            finding here = outside(&j->house, 90 * ninety, (uint8_t)f->zone);
-            *o = (offer){here.count, {here.value[0], here.value[1]}};
+            if (!used[ninety] || (f->mark != BOTH && f->mark != 90 * ninety)) o->count = 0;
+            else o->count = outside(&j->house, 90 * ninety, (uint8_t)f->zone, o->value);
         }
     }
 }
@@ -524,15 +511,24 @@ static aral_coefficient refused(int fault, uint32_t line)
 /* The greatest number that divides both. */
 static int64_t common(int64_t p, int64_t q) { return q == 0 ? p : common(q, p % q); }
 
-static aral_coefficient answered(const finding *f)
+static void set_rows(aral_coefficient *c, int lower, int upper, int64_t part, int64_t whole)
 {
-    int64_t shared = common(f->part, f->whole);
-    return (aral_coefficient){.count = (uint32_t)f->count,
-                              .value = {f->value[0], f->value[1]},
-                              .lower = (uint32_t)f->lower,
-                              .upper = (uint32_t)f->upper,
-                              .part = (uint32_t)(f->part / shared),
-                              .whole = (uint32_t)(f->whole / shared)};
+    int64_t shared = common(part, whole);
+    c->lower = (uint32_t)lower;
+    c->upper = (uint32_t)upper;
+    c->part = (uint32_t)(part / shared);
+    c->whole = (uint32_t)(whole / shared);
+}
+
+/* The rows that a place was found between; on the walls and on a row itself one, with 0/1. All places of a roof have
+   the same, also zone F of a flat one. */
+static void find_rows(aral_coefficient *c, const building *house, uint8_t place)
+{
+    spot s = spot_of(house);
+    if (on_wall(place)) set_rows(c, wall_row(house), wall_row(house), 0, 1);
+    else if (s.part == 0) set_rows(c, s.lower->number, s.lower->number, 0, 1);
+    else if (s.part == s.whole) set_rows(c, s.upper->number, s.upper->number, 0, 1);
+    else set_rows(c, s.lower->number, s.upper->number, s.part, s.whole);
 }
 
 aral_coefficient ENTRY(outside)(int64_t h, int64_t a, int64_t b, int64_t density, int64_t kind, int64_t x,
@@ -540,14 +536,17 @@ aral_coefficient ENTRY(outside)(int64_t h, int64_t a, int64_t b, int64_t density
 {
     building house = {h, a, b, density, kind, x};
     int64_t number[6] = {h, a, b, density, kind, x};
-    int fault = 0;
+    int value[2], fault = 0;
     for (int i = 0; i < 6; i++)
         if (!within(number[i], -9999999, 9999999)) fault = FORM;
     if (!fault) fault = building_fault(&house);
     if (fault) return refused(fault, 2);
     if (direction != 0 && direction != 90) return refused(RANGE, 0);
-    finding f = outside(&house, (int)direction, place);
-    return f.count ? answered(&f) : refused(PLACE, 0);
+    int count = outside(&house, (int)direction, place, value);
+    if (count == 0) return refused(PLACE, 0);
+    aral_coefficient c = {.count = (uint32_t)count, .value = {value[0], value[1]}};
+    find_rows(&c, &house, place);
+    return c;
 }
 
 aral_coefficient ENTRY(net)(int64_t h, int64_t a, int64_t b, int64_t density, int64_t kind, int64_t x,
