@@ -1,5 +1,6 @@
 // Questions and records at the corners of paper 01, each with its answer.
 use book::Answer;
+use book::Cited;
 use book::Values;
 use building::Building;
 use entry::Face;
@@ -41,6 +42,15 @@ fn print_values(values: Values) {
     }
 }
 
+// The two rows, and the fraction of the way from one to the other.
+fn print_rows(c: Cited) {
+    print(b" rows");
+    print_number(c.lower as i64);
+    print_number(c.upper as i64);
+    print_number(c.part as i64);
+    print_number(c.whole as i64);
+}
+
 fn print_refusal(v: Verdict) {
     print_number(v.number as i64);
     print_number(v.line as i64);
@@ -52,6 +62,7 @@ fn print_answer(title: &[u8], a: Answer) {
         Answer::Answered(c) => {
             let values = c.values;
             print_values(values);
+            print_rows(c);
         }
         Answer::Refused(v) => print_refusal(v),
     }

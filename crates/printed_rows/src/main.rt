@@ -160,6 +160,20 @@ fn put_answer(answer: Answer) {
     }
 }
 
+// Between which rows it lies, and the fraction of the way.
+fn put_rows(answer: Answer) {
+    match answer {
+        Answer::Answered(c) => {
+            io::write_all(1, b"rows ");
+            put(c.lower as i64);
+            put(c.upper as i64);
+            put(c.part as i64);
+            put(c.whole as i64);
+        }
+        Answer::Refused(_) => {}
+    }
+}
+
 fn show(g: Building, direction: i64, place: u8) {
     put(g.h);
     put(g.a);
@@ -170,7 +184,9 @@ fn show(g: Building, direction: i64, place: u8) {
     io::write_all(1, &[place, b' ']);
     put_answer(book::outside(g, direction, place));
     io::write_all(1, b"net ");
-    put_answer(book::net(g, direction, place, -30));
+    let net = book::net(g, direction, place, -30);
+    put_answer(net);
+    put_rows(net);
     io::write_all(1, b"\n");
 }
 
