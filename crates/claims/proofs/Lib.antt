@@ -8,6 +8,7 @@ pub mod Panel
 pub mod Paper01
 pub mod Paper02
 pub mod Printed
+pub mod RowsWorked
 pub mod Sample
 -- ---- the lists, with a line for each public function
 pub mod Contracts

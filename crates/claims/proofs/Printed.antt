@@ -100,7 +100,7 @@ printed =
 
 -- row after row
 infixr 40 _and_
-_and_ : {P Q : Type 0} → P → Q → P × Q
+pub _and_ : {P Q : Type 0} → P → Q → P × Q
 p and q = (p, q)
 
 pub printed-hold : Every Holds printed
