@@ -24,7 +24,8 @@ use Rattle.worst.specs.Cases.{Case, numbers, Chosen, Permitted}
 use Rattle.worst.specs.Forces.{acts, alternatives, windAt, loads}
 use Rattle.worst.specs.Shown.{padded, shown}
 use Rattle.worst.specs.Worst.{given, extreme, extremes, sixExtremes}
-use Rattle.worst.proofs.Lists.{Between, numbers-member, getD-member}
+use Rattle.whole.proofs.ByPlace.{getD-member}
+use Rattle.worst.proofs.Lists.{Between, numbers-member}
 use Rattle.worst.proofs.Members.{case-permitted}
 use Rattle.worst.proofs.Meaning.{isBest-member}
 use Rattle.worst.proofs.OneFace.{OneOrTwo, alone, pair}
@@ -110,7 +111,7 @@ module _ (axis : Axis) (s : Side) (c : Carried) (o : InOrder c) where
       let w = windAt (given c) (case .wind) in
       let m = getD-member (c .winds) (case .wind - 1) noWind (omega (arith, wind .low, wind .high)) in
       chosen-each OneDigit (alternatives (given c) w) (c .faces) (case .chosen)
-      (λ f n. alternative-digit (acts f (w .direction)) _ (given-sound c o .outside w f m n)) (permitted .chosen)
+      (λ f n. alternative-digit (acts f (w .direction)) _ (given-sound c o w f m n)) (permitted .chosen)
 
   case-numbers : caseNumbers (extreme axis s c) ≡ case .wind ∷ case .internal ∷ case .chosen
   unfolding case shown padded

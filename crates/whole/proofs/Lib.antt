@@ -14,3 +14,6 @@ pub mod AreDigits
 pub mod DigitsWorked
 pub mod Quoted
 pub mod First
+pub mod FirstOf
+pub mod ByPlace
+pub mod Products

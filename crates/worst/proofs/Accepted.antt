@@ -1,17 +1,14 @@
 -- What an accepted job gives: every number is in its range, every face has one or two coefficients, and so it can be
 -- reckoned.
-use mathlib.Core.Path.{_≡_, refl, sym, _∙_, subst, subst₂}
+use mathlib.Core.Path.{_≡_, subst}
 use mathlib.Core.Logic.{_⊎_, ⊎-elim}
 use mathlib.Core.Bool.{true}
 use mathlib.Core.List.{List, List·Memᴰ}
-use Prim.Native.Nat.{ℕ, zero, suc, _≤_, _<_}
-use native.Mathlib.Nat.{mul-pos}
+use Prim.Native.Nat.{ℕ, zero, suc, _-_, _≤_, _<_}
 use native.Mathlib.Omega.{arith}
-use lib.IntN.{ℤ, pos, natAbs, _*ℤ_}
-use lib.Signed.{_<ℤ_}
+use lib.IntN.{ℤ, pos, natAbs}
 use lib.ListN.{length, getD}
 use Rattle.whole.specs.Lists.{firstOf, Every}
-use Rattle.whole.proofs.Parts.{lt-by}
 use Rattle.whole.proofs.Lists.{every-at, every-member, firstOf-length, firstOf-getD}
 use Rattle.book.specs.Answer.{valuesOf, Alternatives, one, two}
 use Rattle.building.specs.declared.Building.{Building}
@@ -26,18 +23,12 @@ use Rattle.entry.specs.declared.Face.{Face}
 use Rattle.job.specs.declared.Job.{Job}
 use Rattle.job.specs.Carried.{Carried, carried, noWind, noFace}
 use Rattle.job.specs.InOrder.{WindInOrder, InternalInOrder, FaceInOrder, InOrder}
-use Rattle.worst.specs.declared.Axis.{Axis}
-use Rattle.worst.specs.declared.Axis.the-variants.{X, Y, Z}
-use Rattle.worst.specs.declared.Six.{Six}
-use Rattle.worst.specs.declared.sums.Axes.{Axes}
-use Rattle.worst.specs.Forces.{pressure}
-use Rattle.worst.specs.Worst.{given, extremes, sixExtremes}
-use Rattle.worst.specs.Engine.{surfaceOn, sumsOf, axesOf, extremesOf, Small, AxesSmall, FacesSmall, Ready}
-use Rattle.worst.specs.Engine.{Meets}
+use Rattle.worst.specs.Worst.{given}
+use Rattle.worst.specs.Small.{OutsideSmall, FaceSmall, Met, AllMet, Ready}
+use Rattle.worst.specs.Table.{outsideAt}
 use Rattle.worst.proofs.OneFace.{OneOrTwo, alone, pair}
-use Rattle.worst.proofs.AllCells.{Sound, surfaces, extremes-are}
-use Rattle.worst.proofs.Added.{axes-small}
-use Rattle.worst.proofs.Ranges.{FaceSmall, InRange, surface-small}
+use Rattle.worst.proofs.AllCells.{Sound}
+use Rattle.worst.proofs.Ranges.{InRange}
 
 -- ---- a zone's answer
 
@@ -74,31 +65,29 @@ module _ (c : Carried) (o : InOrder c) where
   wind-in : (w : Wind) → List·Memᴰ w (c .winds) → WindInOrder (c .building) w
   wind-in w m = every-member (WindInOrder (c .building)) (c .winds) (o .winds) m
 
-  -- a density is at least 1000 and a speed at least 1
-  pressure-above : (w : Wind) → WindInOrder (c .building) w → pos 0 <ℤ pressure (c .building .density) w
-  pressure-above w h =
-      let b = good-fields (c .building) (o .building) .density in
-      let v = speed-within (c .building) w h in
-      subst₂ (λ (z q : ℤ). pos 0 <ℤ (z *ℤ (q *ℤ q))) (b .plain) (v .plain)
-      (lt-by _ _
-      (omega (arith, mul-pos {m = natAbs (c .building .density)} (omega (arith, b .from)) (mul-pos (v .from) (v .from)))))
-
   pub given-sound : Sound (given c)
-  given-sound =
-      record {
-        direction = λ w m. known (c .building .kind) (w .direction) (wind-in w m .direction);
-        pressed = λ w m. pressure-above w (wind-in w m);
-        outside = λ w f mw mf a. one-or-two (answered (w .direction) (wind-in w mw .direction) f (face-in f mf));
-      }
+  given-sound w f mw mf a = one-or-two (answered (w .direction) (wind-in w mw .direction) f (face-in f mf))
 
   face-small : (f : Face) → FaceInOrder (c .building) f → FaceSmall f
   face-small f h = record { x = h .x; y = h .y; z = h .z }
 
-  surface-on-small : (d : ℤ) → knows (c .building .kind) d ≡ true → (f : Face) → FaceInOrder (c .building) f
-      → Small (surfaceOn (c .building) d f)
-  surface-on-small d e f h =
-      surface-small (valuesOf (outsideOf (c .building) d (f .zone))) d f (values-small (answered d e f h))
-      (face-small f h)
+  -- a face under a wind
+  met : (w : Wind) → WindInOrder (c .building) w → (f : Face) → FaceInOrder (c .building) f → Met (c .building) w f
+  met w hw f hf =
+      let small = values-small (answered (w .direction) (hw .direction) f hf) in
+      let outs = valuesOf (outsideOf (c .building) (w .direction) (f .zone)) in
+      record {
+        dense = good-fields (c .building) (o .building) .density .to;
+        slow = speed-within (c .building) w hw .to;
+        face = face-small f hf;
+        placed =
+            record {
+              way = known (c .building .kind) (w .direction) (hw .direction);
+              from = hf .zone .low;
+              to = hf .zone .high;
+            };
+        outside = record { first = small 0; last = small (length outs - 1) };
+      }
 
   pub given-in-range : InRange (given c)
   given-in-range =
@@ -121,62 +110,35 @@ counted-at P d n l h k lt =
     subst P (firstOf-getD d n k l lt) (every-at P (firstOf d n l) d k (omega (arith, firstOf-length d n l)) h)
 
 module _ (j : Job) (o : InOrder (carried j)) where
+  wind : (k : ℕ) → k < j .winds .count → WindInOrder (j .building) (getD (j .winds .entry) k noWind)
+  unfolding carried
+  wind = counted-at (WindInOrder (j .building)) noWind (j .winds .count) (j .winds .entry) (o .winds)
+
+  face : (i : ℕ) → i < j .faces .count → FaceInOrder (j .building) (getD (j .faces .entry) i noFace)
+  unfolding carried
+  face = counted-at (FaceInOrder (j .building)) noFace (j .faces .count) (j .faces .entry) (o .faces)
+
+  all-met : (k : ℕ) → k < j .winds .count → AllMet (j .building) (j .faces) (getD (j .winds .entry) k noWind)
+  unfolding carried
+  all-met k h =
+      let faces = firstOf-length noFace (j .faces .count) (j .faces .entry) in
+      record {
+        few = omega (arith, o .faces-counted .high, faces);
+        each = λ i t. met (carried j) o _ (wind k h) _ (face i t);
+      }
+
   pub job-ready : Ready j
   unfolding carried
   job-ready =
       let winds = firstOf-length noWind (j .winds .count) (j .winds .entry) in
       let internals = firstOf-length (pos 0) (j .internals .count) (j .internals .entry) in
       record {
-        density = good-fields (j .building) (o .building) .density .to;
         someWind = omega (arith, o .winds-counted .low, winds);
         winds = omega (arith, o .winds-counted .high, winds);
-        slow = λ k l.
-            speed-within (j .building) _
-            (counted-at (WindInOrder (j .building)) noWind (j .winds .count) (j .winds .entry) (o .winds) k l) .to;
+        met = all-met;
         someInternal = omega (arith, o .internals-counted .low, internals);
         internals = (
           omega (arith, o .internals-counted .high, internals),
           counted-at InternalInOrder (pos 0) (j .internals .count) (j .internals .entry) (o .internals),
         );
-        faces = omega (arith, o .faces-counted .high, firstOf-length noFace (j .faces .count) (j .faces .entry));
-        small = λ d e k l.
-            surface-on-small (carried j) o d e (getD (j .faces .entry) k noFace)
-            (counted-at (FaceInOrder (j .building)) noFace (j .faces .count) (j .faces .entry) (o .faces) k l);
       }
-
-  -- the faces that a direction meets, and their sums
-  pub met-few : (d : ℤ) (n : ℕ) → knows (j .building .kind) d ≡ true → Meets j d n
-      → (n ≤ 24) × FacesSmall (j .building) d n (j .faces .entry)
-  met-few d n e h =
-      (omega (arith, job-ready .faces, h .most), λ i l. job-ready .small d e i (omega (arith, h .most)))
-
-  pub met-small : (d : ℤ) (n : ℕ) → knows (j .building .kind) d ≡ true → Meets j d n → (p : Axes)
-      → p ≡ axesOf (surfaces j d n) → AxesSmall 24 p
-  met-small d n e h p q =
-      let few = met-few d n e h in
-      subst (AxesSmall 24) (sym q)
-      (axes-small (surfaceOn (j .building) d) (j .faces .entry) noFace n (few .1) 24 (few .0))
-
-  -- ---- the six extremes
-
-  -- of sums under direction 0 and under direction 90
-  module _ (room : j .faces .count ≤ length (j .faces .entry)) (m n : ℕ) (hm : Meets j (pos 0) m)
-      (hn : Meets j (pos 90) n) (zero ninety : Axes) (ez : zero ≡ axesOf (surfaces j (pos 0) m))
-      (en : ninety ≡ axesOf (surfaces j (pos 90) n)) where
-    on : (axis : Axis)
-        → extremesOf j (sumsOf axis (surfaces j (pos 0) m)) (sumsOf axis (surfaces j (pos 90) n)) ≡ extremes axis
-        (carried j)
-    on axis = extremes-are j (given-sound (carried j) o) room m n hm hn axis
-
-    pub six-are : _≡_ {A = Six}
-        (record { x = extremesOf j (zero .x) (ninety .x); y = extremesOf j (zero .y) (ninety .y); z = extremesOf j (zero .z) (ninety .z) })
-        (sixExtremes (carried j))
-    unfolding sixExtremes
-    six-are =
-        (λ k.
-        record {
-          x = extremesOf j (ez k .x) (en k .x);
-          y = extremesOf j (ez k .y) (en k .y);
-          z = extremesOf j (ez k .z) (en k .z);
-        })
-        ∙ (λ k. record { x = on X k; y = on Y k; z = on Z k })

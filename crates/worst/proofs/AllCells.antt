@@ -1,16 +1,14 @@
--- The best cell, from the sums under either direction, is the worst of all cases of the job.
+-- The best cell that the engine finds is the worst of all cases of the job.
 use mathlib.Core.Path.{_≡_, refl, sym, ap, _∙_}
-use mathlib.Core.Logic.{_⊎_, ⊎-elim}
-use mathlib.Core.Bool.{Bool, true, false, cond}
+use mathlib.Core.Bool.{true}
 use mathlib.Core.List.{List, map, List·Memᴰ}
-use Prim.Native.Nat.{ℕ, _-_, _≤_, _<_}
+use Prim.Native.Nat.{ℕ, _-_, _<_}
 use native.Mathlib.Omega.{arith}
-use lib.Dec.{eqb}
 use lib.IntN.{ℤ, pos, _-ℤ_, _*ℤ_}
-use lib.Signed.{_<ℤ_}
-use lib.ListN.{length, take}
-use Rattle.building.specs.Test.{is}
-use Rattle.whole.proofs.Lists.{firstOf-length, firstOf-take, firstOf-getD}
+use lib.ListN.{length}
+use Rattle.whole.proofs.Lists.{firstOf-length, firstOf-getD}
+use Rattle.whole.proofs.ByPlace.{getD-member}
+use Rattle.building.specs.declared.Building.{Building}
 use Rattle.job.specs.declared.Job.{Job}
 use Rattle.entry.specs.declared.Wind.{Wind}
 use Rattle.entry.specs.declared.Face.{Face}
@@ -18,185 +16,168 @@ use Rattle.job.specs.Carried.{carried, noWind, noFace}
 use Rattle.worst.specs.declared.Side.{Side}
 use Rattle.worst.specs.declared.Side.the-variants.{Greatest, Least}
 use Rattle.worst.specs.declared.Axis.{Axis}
-use Rattle.worst.specs.declared.surface.Surface.{Surface}
-use Rattle.worst.specs.declared.sums.Sums.{Sums}
-use Rattle.worst.specs.Best.{Best, none, at}
+use Rattle.worst.specs.declared.Axis.the-variants.{X, Y, Z}
+use Rattle.worst.specs.declared.Extreme.{Extreme}
+use Rattle.worst.specs.declared.tops.Top.{Top}
+use Rattle.worst.specs.declared.tops.Ends.{Ends}
+use Rattle.worst.specs.Best.{Best, at, best}
 use Rattle.worst.specs.Cases.{Case, numbers, worst}
-use Rattle.worst.specs.Forces.{Given, acts, outsides, pressure, windAt, internalAt, loads}
-use Rattle.worst.specs.Shown.{padded, shown}
-use Rattle.worst.specs.Worst.{given, extremes}
+use Rattle.worst.specs.Forces.{Given, acts, outsides, pressure, area, windAt, internalAt, loads}
+use Rattle.worst.specs.Shown.{shown}
+use Rattle.worst.specs.Worst.{given, extreme, sixExtremes}
 use Rattle.worst.specs.Quick.{over, sum, tagged}
-use Rattle.worst.specs.Engine.{surfaceOn, areaOf, reach, pick, spanOf, sumsOf, under, alternativesOf, cellTotal}
-use Rattle.worst.specs.Engine.{Cell, windOf, internalOf, cellBest, bestCell, cellShown, extremesOf, Meets}
+use Rattle.worst.specs.Engine.{weight, reachOf, pickOf, facesOf, axesOf, sumsOn, cellTotal, Cell, cell}
+use Rattle.worst.specs.Engine.{topAt, windNumbered, internalNumbered, cellBest, bestUpTo, alternativesOf}
+use Rattle.worst.specs.Engine.{extremeWith, sixOf}
 use Rattle.worst.proofs.Better.{over-same-in, tagged-over}
 use Rattle.worst.proofs.Quick.{worst-quick}
-use Rattle.worst.proofs.Lists.{numbers-member, getD-member, sum-map, map-map}
-use Rattle.worst.proofs.Scaled.{sum-scaled}
-use Rattle.worst.proofs.OneFace.{OneOrTwo, valueOf, face-best}
+use Rattle.worst.proofs.Lists.{numbers-member}
+use Rattle.worst.proofs.OneFace.{OneOrTwo, face-best, sum-parted}
 
--- every wind has direction 0 or 90 and a pressure number above 0, and every face one or two coefficients there
-pub record Sound (g : Given) : Type 0 where
-  pub direction : (w : Wind) → List·Memᴰ w (g .winds) → (w .direction ≡ pos 0) ⊎ (w .direction ≡ pos 90)
-  pub pressed : (w : Wind) → List·Memᴰ w (g .winds) → pos 0 <ℤ pressure (g .density) w
-  pub outside : (w : Wind) (f : Face) → List·Memᴰ w (g .winds) → List·Memᴰ f (g .faces) → acts f (w .direction) ≡ true
-      → OneOrTwo (outsides g w f)
+-- every face has one or two coefficients under every wind, where it takes part
+abbrev pub Sound : Given → Type 0
+Sound g = (w : Wind) (f : Face) → List·Memᴰ w (g .winds) → List·Memᴰ f (g .faces) → acts f (w .direction) ≡ true
+    → OneOrTwo (outsides g w f)
 
--- ---- the sums of a list of surfaces, side by side
+-- the total of a cell, from the sums of its wind
+cell-total : (axis : Axis) (s : Side) (b : Building) (w : Wind) (fs : List Face) (i : ℤ)
+    → sum (reachOf s axis b w) fs -ℤ i *ℤ pos 10 *ℤ sum (weight axis b w) fs
+    ≡ cellTotal s (sumsOn axis (axesOf b w fs)) i
+cell-total X Greatest b w fs i = refl
+cell-total X Least b w fs i = refl
+cell-total Y Greatest b w fs i = refl
+cell-total Y Least b w fs i = refl
+cell-total Z Greatest b w fs i = refl
+cell-total Z Least b w fs i = refl
 
-cell-span : (s : Side) (axis : Axis) (fs : List Surface) (p i : ℤ)
-    → (sum (reach s axis) fs -ℤ i *ℤ pos 10 *ℤ sum (areaOf axis) fs) *ℤ p ≡ cellTotal s (spanOf axis fs) p i
-cell-span Greatest axis fs p i = refl
-cell-span Least axis fs p i = refl
-
-picks-are : (s : Side) (axis : Axis) (fs : List Surface)
-    → padded 24 (map (pick s axis) fs) ≡ alternativesOf s (sumsOf axis fs)
-picks-are Greatest axis fs = refl
-picks-are Least axis fs = refl
-
-under-made : {A B : Type 0} (f : A → B) (d : ℤ) (x y : A) → f (under d x y) ≡ under d (f x) (f y)
-under-made {A} {B} f d x y = go (is (pos 90) d)
-  where
-    go : (t : Bool) → f (cond t y x) ≡ cond t (f y) (f x)
-    go true = refl
-    go false = refl
-
--- the first k faces of a job as a direction meets them
-abbrev pub surfaces : Job → ℤ → ℕ → List Surface
-surfaces j d k = map (surfaceOn (j .building) d) (take k (j .faces .entry))
-
--- ---- the job, and how many of its faces were added up under each direction
-
-module _ (j : Job) (sound : Sound (given (carried j))) (room : j .faces .count ≤ length (j .faces .entry)) (m n : ℕ)
-    (hm : Meets j (pos 0) m) (hn : Meets j (pos 90) n) where
+module _ (j : Job) (axis : Axis) (s : Side) where
   abbrev g : Given
   g = given (carried j)
 
-  abbrev met : ℤ → List Surface
-  met d = under d (surfaces j (pos 0) m) (surfaces j (pos 90) n)
+  abbrev WindNumber : ℕ → Type 0
+  WindNumber w = List·Memᴰ w (numbers (length (g .winds)) 1)
 
-  -- the wind and the internal coefficient of a number
-  wind-in : (w : ℕ) → List·Memᴰ w (numbers (length (g .winds)) 1) → w - 1 < length (g .winds)
-  wind-in w mw = let b = numbers-member (length (g .winds)) 1 mw in omega arith
+  abbrev InternalNumber : ℕ → Type 0
+  InternalNumber i = List·Memᴰ i (numbers (length (g .internals)) 1)
 
-  wind-counts : (w : ℕ) → List·Memᴰ w (numbers (length (g .winds)) 1) → w - 1 < j .winds .count
+  -- ---- the wind and the internal coefficient of a number
+
+  wind-counts : (w : ℕ) → WindNumber w → w - 1 < length (g .winds)
+  wind-counts w m = let b = numbers-member (length (g .winds)) 1 m in omega arith
+
+  wind-in : (w : ℕ) → WindNumber w → List·Memᴰ (windAt g w) (g .winds)
+  wind-in w m = getD-member (g .winds) (w - 1) noWind (wind-counts w m)
+
+  wind-is : (w : ℕ) → WindNumber w → windAt g w ≡ windNumbered (j .winds) w
   unfolding carried
-  wind-counts w mw = omega (arith, wind-in w mw, firstOf-length noWind (j .winds .count) (j .winds .entry))
+  wind-is w m =
+      let all = firstOf-length noWind (j .winds .count) (j .winds .entry) in
+      firstOf-getD noWind (j .winds .count) (w - 1) (j .winds .entry) (omega (arith, wind-counts w m, all))
 
-  wind-of : (w : ℕ) → List·Memᴰ w (numbers (length (g .winds)) 1) → List·Memᴰ (windAt g w) (g .winds)
-  wind-of w mw = getD-member (g .winds) (w - 1) noWind (wind-in w mw)
-
-  wind-is : (w : ℕ) → List·Memᴰ w (numbers (length (g .winds)) 1) → windAt g w ≡ windOf (j .winds) w
+  internal-is : (i : ℕ) → InternalNumber i → internalAt g i ≡ internalNumbered (j .internals) i
   unfolding carried
-  wind-is w mw = firstOf-getD noWind (j .winds .count) (w - 1) (j .winds .entry) (wind-counts w mw)
-
-  internal-is : (i : ℕ) → List·Memᴰ i (numbers (length (g .internals)) 1)
-      → internalAt g i ≡ internalOf (j .internals) i
-  unfolding carried
-  internal-is i mi =
-      let b = numbers-member (length (g .internals)) 1 mi in
+  internal-is i m =
+      let b = numbers-member (length (g .internals)) 1 m in
+      let all = firstOf-length (pos 0) (j .internals .count) (j .internals .entry) in
       firstOf-getD (pos 0) (j .internals .count) (i - 1) (j .internals .entry)
-      (omega (arith, b .low, b .high, firstOf-length (pos 0) (j .internals .count) (j .internals .entry)))
+      (omega (arith, b .low, b .high, all))
 
-  -- a direction that a wind has meets all faces
-  met-by : (w : ℕ) (d : ℤ) (k : ℕ) → List·Memᴰ w (numbers (length (g .winds)) 1) → windAt g w .direction ≡ d
-      → Meets j d k → surfaces j d k ≡ map (surfaceOn (j .building) d) (g .faces)
+  -- ---- one cell
+
+  -- what a face comes to under a wind and an internal coefficient
+  abbrev value : ℕ → ℕ → Face → ℤ
+  value w i f =
+      reachOf s axis (j .building) (windAt g w) f
+      -ℤ internalAt g i *ℤ pos 10 *ℤ weight axis (j .building) (windAt g w) f
+
+  abbrev chosenUnder : Wind → List ℕ
+  chosenUnder w = map (pickOf s axis (j .building) w) (g .faces)
+
+  abbrev caseAt : Cell → Case ℕ ℕ ℕ
+  caseAt t =
+      record { wind = t .wind; internal = t .internal; chosen = chosenUnder (windNumbered (j .winds) (t .wind)) }
+
+  abbrev totalOf : Wind → ℤ → ℤ
+  totalOf u c = cellTotal s (sumsOn axis (axesOf (j .building) u (g .faces))) c
+
+  abbrev cellOf : ℕ → ℕ → Best Cell
+  cellOf w i =
+      cellBest s (sumsOn axis (axesOf (j .building) (windNumbered (j .winds) w) (g .faces))) (j .internals) w i
+
+  -- the best case of a cell, at a total
+  abbrev found : ℕ → ℕ → Wind → ℤ → Best (Case ℕ ℕ ℕ)
+  found w i u v = at v (record { wind = w; internal = i; chosen = chosenUnder u })
+
+  cell-is : (w i : ℕ) → WindNumber w → InternalNumber i
+      → found w i (windAt g w) (sum (value w i) (g .faces)) ≡ tagged caseAt (cellOf w i)
+  unfolding tagged
+  cell-is w i mw mi =
+      let c = internalAt g i in
+      let u = windAt g w in
+      let b = j .building in
+      ap (found w i u) (sum-parted (reachOf s axis b u) (weight axis b u) (c *ℤ pos 10) (g .faces))
+      ∙ ap (found w i u) (cell-total axis s b u (g .faces) c)
+      ∙ (λ k. found w i (wind-is w mw k) (totalOf (wind-is w mw k) (internal-is i mi k)))
+
+  -- ---- all cells
+
+  face-is : Sound g → (w i : ℕ) (f : Face) → WindNumber w → InternalNumber i → List·Memᴰ f (g .faces)
+      → best s (loads axis g .force w i f) (loads axis g .alternatives w f)
+      ≡ at (value w i f) (pickOf s axis (j .building) (windAt g w) f)
   unfolding carried
-  met-by w d k mw e h =
-      ap (surfaces j d) (h .all (w - 1) (wind-counts w mw) (ap (λ u. u .direction) (sym (wind-is w mw)) ∙ e))
-      ∙ ap (map (surfaceOn (j .building) d)) (sym (firstOf-take noFace (j .faces .count) (j .faces .entry) room))
+  face-is sound w i f mw mi mf =
+      let u = windAt g w in
+      face-best s (internalAt g i) (pressure (g .density) u f) (area axis f) (acts f (u .direction)) (outsides g u f)
+      (sound u f (wind-in w mw) mf)
 
-  met-all : (w : ℕ) → List·Memᴰ w (numbers (length (g .winds)) 1)
-      → met (windAt g w .direction) ≡ map (surfaceOn (j .building) (windAt g w .direction)) (g .faces)
-  met-all w mw =
-      ⊎-elim (λ e. ap met e ∙ met-by w (pos 0) m mw e hm ∙ back (sym e))
-      (λ e. ap met e ∙ met-by w (pos 90) n mw e hn ∙ back (sym e))
-      (sound .direction (windAt g w) (wind-of w mw))
-    where
-      back : {c d : ℤ} → c ≡ d
-          → map (surfaceOn (j .building) c) (g .faces) ≡ map (surfaceOn (j .building) d) (g .faces)
-      back e = ap (λ d. map (surfaceOn (j .building) d) (g .faces)) e
+  wind-cells : (w : ℕ) → WindNumber w
+      → over s (λ i. found w i (windAt g w) (sum (value w i) (g .faces))) (numbers (length (g .internals)) 1)
+      ≡ tagged caseAt (over s (cellOf w) (numbers (length (g .internals)) 1))
+  wind-cells w mw =
+      over-same-in s _ _ (numbers (length (g .internals)) 1) (λ i mi. cell-is w i mw mi)
+      ∙ sym (tagged-over s caseAt (cellOf w) (numbers (length (g .internals)) 1))
 
-  module _ (axis : Axis) where
-    abbrev pub zero : Sums
-    zero = sumsOf axis (surfaces j (pos 0) m)
+  abbrev allCells : ℕ → ℕ → Best Cell
+  allCells winds internals = over s (λ w. over s (cellOf w) (numbers internals 1)) (numbers winds 1)
 
-    abbrev pub ninety : Sums
-    ninety = sumsOf axis (surfaces j (pos 90) n)
+  worst-cell : Sound g → worst s (loads axis g) ≡ tagged caseAt (bestUpTo axis s j (j .winds .count))
+  unfolding carried
+  worst-cell sound =
+      let winds = firstOf-length noWind (j .winds .count) (j .winds .entry) in
+      let internals = firstOf-length (pos 0) (j .internals .count) (j .internals .entry) in
+      worst-quick (loads axis g) s value (λ w i. pickOf s axis (j .building) (windAt g w)) (face-is sound)
+      ∙ over-same-in s _ _ (numbers (length (g .winds)) 1) wind-cells
+      ∙ sym (tagged-over s caseAt _ (numbers (length (g .winds)) 1))
+      ∙ (λ k. tagged caseAt (allCells (winds k) (internals k)))
 
-    met-sums : (d : ℤ) → sumsOf axis (met d) ≡ under d zero ninety
-    met-sums d = under-made (sumsOf axis) d (surfaces j (pos 0) m) (surfaces j (pos 90) n)
+  -- ---- as it is shown
 
-    module _ (s : Side) where
-      -- the best choice of a cell, as a case
-      abbrev caseAt : Cell → Case ℕ ℕ ℕ
-      caseAt t =
-          record {
-            wind = t .wind;
-            internal = t .internal;
-            chosen = map (pick s axis) (met (windOf (j .winds) (t .wind) .direction));
-          }
+  abbrev case : Top → Extreme
+  case t =
+      extremeWith t (j .faces .count)
+      (alternativesOf axis s (j .building) (windNumbered (j .winds) (t .wind)) (facesOf (j .faces)))
 
-      abbrev value : ℕ → ℕ → Face → ℤ
-      value w i f =
-          valueOf s axis (pressure (g .density) (windAt g w)) (internalAt g i)
-          (surfaceOn (j .building) (windAt g w .direction) f)
+  extreme-is : Sound g → (t : Top)
+      → at (t .total) (cell (t .wind) (t .internal)) ≡ bestUpTo axis s j (j .winds .count)
+      → case t ≡ extreme axis s (carried j)
+  unfolding carried shown tagged
+  extreme-is sound t e =
+      let faces = sym (firstOf-length noFace (j .faces .count) (j .faces .entry)) in
+      ap (λ b. shown (j .faces .count) (tagged caseAt b)) e
+      ∙ (λ k. shown (faces k) (sym (worst-cell sound) k))
 
-      abbrev picked : ℕ → ℕ → Face → ℕ
-      picked w i f = pick s axis (surfaceOn (j .building) (windAt g w .direction) f)
-
-      value-is : (w i : ℕ) → List·Memᴰ w (numbers (length (g .winds)) 1)
-          → sum (value w i) (g .faces) ≡ cellTotal s (under (windAt g w .direction) zero ninety .span)
-          (pressure (g .density) (windAt g w)) (internalAt g i)
-      value-is w i mw =
-          let on = surfaceOn (j .building) (windAt g w .direction) in
-          let p = pressure (g .density) (windAt g w) in
-          let c = internalAt g i in
-          sum-scaled (λ f. reach s axis (on f)) (λ f. areaOf axis (on f)) (c *ℤ pos 10) p (g .faces)
-          ∙ (λ k. (sym (sum-map (reach s axis) on (g .faces)) k -ℤ c *ℤ pos 10 *ℤ sym (sum-map (areaOf axis) on (g .faces)) k) *ℤ p)
-          ∙ cell-span s axis (map on (g .faces)) p c
-          ∙ ap (λ fs. cellTotal s (spanOf axis fs) p c) (sym (met-all w mw))
-          ∙ ap (λ (q : Sums). cellTotal s (q .span) p c) (met-sums (windAt g w .direction))
-
-      picked-is : (w i : ℕ) → List·Memᴰ w (numbers (length (g .winds)) 1)
-          → map (picked w i) (g .faces) ≡ map (pick s axis) (met (windAt g w .direction))
-      picked-is w i mw =
-          sym (map-map (pick s axis) (surfaceOn (j .building) (windAt g w .direction)) (g .faces))
-          ∙ ap (map (pick s axis)) (sym (met-all w mw))
-
-      -- one cell
-      cell-is : (w i : ℕ) → List·Memᴰ w (numbers (length (g .winds)) 1)
-          → List·Memᴰ i (numbers (length (g .internals)) 1)
-          → at (sum (value w i) (g .faces))
-          (record { wind = w; internal = i; chosen = map (picked w i) (g .faces) }) ≡ tagged caseAt
-          (cellBest s (under (windOf (j .winds) w .direction) zero ninety .span) (pressure (j .building .density) (windOf (j .winds) w)) (j .internals) w i)
-      unfolding tagged carried
-      cell-is w i mw mi =
-          (λ k. at (value-is w i mw k) (record { wind = w; internal = i; chosen = picked-is w i mw k }))
-          ∙ (λ k. at (cellTotal s (under (wind-is w mw k .direction) zero ninety .span) (pressure (j .building .density) (wind-is w mw k)) (internal-is i mi k)) (record { wind = w; internal = i; chosen = map (pick s axis) (met (wind-is w mw k .direction)) }))
-
-      worst-cell : worst s (loads axis g) ≡ tagged caseAt (bestCell s j zero ninety)
-      unfolding bestCell carried
-      worst-cell =
-          worst-quick (loads axis g) s value picked
-          (λ w i f mw mi mf. face-best s axis (pressure (g .density) (windAt g w)) (internalAt g i) f (sound .pressed (windAt g w) (wind-of w mw)) (windAt g w .direction) (outsides g (windAt g w) f) (sound .outside (windAt g w) f (wind-of w mw) mf))
-          ∙ over-same-in s _ _ (numbers (length (g .winds)) 1)
-          (λ w mw. over-same-in s _ _ (numbers (length (g .internals)) 1) (λ i mi. cell-is w i mw mi) ∙ sym (tagged-over s caseAt _ (numbers (length (g .internals)) 1)))
-          ∙ sym (tagged-over s caseAt _ (numbers (length (g .winds)) 1))
-          ∙ (λ k. tagged caseAt (over s (λ w. over s (cellBest s (under (windOf (j .winds) w .direction) zero ninety .span) (pressure (j .building .density) (windOf (j .winds) w)) (j .internals) w) (numbers (firstOf-length (pos 0) (j .internals .count) (j .internals .entry) k) 1)) (numbers (firstOf-length noWind (j .winds .count) (j .winds .entry) k) 1)))
-
-      -- and as it is shown
-      shown-cell : (b : Best Cell) → cellShown s j zero ninety b ≡ shown (j .faces .count) (tagged caseAt b)
-      unfolding shown tagged
-      shown-cell none = refl
-      shown-cell (at v t) =
-          λ k. record { total = v; wind = t .wind; internal = t .internal; faces = j .faces .count; alternative = (sym (picks-are s axis (met (windOf (j .winds) (t .wind) .direction)) ∙ ap (alternativesOf s) (met-sums (windOf (j .winds) (t .wind) .direction)))) k }
-
-      extreme-is : cellShown s j zero ninety (bestCell s j zero ninety) ≡ shown (length (g .faces))
-          (worst s (loads axis g))
-      unfolding carried
-      extreme-is =
-          shown-cell (bestCell s j zero ninety)
-          ∙ (λ k. shown (sym (firstOf-length noFace (j .faces .count) (j .faces .entry)) k) (sym worst-cell k))
-
-    pub extremes-are : extremesOf j zero ninety ≡ extremes axis (carried j)
-    extremes-are = λ k. record { greatest = extreme-is Greatest k; least = extreme-is Least k }
+-- so the tops that the engine finds, shown, are the six extremes
+pub six-are : (j : Job) → Sound (given (carried j)) → (e : Ends)
+    → ((axis : Axis) (s : Side) → let t = topAt axis s e in
+    at (t .total) (cell (t .wind) (t .internal)) ≡ bestUpTo axis s j (j .winds .count))
+    → sixOf j e ≡ sixExtremes (carried j)
+unfolding sixExtremes
+six-are j sound e h =
+    λ k. record {
+      x = record { greatest = on X Greatest k; least = on X Least k };
+      y = record { greatest = on Y Greatest k; least = on Y Least k };
+      z = record { greatest = on Z Greatest k; least = on Z Least k };
+    }
+  where
+    on : (axis : Axis) (s : Side) → case j axis s (topAt axis s e) ≡ extreme axis s (carried j)
+    on axis s = extreme-is j axis s sound (topAt axis s e) (h axis s)

@@ -17,9 +17,10 @@ use Rattle.worst.specs.Best.{NoFurther, at}
 use Rattle.worst.specs.Cases.{Case, numbers, worst}
 use Rattle.job.specs.Carried.{noWind}
 use Rattle.book.specs.Question.{net}
-use Rattle.worst.specs.Forces.{Given, acts, alternatives, outsides, pressure, area, force, windAt, internalAt}
+use Rattle.worst.specs.Forces.{Given, acts, pressure, area, force, windAt, internalAt}
 use Rattle.worst.specs.Forces.{loads}
-use Rattle.worst.proofs.Lists.{numbers-member, member-numbers, getD-member, member-getD}
+use Rattle.whole.proofs.ByPlace.{getD-member, member-getD}
+use Rattle.worst.proofs.Lists.{numbers-member, member-numbers}
 use Rattle.worst.proofs.Scale.{Raised}
 use Rattle.worst.proofs.Growth.{worst-more, worst-faster}
 
@@ -51,6 +52,19 @@ module _ {X : Type 0} (Like : X → X → Type 0) where
       back : (k : ℕ) → k + 1 - 1 ≡ k
       back k = omega arith
 
+-- ---- what a face's alternatives and its force go by
+
+module _ (outside : ℤ → ℕ → List ℤ) (direction : ℤ) (f : Face) where
+  abbrev alternativesBy : List ℕ
+  alternativesBy = cond (acts f direction) (numbers (length (outside direction (f .zone))) 1) (1 ∷ [])
+
+  abbrev coefficient : ℕ → ℤ
+  coefficient k = getD (outside direction (f .zone)) (k - 1) (pos 0)
+
+  abbrev forceBy : Axis → ℤ → Wind → ℤ → ℕ → ℤ
+  forceBy axis density w i k =
+      cond (acts f direction) (net (coefficient k) i *ℤ pressure density w f *ℤ area axis f) (pos 0)
+
 -- ---- more winds and internal coefficients
 
 pub given-more : (s : Side) (axis : Axis) (g g′ : Given) → SameSite g g′ → AllIn _≡_ (g .winds) (g′ .winds)
@@ -65,14 +79,9 @@ given-more s axis g g′ same hw hi v c v′ c′ e e′ =
       faces = same .faces;
       wind = numbered _≡_ noWind (g .winds) (g′ .winds) hw;
       internal = numbered _≡_ (pos 0) (g .internals) (g′ .internals) hi;
-      alternatives = λ w w′ r f.
-          λ j. cond (acts f (r j .direction)) (numbers (length (same .outside j (r j .direction) (f .zone))) 1)
-          (1 ∷ []);
+      alternatives = λ w w′ r f. λ j. alternativesBy (same .outside j) (r j .direction) f;
     })
-    (λ w w′ i i′ r q f k.
-    λ j. cond (acts f (r j .direction))
-    (net (getD (same .outside j (r j .direction) (f .zone)) (k - 1) (pos 0)) (q j) *ℤ pressure (same .density j) (r j) *ℤ area axis f)
-    (pos 0))
+    (λ w w′ i i′ r q f k. λ j. forceBy (same .outside j) (r j .direction) f axis (same .density j) (r j) (q j) k)
 
 -- ---- faster winds
 
@@ -95,32 +104,49 @@ force-squared n d a q =
     ∙ sym (*ℤ-assoc (n *ℤ d) a (pos q))
 
 module _ (axis : Axis) (g g′ : Given) (same : SameSite g g′) where
+  -- the force but for the speed squared
+  abbrev unitOf : Wind → ℤ → Face → ℕ → ℤ
+  unitOf w i f k =
+      let n = net (coefficient (g .outside) (w .direction) f k) i in
+      cond (acts f (w .direction)) (n *ℤ g .density *ℤ area axis f) (pos 0)
+
+  abbrev squareOf : Wind → ℕ
+  squareOf w = natAbs (w .speed) * natAbs (w .speed)
+
+  factored : (u : Wind) (f : Face) (t : Bool) (n : ℤ)
+      → cond t (n *ℤ pressure (g .density) u f *ℤ area axis f) (pos 0)
+      ≡ cond t (n *ℤ g .density *ℤ area axis f) (pos 0) *ℤ pos (squareOf u)
+  factored u f true n =
+      ap (λ (q : ℤ). n *ℤ (g .density *ℤ q) *ℤ area axis f) (squared (u .speed))
+      ∙ force-squared n (g .density) (area axis f) (squareOf u)
+  factored u f false n = sym (zero-*ℤ (pos (squareOf u)))
+
   raised : (w w′ : Wind) (i : ℤ) → Faster w w′ → Raised (force axis g w i) (force axis g′ w′ i)
   raised w w′ i h =
       record {
-        unit = λ f k.
-            cond (acts f (w .direction)) (net (getD (outsides g w f) (k - 1) (pos 0)) i *ℤ g .density *ℤ area axis f)
-            (pos 0);
-        factor = natAbs (w .speed) * natAbs (w .speed);
-        factor′ = natAbs (w′ .speed) * natAbs (w′ .speed);
+        unit = unitOf w i;
+        factor = squareOf w;
+        factor′ = squareOf w′;
         some = mul-pos (h .some) (h .some);
         risen = mul-le-mul (h .risen) (h .risen);
-        was = λ f k. factor w f (acts f (w .direction)) (net (getD (outsides g w f) (k - 1) (pos 0)) i);
+        was = λ f k. by-square w f k;
         becomes = λ f k.
-            (λ j.
-            cond (acts f (sym (h .direction) j))
-            (net (getD (sym (same .outside) j (sym (h .direction) j) (f .zone)) (k - 1) (pos 0)) i *ℤ pressure (sym (same .density) j) w′ *ℤ area axis f)
-            (pos 0))
-            ∙ factor w′ f (acts f (w .direction)) (net (getD (outsides g w f) (k - 1) (pos 0)) i);
+            (λ j. forceBy (outside j) (direction j) f axis (density j) w′ i k) ∙ by-square w′ f k;
       }
     where
-      factor : (u : Wind) (f : Face) (t : Bool) (n : ℤ)
-          → cond t (n *ℤ pressure (g .density) u *ℤ area axis f) (pos 0) ≡ cond t (n *ℤ g .density *ℤ area axis f)
-          (pos 0) *ℤ pos (natAbs (u .speed) * natAbs (u .speed))
-      factor u f true n =
-          ap (λ (q : ℤ). n *ℤ (g .density *ℤ q) *ℤ area axis f) (squared (u .speed))
-          ∙ force-squared n (g .density) (area axis f) (natAbs (u .speed) * natAbs (u .speed))
-      factor u f false n = sym (zero-*ℤ (pos (natAbs (u .speed) * natAbs (u .speed))))
+      outside : g′ .outside ≡ g .outside
+      outside = sym (same .outside)
+
+      density : g′ .density ≡ g .density
+      density = sym (same .density)
+
+      direction : w′ .direction ≡ w .direction
+      direction = sym (h .direction)
+
+      by-square : (u : Wind) (f : Face) (k : ℕ)
+          → forceBy (g .outside) (w .direction) f axis (g .density) u i k ≡ unitOf w i f k *ℤ pos (squareOf u)
+      by-square u f k =
+          factored u f (acts f (w .direction)) (net (coefficient (g .outside) (w .direction) f k) i)
 
   pub given-faster : (s : Side) → AllIn Faster (g .winds) (g′ .winds) → AllIn _≡_ (g .internals) (g′ .internals)
       → (v : ℤ) (c : Case ℕ ℕ ℕ) (v′ : ℤ) (c′ : Case ℕ ℕ ℕ) → worst s (loads axis g) ≡ at v c
@@ -133,9 +159,7 @@ module _ (axis : Axis) (g g′ : Given) (same : SameSite g g′) where
         faces = same .faces;
         wind = numbered Faster noWind (g .winds) (g′ .winds) hw;
         internal = numbered _≡_ (pos 0) (g .internals) (g′ .internals) hi;
-        alternatives = λ w w′ r f.
-            λ j. cond (acts f (r .direction j)) (numbers (length (same .outside j (r .direction j) (f .zone))) 1)
-            (1 ∷ []);
+        alternatives = λ w w′ r f. λ j. alternativesBy (same .outside j) (r .direction j) f;
       })
       (λ w w′ i i′ r q.
       subst (λ x. Raised (force axis g (windAt g w) (internalAt g i)) (force axis g′ (windAt g′ w′) x)) q

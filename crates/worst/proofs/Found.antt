@@ -1,20 +1,21 @@
--- A job with a wind and an internal coefficient has a best cell, and its numbers are of the job.
+-- A job with a wind and an internal coefficient has a best cell, and its wind is one of the job's.
 use mathlib.Core.Path.{_≡_, refl, sym, ap, _∙_, subst}
 use mathlib.Core.Bool.{Bool, true, false, cond}
 use Prim.Native.Nat.{ℕ, zero, suc, _+_, _≤_, _<_}
 use native.Mathlib.Omega.{arith}
 use lib.Dec.{eqb}
-use Rattle.worst.specs.declared.Side.{Side}
 use Rattle.job.specs.declared.Job.{Job}
-use Rattle.worst.specs.declared.sums.Sums.{Sums}
+use Rattle.worst.specs.declared.Side.{Side}
+use Rattle.worst.specs.declared.Axis.{Axis}
 use Rattle.worst.specs.declared.tops.Top.{Top}
 use Rattle.worst.specs.Best.{short, Best, none, at, better}
 use Rattle.worst.specs.Cases.{numbers}
 use Rattle.worst.specs.Quick.{over}
-use Rattle.worst.specs.Engine.{Ready, OnJob, cell, topOf, windBest, bestCell}
+use Rattle.worst.specs.Engine.{Cell, cell, topOf, windBest, bestUpTo}
+use Rattle.worst.specs.Small.{Ready, OnJob}
 
 -- something was found, and P holds of it
-abbrev pub Found : {A : Type 0} → (A → Type 0) → Best A → Type 0
+abbrev Found : {A : Type 0} → (A → Type 0) → Best A → Type 0
 Found P none = ⊥
 Found P (at v t) = P t
 
@@ -43,35 +44,33 @@ module _ {A : Type 0} (s : Side) (P : A → Type 0) where
       better-found (g k) (over s g (numbers (suc n) (suc k))) (f k (omega arith) (omega arith))
       (over-found g (suc n) (suc k) (omega arith) (λ x l u. f x (omega arith) (omega arith)))
 
-module _ (s : Side) (j : Job) (zero ninety : Sums) (h : Ready j) where
-  bestCell-found : Found (OnJob j) (bestCell s j zero ninety)
-  unfolding bestCell
-  bestCell-found =
-      over-found s (OnJob j) (windBest s (j .building) (j .winds) (j .internals) zero ninety) (j .winds .count) 1
-      (h .someWind)
-      (λ w lw uw.
-      over-found s (OnJob j) _ (j .internals .count) 1 (h .someInternal)
-      (λ i li ui. record { wind = omega arith; wind≤ = omega arith; internal = omega arith; internal≤ = omega arith }))
+module _ (j : Job) (h : Ready j) (axis : Axis) (s : Side) where
+  -- a cell of one of the job's winds
+  abbrev Counts : Cell → Type 0
+  Counts t = (0 < t .wind) × (t .wind ≤ j .winds .count)
 
-  -- the best cell, as a `Top` has it
-  pub record IsTop (top : Top) : Type 0 where
-    pub onJob : OnJob j (cell (top .wind) (top .internal))
-    pub best : at (top .total) (cell (top .wind) (top .internal)) ≡ bestCell s j zero ninety
+  abbrev best : Best Cell
+  best = bestUpTo axis s j (j .winds .count)
 
-  pub is-top : (top : Top) → topOf top ≡ bestCell s j zero ninety → IsTop top
-  is-top top e = go (eqb (top .wind) 0) refl
+  best-found : Found Counts best
+  best-found =
+      over-found s Counts (windBest axis s j) (j .winds .count) 1 (h .someWind)
+      (λ w low high.
+      over-found s Counts _ (j .internals .count) 1 (h .someInternal) (λ i l u. (omega arith, omega arith)))
+
+  -- the best cell, as a top has it
+  pub record IsTop (t : Top) : Type 0 where
+    pub onJob : OnJob j t
+    pub best : at (t .total) (cell (t .wind) (t .internal)) ≡ bestUpTo axis s j (j .winds .count)
+
+  pub is-top : (t : Top) → topOf t ≡ best → IsTop t
+  is-top t e = go (eqb (t .wind) 0) refl (subst (Found Counts) (sym e) best-found)
     where
-      found : Found (OnJob j) (topOf top)
-      found = subst (Found (OnJob j)) (sym e) bestCell-found
-
-      go : (t : Bool) → eqb (top .wind) 0 ≡ t → IsTop top
-      go true z =
-          absurd
-          (subst (λ t. Found (OnJob j) (cond t none (at (top .total) (cell (top .wind) (top .internal))))) z found)
-      go false z =
+      go : (z : Bool) → eqb (t .wind) 0 ≡ z → Found Counts (topOf t) → IsTop t
+      go true z f = absurd (rw z at f)
+      go false z f =
+          let counts = rw z at f in
           record {
-            onJob =
-                subst
-                (λ t. Found (OnJob j) (cond t none (at (top .total) (cell (top .wind) (top .internal))))) z found;
-            best = sym (ap (λ t. cond t none (at (top .total) (cell (top .wind) (top .internal)))) z) ∙ e;
+            onJob = record { wind = counts .0; wind≤ = counts .1 };
+            best = sym (ap (λ b. cond b none (at (t .total) (cell (t .wind) (t .internal)))) z) ∙ e;
           }

@@ -1,6 +1,6 @@
 -- What is kept of an earlier cell and a later one: the later only where there is no earlier one, or that falls short
 -- of it.
-use mathlib.Core.Path.{_≡_, ap, _∙_}
+use mathlib.Core.Path.{_≡_, refl, ap, _∙_}
 use mathlib.Core.Bool.{true, false}
 use Prim.Native.Nat.{ℕ, _<_}
 use native.Mathlib.Omega.{arith}
@@ -11,9 +11,11 @@ use mir.Val.{SFits, toZ, ofZ}
 use mir.ValLaws.{toZ-ofZ}
 use Rattle.worst.specs.declared.Side.{Side}
 use Rattle.worst.specs.declared.Side.the-variants.{Greatest, Least}
+use Rattle.worst.specs.declared.Axis.{Axis}
+use Rattle.worst.specs.declared.Axis.the-variants.{X, Y, Z}
 use Rattle.worst.specs.declared.tops.Top.{Top}
-use Rattle.worst.specs.Best.{short, at, better}
-use Rattle.worst.specs.Engine.{Cell, cell, topOf}
+use Rattle.worst.specs.Best.{short, none, at, better}
+use Rattle.worst.specs.Engine.{Cell, cell, topOf, noEnds, topAt}
 
 -- the later cell as the code makes it
 abbrev pub made : ℤ → ℕ → ℕ → Top
@@ -46,3 +48,18 @@ short-read s {x} {y} fx fy = λ i. short s (toZ-ofZ w64 x fx i) (toZ-ofZ w64 y f
 pub either : (P : Side → Type 0) → P Greatest → P Least → (s : Side) → P s
 either P g l Greatest = g
 either P g l Least = l
+
+-- and on every axis
+pub every-axis : (P : Axis → Type 0) → P X → P Y → P Z → (axis : Axis) → P axis
+every-axis P x y z X = x
+every-axis P x y z Y = y
+every-axis P x y z Z = z
+
+-- at first there is no top
+pub no-top : (axis : Axis) (s : Side) → topOf (topAt axis s noEnds) ≡ none
+no-top X Greatest = refl
+no-top X Least = refl
+no-top Y Greatest = refl
+no-top Y Least = refl
+no-top Z Greatest = refl
+no-top Z Least = refl

@@ -9,21 +9,19 @@ pub mod Scale  -- the pressure number as a factor of a sum
 pub mod Growth  -- more winds, more internal coefficients, faster winds
 pub mod Quick  -- the quick way finds the worst of all cases
 -- ---- numbers and lists as the code has them
-pub mod Lists  -- lists that loops go over
+pub mod Lists  -- numbers in order
 pub mod Padded  -- arrays filled from their start
 pub mod Told  -- a signed result read back
 pub mod Kept  -- the better of an earlier and a later cell
-pub mod Runs  -- the best of cells, gone through by number
+pub mod Table  -- the table of coefficients
+pub mod Ranges  -- how large every number can be
 -- ---- from one face to all cells
-pub mod Scaled  -- the forces of one face
 pub mod OneFace  -- the best of its alternatives
 pub mod Added  -- faces added up
-pub mod Surfaces  -- a face as its direction meets it
 pub mod Found  -- a job has a best cell
 pub mod AllCells  -- which is the worst of all its cases
 -- ---- jobs
 pub mod Demand  -- the third demand, for what a job gives
-pub mod Ranges  -- how large every number can be
 pub mod Accepted  -- what an accepted job gives
 pub mod Promises  -- the third demand, for accepted jobs
 pub mod Reckoned  -- refused, or accepted as what it carries

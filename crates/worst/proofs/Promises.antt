@@ -9,16 +9,19 @@ use lib.IntN.{ℤ, pos}
 use lib.ListN.{length}
 use Rattle.book.specs.Answer.{valuesOf}
 use Rattle.book.specs.Question.{outsideOf}
+use Rattle.entry.specs.declared.Wind.{Wind}
+use Rattle.entry.specs.declared.Face.{Face}
 use Rattle.job.specs.Carried.{Carried, noWind}
 use Rattle.job.specs.InOrder.{InOrder}
 use Rattle.worst.specs.declared.Side.{Side}
 use Rattle.worst.specs.declared.Axis.{Axis}
 use Rattle.worst.specs.Best.{NoFurther, Best, at, IsBest}
 use Rattle.worst.specs.Cases.{Case, numbers, cases, caseTotal, worst}
-use Rattle.worst.specs.Forces.{acts, windAt, loads}
+use Rattle.worst.specs.Forces.{acts, outsides, alternatives, windAt, loads}
 use Rattle.worst.specs.Shown.{shown}
 use Rattle.worst.specs.Worst.{given, extreme}
-use Rattle.worst.proofs.Lists.{getD-member, member-numbers}
+use Rattle.whole.proofs.ByPlace.{getD-member}
+use Rattle.worst.proofs.Lists.{Between, member-numbers}
 use Rattle.worst.proofs.Members.{worst-found, worst-is}
 use Rattle.worst.proofs.OneFace.{OneOrTwo, alone, pair}
 use Rattle.worst.proofs.Demand.{SameSite, AllIn, Faster, given-more, given-faster}
@@ -37,6 +40,12 @@ first-alternative true outs h = first-of-some outs (h refl)
 first-alternative false outs h = List·Memᴰ·head refl
 
 module _ (axis : Axis) (s : Side) (c : Carried) where
+  -- each face has an alternative
+  some-alternative : InOrder c → (w : Wind) → List·Memᴰ w (c .winds) → (f : Face) → List·Memᴰ f (c .faces)
+      → (k : ℕ) × List·Memᴰ k (alternatives (given c) w f)
+  some-alternative o w mw f mf =
+      (1, first-alternative (acts f (w .direction)) (outsides (given c) w f) (given-sound c o w f mw mf))
+
   -- the case that an extreme names, and that it is the first worst one
   pub record Shows : Type 0 where
     pub case : Case ℕ ℕ ℕ
@@ -49,16 +58,15 @@ module _ (axis : Axis) (s : Side) (c : Carried) where
   unfolding shown
   extreme-shows o =
       let l = loads axis (given c) in
-      let hw =
-      member-numbers 1 (length (c .winds)) 1
-      (record { low = omega arith; high = omega (arith, o .winds-counted .low) }) in
-      let hi =
-      member-numbers 1 (length (c .internals)) 1
-      (record { low = omega arith; high = omega (arith, o .internals-counted .low) }) in
+      let first = windAt (given c) 1 in
+      let one : Between 1 (length (c .winds)) 1 =
+      record { low = omega arith; high = omega (arith, o .winds-counted .low) } in
+      let one′ : Between 1 (length (c .internals)) 1 =
+      record { low = omega arith; high = omega (arith, o .internals-counted .low) } in
+      let hw = member-numbers 1 (length (c .winds)) 1 one in
+      let hi = member-numbers 1 (length (c .internals)) 1 one′ in
       let w = getD-member (c .winds) 0 noWind (omega (arith, o .winds-counted .low)) in
-      let r =
-      worst-found s l 1 1 hw hi
-      (λ f m. (1, first-alternative (acts f (windAt (given c) 1 .direction)) _ (given-sound c o .outside (windAt (given c) 1) f w m))) in
+      let r = worst-found s l 1 1 hw hi (some-alternative o first w) in
       let e : extreme axis s c .total ≡ r .0 =
       ap (λ (b : Best (Case ℕ ℕ ℕ)). shown (length (c .faces)) b .total) (r .2) in
       let f : worst s l ≡ at (extreme axis s c .total) (r .1) = r .2 ∙ ap (λ (v : ℤ). at v (r .1)) (sym e) in

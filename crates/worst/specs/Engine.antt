@@ -1,19 +1,16 @@
 -- What the engine's own records say. Only contracts of private functions cite it.
-use mathlib.Core.Path.{_≡_}
-use mathlib.Core.Bool.{true, cond}
+use mathlib.Core.Bool.{cond}
 use mathlib.Core.List.{List, map}
-use Prim.Native.Nat.{ℕ, _-_, _*_, _≤_, _<_}
-use lib.IntN.{ℤ, pos, natAbs, _+ℤ_, _-ℤ_, _*ℤ_}
-use lib.ListN.{length, getD, set}
+use Prim.Native.Nat.{ℕ, _-_}
+use lib.IntN.{ℤ, pos, _+ℤ_, _-ℤ_, _*ℤ_}
+use lib.ListN.{getD}
 use lib.Dec.{eqb}
+use Rattle.whole.specs.Lists.{firstOf}
 use Rattle.building.specs.declared.Building.{Building}
-use Rattle.building.specs.Places.{knows}
-use Rattle.building.specs.Test.{is}
-use Rattle.book.specs.Answer.{valuesOf}
-use Rattle.book.specs.Question.{outsideOf}
 use Rattle.job.specs.declared.Job.{Job}
 use Rattle.job.specs.declared.Winds.{Winds}
 use Rattle.job.specs.declared.Internals.{Internals}
+use Rattle.job.specs.declared.Faces.{Faces}
 use Rattle.entry.specs.declared.Wind.{Wind}
 use Rattle.entry.specs.declared.Face.{Face}
 use Rattle.job.specs.Carried.{noWind, noFace}
@@ -23,41 +20,26 @@ use Rattle.worst.specs.declared.Axis.{Axis}
 use Rattle.worst.specs.declared.Axis.the-variants.{X, Y, Z}
 use Rattle.worst.specs.declared.Extreme.{Extreme}
 use Rattle.worst.specs.declared.Extremes.{Extremes}
-use Rattle.worst.specs.declared.surface.Surface.{Surface}
-use Rattle.worst.specs.declared.sums.Span.{Span}
+use Rattle.worst.specs.declared.Six.{Six}
+use Rattle.worst.specs.declared.outside.Outside.{Outside}
 use Rattle.worst.specs.declared.sums.Sums.{Sums}
 use Rattle.worst.specs.declared.sums.Axes.{Axes}
 use Rattle.worst.specs.declared.tops.Top.{Top}
+use Rattle.worst.specs.declared.tops.Tops.{Tops}
 use Rattle.worst.specs.declared.tops.Ends.{Ends}
+use Rattle.worst.specs.declared.chosen.Blown.{Blown}
 use Rattle.worst.specs.Best.{short, Best, none, at}
 use Rattle.worst.specs.Cases.{numbers}
-use Rattle.worst.specs.Forces.{acts, pressure}
-use Rattle.worst.specs.Shown.{padded, shown}
+use Rattle.worst.specs.Forces.{acts, pressure, area}
+use Rattle.worst.specs.Shown.{padded}
 use Rattle.worst.specs.Quick.{over, sum}
+use Rattle.worst.specs.Table.{outsideAt}
 
--- ---- a face as a direction meets it
+-- ---- a face under a wind
 
-abbrev pub surfaceWith : ℤ → ℤ → Face → Surface
-surfaceWith first last f = record { first = first; second = last; x = f .x; y = f .y; z = f .z }
-
--- where it adds nothing
-abbrev pub noSurface : Surface
-noSurface = record { first = pos 0; second = pos 0; x = pos 0; y = pos 0; z = pos 0 }
-
--- the first and the last of its outside coefficients, which are one where it has one
-abbrev pub surfaceAt : List ℤ → Face → Surface
-surfaceAt outs f = surfaceWith (getD outs 0 (pos 0)) (getD outs (length outs - 1) (pos 0)) f
-
-abbrev pub surfaceOf : List ℤ → ℤ → Face → Surface
-surfaceOf outs direction f = cond (acts f direction) (surfaceAt outs f) noSurface
-
-abbrev pub surfaceOn : Building → ℤ → Face → Surface
-surfaceOn b direction f = surfaceOf (valuesOf (outsideOf b direction (f .zone))) direction f
-
-abbrev pub areaOf : Axis → Surface → ℤ
-areaOf X f = f .x
-areaOf Y f = f .y
-areaOf Z f = f .z
+-- pressure number × projected area, and 0 where it adds nothing
+abbrev pub weight : Axis → Building → Wind → Face → ℤ
+weight axis b w f = cond (acts f (w .direction)) (pressure (b .density) w f *ℤ area axis f) (pos 0)
 
 -- the further out of two, the first where they are alike; and which it is
 unfoldable pub further : Side → ℤ → ℤ → ℤ
@@ -66,64 +48,76 @@ further s a b = cond (short s a b) b a
 unfoldable pub which : Side → ℤ → ℤ → ℕ
 which s a b = cond (short s a b) 2 1
 
--- the further of its alternatives, as outside coefficient × area; and which it is
-abbrev pub reach : Side → Axis → Surface → ℤ
-reach s axis f = further s (f .first *ℤ areaOf axis f) (f .second *ℤ areaOf axis f)
+-- the further of two alternatives at a weight, as outside coefficient × weight; and which it is
+abbrev pub reach : Side → Outside → ℤ → ℤ
+reach s o weight = further s (o .first *ℤ weight) (o .last *ℤ weight)
 
-abbrev pub pick : Side → Axis → Surface → ℕ
-pick s axis f = which s (f .first *ℤ areaOf axis f) (f .second *ℤ areaOf axis f)
+abbrev pub pick : Side → Outside → ℤ → ℕ
+pick s o weight = which s (o .first *ℤ weight) (o .last *ℤ weight)
+
+-- and so for a face under a wind
+abbrev pub reachOf : Side → Axis → Building → Wind → Face → ℤ
+reachOf s axis b w f = reach s (outsideAt b (w .direction) (f .zone)) (weight axis b w f)
+
+abbrev pub pickOf : Side → Axis → Building → Wind → Face → ℕ
+pickOf s axis b w f = pick s (outsideAt b (w .direction) (f .zone)) (weight axis b w f)
 
 -- ---- faces added up
 
-abbrev pub spanOf : Axis → List Surface → Span
-spanOf axis fs =
-    record { greatest = sum (reach Greatest axis) fs; least = sum (reach Least axis) fs; area = sum (areaOf axis) fs }
+abbrev pub facesOf : Faces → List Face
+facesOf fs = firstOf noFace (fs .count) (fs .entry)
 
-abbrev pub sumsOf : Axis → List Surface → Sums
-sumsOf axis fs =
+abbrev pub sumsOf : Axis → Building → Wind → List Face → Sums
+sumsOf axis b w fs =
     record {
-      span = spanOf axis fs;
-      high = padded 24 (map (pick Greatest axis) fs);
-      low = padded 24 (map (pick Least axis) fs);
+      greatest = sum (reachOf Greatest axis b w) fs;
+      least = sum (reachOf Least axis b w) fs;
+      weight = sum (weight axis b w) fs;
     }
 
-abbrev pub axesOf : List Surface → Axes
-axesOf fs = record { x = sumsOf X fs; y = sumsOf Y fs; z = sumsOf Z fs }
+abbrev pub axesOf : Building → Wind → List Face → Axes
+axesOf b w fs = record { x = sumsOf X b w fs; y = sumsOf Y b w fs; z = sumsOf Z b w fs }
 
--- one face more, at place i
-abbrev pub withFace : Axis → ℕ → Surface → Sums → Sums
-withFace axis i f p =
+-- one face more: on one axis, at its weight there; on every axis, at its pressure number; and under a wind
+abbrev pub withWeight : Outside → ℤ → Sums → Sums
+withWeight o weight p =
     record {
-      span =
-          record {
-            greatest = p .span .greatest +ℤ reach Greatest axis f;
-            least = p .span .least +ℤ reach Least axis f;
-            area = p .span .area +ℤ areaOf axis f;
-          };
-      high = set (p .high) i (pick Greatest axis f);
-      low = set (p .low) i (pick Least axis f);
+      greatest = p .greatest +ℤ reach Greatest o weight;
+      least = p .least +ℤ reach Least o weight;
+      weight = p .weight +ℤ weight;
     }
 
-abbrev pub withSurface : ℕ → Surface → Axes → Axes
-withSurface i f p = record { x = withFace X i f (p .x); y = withFace Y i f (p .y); z = withFace Z i f (p .z) }
+abbrev pub withPressure : Face → Outside → ℤ → Axes → Axes
+withPressure f o pressure p =
+    record {
+      x = withWeight o (pressure *ℤ f .x) (p .x);
+      y = withWeight o (pressure *ℤ f .y) (p .y);
+      z = withWeight o (pressure *ℤ f .z) (p .z);
+    }
 
--- which of two a direction has: the first for 0, the second for 90
-abbrev pub under : {A : Type 0} → ℤ → A → A → A
-under direction zero ninety = cond (is (pos 90) direction) ninety zero
+abbrev pub withFace : Building → Wind → Face → Axes → Axes
+withFace b w f p =
+    let o = outsideAt b (w .direction) (f .zone) in
+    record {
+      x = withWeight o (weight X b w f) (p .x);
+      y = withWeight o (weight Y b w f) (p .y);
+      z = withWeight o (weight Z b w f) (p .z);
+    }
 
-abbrev pub sumOf : Side → Span → ℤ
+-- ---- cells: a wind and an internal coefficient
+
+abbrev pub sumOf : Side → Sums → ℤ
 sumOf Greatest p = p .greatest
 sumOf Least p = p .least
 
-abbrev pub alternativesOf : Side → Sums → List ℕ
-alternativesOf Greatest p = p .high
-alternativesOf Least p = p .low
+abbrev pub sumsOn : Axis → Axes → Sums
+sumsOn X p = p .x
+sumsOn Y p = p .y
+sumsOn Z p = p .z
 
--- ---- cells
-
--- the total of one wind and one internal coefficient, which is in hundredths
-abbrev pub cellTotal : Side → Span → ℤ → ℤ → ℤ
-cellTotal s p pressure internal = (sumOf s p -ℤ internal *ℤ pos 10 *ℤ p .area) *ℤ pressure
+-- the total of one internal coefficient, which is in hundredths
+abbrev pub cellTotal : Side → Sums → ℤ → ℤ
+cellTotal s p internal = sumOf s p -ℤ internal *ℤ pos 10 *ℤ p .weight
 
 -- where a cell stands: the numbers of its wind and its internal coefficient
 pub record Cell : Type 0 where
@@ -133,111 +127,75 @@ pub record Cell : Type 0 where
 abbrev pub cell : ℕ → ℕ → Cell
 cell w i = record { wind = w; internal = i }
 
+-- the best cell so far: on one side of one axis
 abbrev pub topOf : Top → Best Cell
 topOf t = cond (eqb (t .wind) 0) none (at (t .total) (cell (t .wind) (t .internal)))
 
-abbrev pub endOf : Side → Ends → Top
-endOf Greatest e = e .greatest
-endOf Least e = e .least
+abbrev pub noTop : Top
+noTop = record { total = pos 0; wind = 0; internal = 0 }
 
--- what stands at a number, from 1
-abbrev pub windOf : Winds → ℕ → Wind
-windOf ws w = getD (ws .entry) (w - 1) noWind
+abbrev pub noTops : Tops
+noTops = record { greatest = noTop; least = noTop }
 
-abbrev pub internalOf : Internals → ℕ → ℤ
-internalOf is i = getD (is .entry) (i - 1) (pos 0)
+abbrev pub noEnds : Ends
+noEnds = record { x = noTops; y = noTops; z = noTops }
 
--- the best of one cell; of a wind's cells; and of all
-abbrev pub cellBest : Side → Span → ℤ → Internals → ℕ → ℕ → Best Cell
-cellBest s p pressure is w i = at (cellTotal s p pressure (internalOf is i)) (cell w i)
+abbrev pub endOf : Side → Tops → Top
+endOf Greatest t = t .greatest
+endOf Least t = t .least
 
-abbrev pub cellsBest : Side → Span → ℤ → Internals → ℕ → Best Cell
-cellsBest s p pressure is w = over s (cellBest s p pressure is w) (numbers (is .count) 1)
+abbrev pub topsOn : Axis → Ends → Tops
+topsOn X e = e .x
+topsOn Y e = e .y
+topsOn Z e = e .z
 
-abbrev pub windBest : Side → Building → Winds → Internals → Sums → Sums → ℕ → Best Cell
-windBest s b ws is zero ninety w =
-    cellsBest s (under (windOf ws w .direction) zero ninety .span) (pressure (b .density) (windOf ws w)) is w
+abbrev pub topAt : Axis → Side → Ends → Top
+topAt axis s e = endOf s (topsOn axis e)
 
-unfoldable pub bestCell : Side → Job → Sums → Sums → Best Cell
-bestCell s j zero ninety =
-    over s (windBest s (j .building) (j .winds) (j .internals) zero ninety) (numbers (j .winds .count) 1)
+-- what has a number, from 1
+abbrev pub windNumbered : Winds → ℕ → Wind
+windNumbered ws w = getD (ws .entry) (w - 1) noWind
 
--- a cell as it is shown
-abbrev pub cellShown : Side → Job → Sums → Sums → Best Cell → Extreme
-cellShown s j zero ninety none = shown (j .faces .count) none
-cellShown s j zero ninety (at v t) =
-    record {
-      total = v;
-      wind = t .wind;
-      internal = t .internal;
-      faces = j .faces .count;
-      alternative = alternativesOf s (under (windOf (j .winds) (t .wind) .direction) zero ninety);
-    }
+abbrev pub internalNumbered : Internals → ℕ → ℤ
+internalNumbered is i = getD (is .entry) (i - 1) (pos 0)
 
-abbrev pub extremesOf : Job → Sums → Sums → Extremes
-extremesOf j zero ninety =
-    record {
-      greatest = cellShown Greatest j zero ninety (bestCell Greatest j zero ninety);
-      least = cellShown Least j zero ninety (bestCell Least j zero ninety);
-    }
+-- the best of one cell; of a wind's cells; and of the cells of the first n winds
+abbrev pub cellBest : Side → Sums → Internals → ℕ → ℕ → Best Cell
+cellBest s p is w i = at (cellTotal s p (internalNumbered is i)) (cell w i)
 
--- ---- bounds
+abbrev pub cellsBest : Side → Sums → Internals → ℕ → Best Cell
+cellsBest s p is w = over s (cellBest s p is w) (numbers (is .count) 1)
 
--- a surface's numbers are those of an acceptable job
-pub record Small (f : Surface) : Type 0 where
-  pub first : natAbs (f .first) ≤ 1200
-  pub second : natAbs (f .second) ≤ 1200
-  pub x : natAbs (f .x) ≤ 100000
-  pub y : natAbs (f .y) ≤ 100000
-  pub z : natAbs (f .z) ≤ 100000
+abbrev pub windBest : Axis → Side → Job → ℕ → Best Cell
+windBest axis s j w =
+    cellsBest s (sumsOn axis (axesOf (j .building) (windNumbered (j .winds) w) (facesOf (j .faces)))) (j .internals) w
 
--- what n faces can come to
-pub record SpanSmall (n : ℕ) (p : Span) : Type 0 where
-  pub greatest : natAbs (p .greatest) ≤ n * 120000000
-  pub least : natAbs (p .least) ≤ n * 120000000
-  pub area : natAbs (p .area) ≤ n * 100000
+abbrev pub bestUpTo : Axis → Side → Job → ℕ → Best Cell
+bestUpTo axis s j n = over s (windBest axis s j) (numbers n 1)
 
-abbrev pub SumsSmall : ℕ → Sums → Type 0
-SumsSmall n p = SpanSmall n (p .span)
+-- ---- the cell that was found, as it is shown
 
-pub record AxesSmall (n : ℕ) (p : Axes) : Type 0 where
-  pub x : SumsSmall n (p .x)
-  pub y : SumsSmall n (p .y)
-  pub z : SumsSmall n (p .z)
+abbrev pub blownOn : Side → Blown → Wind
+blownOn Greatest x = x .greatest
+blownOn Least x = x .least
 
-abbrev pub FacesSmall : Building → ℤ → ℕ → List Face → Type 0
-FacesSmall b direction n fs = (i : ℕ) → i < n → Small (surfaceOn b direction (getD fs i noFace))
+abbrev pub alternativesOf : Axis → Side → Building → Wind → List Face → List ℕ
+alternativesOf axis s b w fs = padded 24 (map (pickOf s axis b w) fs)
 
-abbrev pub Dense : Building → Type 0
-Dense b = natAbs (b .density) ≤ 1500
+abbrev pub extremeWith : Top → ℕ → List ℕ → Extreme
+extremeWith t faces chosen =
+    record { total = t .total; wind = t .wind; internal = t .internal; faces = faces; alternative = chosen }
 
-abbrev pub Slow : Wind → Type 0
-Slow w = natAbs (w .speed) ≤ 1000
+-- two tops with the alternatives of each
+abbrev pub withAlternatives : Tops → ℕ → List ℕ → List ℕ → Extremes
+withAlternatives t faces high low =
+    record { greatest = extremeWith (t .greatest) faces high; least = extremeWith (t .least) faces low }
 
-abbrev pub LowInternals : Internals → Type 0
-LowInternals is = (is .count ≤ 4) × ((k : ℕ) → k < is .count → natAbs (getD (is .entry) k (pos 0)) ≤ 100)
+abbrev pub extremesOf : Axis → Job → Tops → Extremes
+extremesOf axis j t =
+    withAlternatives t (j .faces .count)
+    (alternativesOf axis Greatest (j .building) (windNumbered (j .winds) (t .greatest .wind)) (facesOf (j .faces)))
+    (alternativesOf axis Least (j .building) (windNumbered (j .winds) (t .least .wind)) (facesOf (j .faces)))
 
--- a job that can be reckoned
-pub record Ready (j : Job) : Type 0 where
-  pub density : Dense (j .building)
-  pub someWind : 0 < j .winds .count
-  pub winds : j .winds .count ≤ 8
-  pub slow : (k : ℕ) → k < j .winds .count → Slow (getD (j .winds .entry) k noWind)
-  pub someInternal : 0 < j .internals .count
-  pub internals : LowInternals (j .internals)
-  pub faces : j .faces .count ≤ 24
-  pub small : (d : ℤ) → knows (j .building .kind) d ≡ true
-      → FacesSmall (j .building) d (j .faces .count) (j .faces .entry)
-
--- n faces, which are all of them where a wind has the direction
-pub record Meets (j : Job) (direction : ℤ) (n : ℕ) : Type 0 where
-  pub most : n ≤ j .faces .count
-  pub all : (k : ℕ) → k < j .winds .count → getD (j .winds .entry) k noWind .direction ≡ direction
-      → n ≡ j .faces .count
-
--- a cell of the job
-pub record OnJob (j : Job) (t : Cell) : Type 0 where
-  pub wind : 0 < t .wind
-  pub wind≤ : t .wind ≤ j .winds .count
-  pub internal : 0 < t .internal
-  pub internal≤ : t .internal ≤ j .internals .count
+abbrev pub sixOf : Job → Ends → Six
+sixOf j e = record { x = extremesOf X j (e .x); y = extremesOf Y j (e .y); z = extremesOf Z j (e .z) }

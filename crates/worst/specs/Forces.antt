@@ -37,9 +37,13 @@ outsides g w f = g .outside (w .direction) (f .zone)
 abbrev pub alternatives : Given → Wind → Face → List ℕ
 alternatives g w f = cond (acts f (w .direction)) (numbers (length (outsides g w f)) 1) (1 ∷ [])
 
+-- a wind's speed at a face: one for the whole building
+abbrev pub speedAt : Wind → Face → ℤ
+speedAt w f = w .speed
+
 -- P = density × V²
-abbrev pub pressure : ℤ → Wind → ℤ
-pressure density w = density *ℤ (w .speed *ℤ w .speed)
+abbrev pub pressure : ℤ → Wind → Face → ℤ
+pressure density w f = density *ℤ (speedAt w f *ℤ speedAt w f)
 
 abbrev pub area : Axis → Face → ℤ
 area X f = f .x
@@ -50,7 +54,7 @@ area Z f = f .z
 abbrev pub force : Axis → Given → Wind → ℤ → Face → ℕ → ℤ
 force axis g w internal f k =
     cond (acts f (w .direction))
-    (net (getD (outsides g w f) (k - 1) (pos 0)) internal *ℤ pressure (g .density) w *ℤ area axis f) (pos 0)
+    (net (getD (outsides g w f) (k - 1) (pos 0)) internal *ℤ pressure (g .density) w f *ℤ area axis f) (pos 0)
 
 -- ---- all of them
 

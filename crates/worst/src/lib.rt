@@ -5,10 +5,11 @@ ghost use Rattle.worst.specs.Worst.{worstOf};
 use job::Job;
 use verdict::Verdict;
 
-mod surface; // a face as a wind's direction meets it
-mod sums; // the faces of a direction, added up
+mod outside; // the outside coefficients, each looked up once
+mod sums; // the faces under a wind, added up
 mod tops; // the best cell so far
-mod cells; // every wind and internal coefficient in order
+mod cells; // every internal coefficient under a wind
+mod chosen; // the cases that were found, with their alternatives
 mod engine; // the six extremes
 mod reckon; // a refusal, or the six extremes
 

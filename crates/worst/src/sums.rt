@@ -1,32 +1,27 @@
-// The faces of one direction, added up once for all winds and internal coefficients: pressure and internal
-// coefficient are the
-// same for every face, so neither changes which of a face's alternatives is further out.
+// The faces under one wind, added up. A face's weight on an axis is its pressure number × its projected area. An
+// internal coefficient is one for all faces: it changes no choice of alternatives, and meets the sum of the weights.
 ghost use mathlib.Core.Path.{_≡_};
-ghost use mathlib.Core.List.{map};
-ghost use Prim.Native.Nat.{_≤_, _<_};
-ghost use lib.ListN.{take};
-ghost use Rattle.worst.specs.Engine.{Small, SumsSmall, AxesSmall, FacesSmall, areaOf, further, which};
-ghost use Rattle.worst.specs.Engine.{surfaceOn, withFace, withSurface, axesOf};
-use crate::Axis;
+ghost use Rattle.worst.specs.Forces.{pressure};
+ghost use Rattle.worst.specs.Table.{Filled, StillStand};
+ghost use Rattle.worst.specs.Engine.{further, facesOf, withWeight, withPressure, withFace, axesOf};
+ghost use Rattle.worst.specs.Small.{OutsideSmall, FaceSmall, Pressure, Weight, SumsSmall, AxesSmall};
+ghost use Rattle.worst.specs.Small.{Dense, Slow, Met, AllMet, StandsFor, StandForAll};
 use crate::Side;
-use crate::surface::Surface;
-use crate::surface::surface_on;
+use crate::outside::Outside;
+use crate::outside::found;
+use crate::outside::takes_part;
 use crate::tops::falls_short;
 use building::Building;
+use entry::Face;
+use entry::Wind;
 use job::Faces;
 
-// Of the products of outside coefficient and area the greatest and the least sum, and the sum of the areas.
-pub struct Span {
+// On one axis, of the products of outside coefficient and weight the greatest and the least sum; and the sum of the
+// weights.
+pub struct Sums {
     pub greatest: i64,
     pub least: i64,
-    pub area: i64,
-}
-
-// The span on one axis, with each face's alternative in the greatest sum and in the least.
-pub struct Sums {
-    pub span: Span,
-    pub high: [u8; 24],
-    pub low: [u8; 24],
+    pub weight: i64,
 }
 
 pub struct Axes {
@@ -35,91 +30,102 @@ pub struct Axes {
     pub z: Sums,
 }
 
-fn area(axis: Axis, f: Surface) -> i64
-    ensures { λ r. ⌜ r ≡ areaOf axis f ⌝ }
+// The pressure number of a wind at a face.
+pub(crate) fn pressure_of(b: Building, w: Wind, f: Face) -> i64
+    requires { ⌜ Dense b × Slow w ⌝ }
+    ensures { λ r. ⌜ r ≡ pressure (b .density) w f ⌝ }
 {
-    match axis {
-        Axis::X => f.x,
-        Axis::Y => f.y,
-        Axis::Z => f.z,
-    }
+    b.density * (w.speed * w.speed)
 }
 
 // The further out of two, the first where they are alike.
-fn the_further(side: Side, first: i64, second: i64) -> i64
-    ensures { λ r. ⌜ r ≡ further side first second ⌝ }
+fn the_further(side: Side, first: i64, last: i64) -> i64
+    ensures { λ r. ⌜ r ≡ further side first last ⌝ }
 {
-    if falls_short(side, first, second) {
-        return second;
+    if falls_short(side, first, last) {
+        return last;
     }
     first
 }
 
-// The number of the further: the second alternative only where the first falls short of it.
-fn alternative(side: Side, first: i64, second: i64) -> u8
-    ensures { λ r. ⌜ r ≡ which side first second ⌝ }
+// One face more on one axis, at its weight there.
+fn with_weight(sums: Sums, o: Outside, weight: i64) -> Sums
+    requires { ⌜ SumsSmall 23 sums × OutsideSmall o × Weight weight ⌝ }
+    ensures { λ r. ⌜ r ≡ withWeight o weight sums ⌝ }
 {
-    if falls_short(side, first, second) {
-        return 2;
+    let first = o.first * weight;
+    let last = o.last * weight;
+    Sums {
+        greatest: sums.greatest + the_further(Side::Greatest, first, last),
+        least: sums.least + the_further(Side::Least, first, last),
+        weight: sums.weight + weight,
     }
-    1
 }
 
-// One face more on one axis, at place i.
-fn with_face(sums: Sums, i: usize, axis: Axis, f: Surface) -> Sums
-    requires { ⌜ (i < 24) × SumsSmall 23 sums × Small f ⌝ }
-    ensures { λ r. ⌜ r ≡ withFace axis i f sums ⌝ }
+// One face more on every axis, at its pressure number.
+fn with_pressure(sums: Axes, f: Face, o: Outside, pressure: i64) -> Axes
+    requires { ⌜ AxesSmall 23 sums × FaceSmall f × OutsideSmall o × Pressure pressure ⌝ }
+    ensures { λ r. ⌜ r ≡ withPressure f o pressure sums ⌝ }
 {
-    let size = area(axis, f);
-    let first = f.first * size;
-    let second = f.second * size;
-    let span = Span {
-        greatest: sums.span.greatest + the_further(Side::Greatest, first, second),
-        least: sums.span.least + the_further(Side::Least, first, second),
-        area: sums.span.area + size,
-    };
-    let mut high = sums.high;
-    high[i] = alternative(Side::Greatest, first, second);
-    let mut low = sums.low;
-    low[i] = alternative(Side::Least, first, second);
-    Sums { span, high, low }
-}
-
-// One face more on every axis.
-fn with_surface(sums: Axes, i: usize, f: Surface) -> Axes
-    requires { ⌜ (i < 24) × AxesSmall 23 sums × Small f ⌝ }
-    ensures { λ r. ⌜ r ≡ withSurface i f sums ⌝ }
-{
-    let x = with_face(sums.x, i, Axis::X, f);
-    let y = with_face(sums.y, i, Axis::Y, f);
-    let z = with_face(sums.z, i, Axis::Z, f);
+    let x = with_weight(sums.x, o, pressure * f.x);
+    let y = with_weight(sums.y, o, pressure * f.y);
+    let z = with_weight(sums.z, o, pressure * f.z);
     Axes { x, y, z }
 }
 
-// The first n faces under a direction.
-pub(crate) fn added(b: Building, faces: Faces, n: usize, direction: i64) -> Axes
-    requires { ⌜ (n ≤ 24) × FacesSmall b direction n (faces .entry) ⌝ }
-    ensures { λ r. ⌜ r ≡ axesOf (map (surfaceOn b direction) (take n (faces .entry))) ⌝ }
+// One face more under a wind. One that does not take part adds nothing, and nothing is looked up for it.
+fn with_face(
+    sums: Axes,
+    b: Building,
+    w: Wind,
+    f: Face,
+    asked: &mut [bool; 16],
+    first: &mut [i64; 16],
+    last: &mut [i64; 16],
+) -> Axes
+    requires { ⌜ AxesSmall 23 sums × Met b w f × Filled b (now asked) (now first) (now last) ⌝ }
+    ensures { λ r. ⌜ (r ≡ withFace b w f sums) × Filled b (now (asked .exit)) (now (first .exit)) (now (last .exit))
+        × StillStand b (now (first .entry)) (now (last .entry)) (now (first .exit)) (now (last .exit))
+        × StandsFor b w f (now (first .exit)) (now (last .exit)) ⌝ }
+{
+    if takes_part(f, w) {
+        let o = found(b, w, f, asked, first, last);
+        let p = pressure_of(b, w, f);
+        return with_pressure(sums, f, o, p);
+    }
+    sums
+}
+
+// All faces under a wind.
+pub(crate) fn added(
+    b: Building,
+    faces: Faces,
+    w: Wind,
+    asked: &mut [bool; 16],
+    first: &mut [i64; 16],
+    last: &mut [i64; 16],
+) -> Axes
+    requires { ⌜ AllMet b faces w × Filled b (now asked) (now first) (now last) ⌝ }
+    ensures { λ r. ⌜ (r ≡ axesOf b w (facesOf faces))
+        × Filled b (now (asked .exit)) (now (first .exit)) (now (last .exit))
+        × StillStand b (now (first .entry)) (now (last .entry)) (now (first .exit)) (now (last .exit))
+        × StandForAll b w faces (now (first .exit)) (now (last .exit)) ⌝ }
 {
     let none = Sums {
-        span: Span {
-            greatest: 0,
-            least: 0,
-            area: 0,
-        },
-        high: [0u8; 24],
-        low: [0u8; 24],
+        greatest: 0,
+        least: 0,
+        weight: 0,
     };
+    let count = faces.count as usize;
     let mut sums = Axes {
         x: none,
         y: none,
         z: none,
     };
     let mut i = 0;
-    while i < n {
+    while i < count {
         let f = faces.entry[i];
-        let s = surface_on(b, direction, f);
-        sums = with_surface(sums, i, s);
+        sums = with_face(sums, b, w, f, asked, first, last);
         i += 1;
     }
     sums

@@ -1,20 +1,46 @@
-// The best cell so far on either side: a total, with the numbers of its wind and its internal coefficient.
+// The best cell so far: a total, with the numbers of its wind and its internal coefficient.
 ghost use mathlib.Core.Path.{_≡_};
 ghost use Prim.Native.Nat.{_<_};
 ghost use Rattle.worst.specs.Best.{short, at, better};
-ghost use Rattle.worst.specs.Engine.{cell, topOf};
+ghost use Rattle.worst.specs.Engine.{cell, topOf, noEnds};
 use crate::Side;
 
 // Nothing yet, where the wind is 0.
 pub struct Top {
     pub total: i64,
-    pub wind: usize,
-    pub internal: usize,
+    pub wind: u32,
+    pub internal: u32,
+}
+
+// On one axis, and on all.
+pub struct Tops {
+    pub greatest: Top,
+    pub least: Top,
 }
 
 pub struct Ends {
-    pub greatest: Top,
-    pub least: Top,
+    pub x: Tops,
+    pub y: Tops,
+    pub z: Tops,
+}
+
+pub(crate) fn no_ends() -> Ends
+    ensures { λ r. ⌜ r ≡ noEnds ⌝ }
+{
+    let none = Top {
+        total: 0,
+        wind: 0,
+        internal: 0,
+    };
+    let pair = Tops {
+        greatest: none,
+        least: none,
+    };
+    Ends {
+        x: pair,
+        y: pair,
+        z: pair,
+    }
 }
 
 // Whether y is strictly further out than x.
@@ -28,7 +54,7 @@ pub(crate) fn falls_short(side: Side, x: i64, y: i64) -> bool
 }
 
 // A later cell takes the place of an earlier one only where that falls short of it.
-pub(crate) fn kept(side: Side, top: Top, total: i64, wind: usize, internal: usize) -> Top
+pub(crate) fn kept(side: Side, top: Top, total: i64, wind: u32, internal: u32) -> Top
     requires { ⌜ 0 < wind ⌝ }
     ensures { λ r. ⌜ topOf r ≡ better side (topOf top) (at total (cell wind internal)) ⌝ }
 {

@@ -1,72 +1,102 @@
--- `cells::over_internals` meets its contract: the loop's state is `Run` over the internal coefficients.
-use mathlib.Core.Path.{_≡_, ap, _∙_}
+-- `cells::over_internals` meets its contract: after i of them each top is the best of what stood before and of the
+-- first i.
+use mathlib.Core.Path.{_≡_, sym, ap, _∙_, subst}
 use Prim.Native.Nat.{ℕ, _+_, _≤_, _-_}
 use native.Mathlib.Omega.{arith}
 use borrow.Author.Needs.{needs}
-use lib.IntN.{ℤ, pos, natAbs}
+use lib.IntN.{pos}
 use lib.ListN.{getD}
 use mir.Syntax.{w64}
-use mir.Val.{toZ, ofZ}
-use mir.ValLaws.{toZ-ofZ}
-use Rattle.whole.proofs.Size.{num≤, back}
-use Rattle.job.specs.declared.Internals.{Internals}
+use Rattle.whole.proofs.Size.{Num, num≤, back, bound}
+use Rattle.worst.specs.declared.Axis.{Axis}
+use Rattle.worst.specs.declared.Axis.the-variants.{X, Y, Z}
+use Rattle.worst.specs.declared.Side.{Side}
+use Rattle.worst.specs.declared.tops.Top.{Top}
 use Rattle.worst.specs.Best.{at, better}
-use Rattle.worst.specs.Engine.{cell, topOf, endOf, cellTotal, cellBest, cellsBest}
-use Rattle.worst.proofs.Runs.{Run, run-start, run-step, run-end, at-next}
+use Rattle.worst.specs.Cases.{numbers}
+use Rattle.worst.specs.Quick.{over}
+use Rattle.worst.specs.Engine.{sumsOn, cellTotal, cell, topOf, endOf, topAt, cellBest}
+use Rattle.worst.proofs.Lists.{at-number}
+use Rattle.worst.proofs.Better.{better-none, over-after}
+use Rattle.worst.proofs.Kept.{every-axis}
 use Rattle.worst.proofs.cells.over_internals.Statement.{statement}
 use Rattle.worst.proofs.cells.over_internals.Tie as tie
 
 abbrev Inv-loop : tie.InvT-loop
-Inv-loop span pressure wind internals count best₀ i₀ best i =
-    (i ≤ count) × Run (λ s. cellBest s span (toZ w64 pressure) internals wind) count best₀ best i
+Inv-loop sums wind internals count best₀ i₀ best i =
+    (i ≤ count)
+    × ((axis : Axis) (s : Side) → topOf (topAt axis s best)
+    ≡ better s (topOf (topAt axis s best₀)) (over s (cellBest s (sumsOn axis sums) internals wind) (numbers i 1)))
 
 abbrev μ-loop : tie.MeasureT-loop
-μ-loop span pressure wind internals count best₀ i₀ best i = count - i
-
--- the pressure number and an internal coefficient, read back from their bits
-pressed : (a : tie.Start Inv-loop μ-loop) → toZ w64 (ofZ w64 (a .args .pressure)) ≡ a .args .pressure
-pressed a = toZ-ofZ w64 (a .args .pressure) (a .fits .pressure)
-
-plain : (is : Internals) (i : ℕ) → natAbs (getD (is .entry) i (pos 0)) ≤ 100
-    → toZ w64 (ofZ w64 (getD (is .entry) i (pos 0))) ≡ getD (is .entry) i (pos 0)
-plain is i h = back w64 (num≤ (getD (is .entry) i (pos 0)) h) tt .same
+μ-loop sums wind internals count best₀ i₀ best i = count - i
 
 loop-holds : tie.Need-loop-holds Inv-loop μ-loop
-loop-holds c = (search needs, run-start _ _ _)
+unfolding over numbers
+loop-holds c = (search needs, λ axis s. sym (better-none s (topOf (topAt axis s (c .args .ends)))))
 
-with-cell-requires : tie.Need-with-cell-requires Inv-loop μ-loop
-with-cell-requires c κs =
-    let a = c .before .before .before in
-    let some = a .pre .3 in
-    let low = a .pre .2 .1 (c .before .before .loop .i) (c .before .loop-test .taken) in (
-      a .pre .0,
-      rw (pressed a) (a .pre .1),
-      rw (plain (a .args .t4) (c .before .before .loop .i) low) low,
-      omega arith,
-    )
+-- the internal coefficient, read back from its bits
+module _ (c : tie.After-internal Inv-loop μ-loop) where
+  abbrev a : tie.Start Inv-loop μ-loop
+  a = c .before .before .before
+
+  abbrev i : ℕ
+  i = c .before .before .loop .i
+
+  abbrev internal : Num
+  internal =
+      back w64 (num≤ (getD (a .args .t3 .entry) i (pos 0)) (a .pre .1 .1 i (c .before .loop-test .taken))) tt
+
+  -- a top that was kept in the cell's place, or for it
+  stepped : (axis : Axis) (s : Side) (t : Top)
+      → let before = c .before .before .loop .best in
+      let total = cellTotal s (sumsOn axis (a .args .sums)) in
+      let best = cellBest s (sumsOn axis (a .args .sums)) (a .args .t3) (a .args .wind) in
+      topOf t ≡ better s (topOf (topAt axis s before)) (at (total (internal .has)) (cell (a .args .wind) (i + 1)))
+      → topOf t ≡ better s (topOf (topAt axis s (a .args .ends))) (over s best (numbers (i + 1) 1))
+  stepped axis s t e =
+      let numbered = internal .same ∙ at-number (λ k. getD (a .args .t3 .entry) k (pos 0)) i in
+      let total = cellTotal s (sumsOn axis (a .args .sums)) in
+      let place = cell (a .args .wind) (i + 1) in
+      e
+      ∙ (λ k. better s (c .before .before .loop .inv .1 axis s k) (at (total (numbered k)) place))
+      ∙ over-after s _ (topOf (topAt axis s (a .args .ends))) i
+
+on-x : tie.Need-with-cell-requires Inv-loop μ-loop
+on-x c κs = (a c .pre .0 .x, bound (internal c), a c .pre .2)
+
+on-y : tie.Need-with-cell-requires-2 Inv-loop μ-loop
+on-y c κs = let d = c .before in (a d .pre .0 .y, bound (internal d), a d .pre .2)
+
+on-z : tie.Need-with-cell-requires-3 Inv-loop μ-loop
+on-z c κs = let d = c .before .before in (a d .pre .0 .z, bound (internal d), a d .pre .2)
 
 loop-again : tie.Need-loop-again Inv-loop μ-loop
 loop-again c =
-    let a = c .before .before .before .before in
-    let l = c .before .before .before .loop in
-    let t = c .before .before .loop-test .taken in
-    let internals = a .args .t4 in (
+    let y = c .before in
+    let x = y .before in
+    let d = x .before in
+    let t = d .before .loop-test .taken in (
       omega arith,
-      run-step _ _ _ (l .best) (c .with-cell .result) (l .i) t (l .inv .1)
-          (λ s. c .with-cell .ensures s ∙ ap (λ (x : ℤ). better s (topOf (endOf s (l .best))) (at (cellTotal s (a .args .span) (toZ w64 (ofZ w64 (a .args .pressure))) x) (cell (a .args .wind) (l .i + 1)))) (plain internals (l .i) (a .pre .2 .1 (l .i) t) ∙ at-next (λ k. getD (internals .entry) k (pos 0)) (l .i))),
+      every-axis _ (λ s. stepped d X s (endOf s (x .with-cell .result)) (x .with-cell .ensures s))
+          (λ s. stepped d Y s (endOf s (y .with-cell2 .result)) (y .with-cell2 .ensures s))
+          (λ s. stepped d Z s (endOf s (c .with-cell3 .result)) (c .with-cell3 .ensures s)),
     )
 
 returns : tie.Need-returns Inv-loop μ-loop
 returns c =
-    let a = c .before .before in
     let l = c .before .loop in
-    λ s. run-end _ _ _ (l .best) (l .i) (c .loop-test .left) (l .inv .1) s
-    ∙ ap
-    (λ (p : ℤ). better s (topOf (endOf s (a .args .ends))) (cellsBest s (a .args .span) p (a .args .t4) (a .args .wind)))
-    (pressed a)
+    let s = c .before .before .args in
+    let left = c .loop-test .left in
+    let e : l .i ≡ s .t3 .count = omega (arith, l .inv .0) in
+    subst
+    (λ n. (axis : Axis) (side : Side) → topOf (topAt axis side (l .best))
+    ≡ better side (topOf (topAt axis side (s .ends)))
+    (over side (cellBest side (sumsOn axis (s .sums)) (s .t3) (s .wind)) (numbers n 1)))
+    e (l .inv .1)
 
 pub over-internals-spec : {M : Type 1} → statement M
 over-internals-spec =
     tie.close
     (tie.spec Inv-loop μ-loop (λ c. search needs) loop-holds (λ c. search needs) (λ c. search needs)
-    (λ c. search needs) with-cell-requires (λ c. search needs) loop-again returns)
+    (λ c. search needs) (λ c. search needs) on-x on-y on-z (λ c. search needs) loop-again returns)

@@ -1,89 +1,153 @@
--- `engine::six_of` meets its contract: the best cells from the sums under either direction are the worst of all
--- cases.
-use mathlib.Core.Path.{_≡_, refl, _∙_}
-use Prim.Native.Nat.{_≤_}
+-- `engine::six_of` meets its contract: after w winds each top is the best cell of the first w, and their coefficients
+-- stand in the table.
+use mathlib.Core.Path.{_≡_, sym, ap, _∙_, subst}
+use Prim.Native.Nat.{ℕ, _+_, _-_, _≤_, _<_}
 use native.Mathlib.Omega.{arith}
 use borrow.Author.Needs.{needs}
-use lib.IntN.{pos}
-use lib.ListN.{length}
-use Rattle.worst.specs.Engine.{AxesSmall, Ready}
-use Rattle.worst.proofs.Lists.{mapped-length}
-use Rattle.worst.proofs.Accepted.{job-ready, met-few, met-small, six-are}
+use lib.ListN.{getD}
+use Rattle.entry.specs.declared.Wind.{Wind}
+use Rattle.job.specs.declared.Job.{Job}
+use Rattle.job.specs.Carried.{carried, noWind}
+use Rattle.worst.specs.declared.Axis.{Axis}
+use Rattle.worst.specs.declared.Side.{Side}
+use Rattle.worst.specs.declared.sums.Axes.{Axes}
+use Rattle.worst.specs.Best.{better}
+use Rattle.worst.specs.Cases.{numbers}
+use Rattle.worst.specs.Quick.{over}
+use Rattle.worst.specs.Table.{Filled}
+use Rattle.worst.specs.Engine.{facesOf, axesOf, sumsOn, topOf, topAt, windNumbered, cellsBest, windBest}
+use Rattle.worst.specs.Engine.{bestUpTo}
+use Rattle.worst.specs.Small.{AxesSmall, AllMet, Ready, StandForAll}
+use Rattle.worst.proofs.Lists.{below-next, at-number}
+use Rattle.worst.proofs.Better.{over-next}
+use Rattle.worst.proofs.Table.{nothing-filled, still-for}
+use Rattle.worst.proofs.Kept.{no-top}
+use Rattle.worst.proofs.Added.{axes-small}
+use Rattle.worst.proofs.Found.{IsTop, is-top}
+use Rattle.worst.proofs.AllCells.{six-are}
+use Rattle.worst.proofs.Accepted.{job-ready, given-sound}
 use Rattle.worst.proofs.engine.six_of.Statement.{statement}
 use Rattle.worst.proofs.engine.six_of.Tie as tie
 
-room : (a : tie.Start) → a .args .job .faces .count ≤ length (a .args .job .faces .entry)
-room a =
-    let f : length (a .args .job .faces .entry) ≡ 24 = search (needs, mapped-length) in
-    omega (arith, job-ready (a .args .job) (a .pre) .faces)
+abbrev Inv-loop : tie.InvT-loop
+Inv-loop job b winds internals faces count asked₀ first₀ last₀ ends₀ w₀ asked first last ends w =
+    (w ≤ count) × ((axis : Axis) (s : Side) → topOf (topAt axis s ends) ≡ bestUpTo axis s job w)
+    × Filled b asked first last
+    × ((k : ℕ) → k < w → StandForAll b (getD (winds .entry) k noWind) faces first last)
 
-faces-met-requires : tie.Need-faces-met-requires
-faces-met-requires c κs = let a = c .before .before in job-ready (a .args .job) (a .pre)
+abbrev μ-loop : tie.MeasureT-loop
+μ-loop job b winds internals faces count asked₀ first₀ last₀ ends₀ w₀ asked first last ends w = count - w
 
-faces-met-requires-2 : tie.Need-faces-met-requires-2
-faces-met-requires-2 c κs = let a = c .before .before .before in job-ready (a .args .job) (a .pre)
+loop-holds : tie.Need-loop-holds Inv-loop μ-loop
+unfolding over numbers
+loop-holds c =
+    let none = c .no-ends .ensures in (
+      search needs,
+      λ axis s. ap (λ e. topOf (topAt axis s e)) none ∙ no-top axis s,
+      nothing-filled _,
+      λ k h. absurd (omega arith),
+    )
 
-added-requires : tie.Need-added-requires
-added-requires c κs =
-    let m = c .before in
-    let a = m .before .before .before in
-    met-few (a .args .job) (a .pre) (pos 0) (m .faces-met .result) refl (m .faces-met .ensures)
+-- a wind that counts
+module _ (d : tie.In-loop Inv-loop μ-loop) where
+  abbrev a : tie.Start Inv-loop μ-loop
+  a = d .before .before .before .before .before .before .before
 
-added-requires-2 : tie.Need-added-requires-2
-added-requires-2 c κs =
-    let m = c .before in
-    let a = m .before .before .before .before in
-    met-few (a .args .job) (a .pre) (pos 90) (m .faces-met2 .result) refl (m .faces-met2 .ensures)
+  abbrev job : Job
+  job = a .args .job
 
--- both sums are small
-module _ (c : tie.After-added2) where
-  abbrev n : tie.After-faces-met2
-  n = c .before .before
+  ready : Ready job
+  ready = job-ready job (a .pre)
 
-  abbrev m : tie.After-faces-met
-  m = n .before
+  abbrev w : ℕ
+  w = d .before .loop .w
 
-  abbrev a : tie.Start
-  a = m .before .before .before
+  abbrev wind : Wind
+  wind = getD (job .winds .entry) w noWind
 
-  zero-small : AxesSmall 24 (c .before .added .result)
-  zero-small =
-      met-small (a .args .job) (a .pre) (pos 0) (m .faces-met .result) refl (m .faces-met .ensures)
-      (c .before .added .result) (c .before .added .ensures)
+  below : w < 8
+  below = let t = d .loop-test .taken in omega (arith, ready .winds)
 
-  ninety-small : AxesSmall 24 (c .added2 .result)
-  ninety-small =
-      met-small (a .args .job) (a .pre) (pos 90) (n .faces-met2 .result) refl (n .faces-met2 .ensures)
-      (c .added2 .result) (c .added2 .ensures)
+  met : AllMet (job .building) (job .faces) wind
+  met = ready .met w (d .loop-test .taken)
 
-  -- so those of any axis are
-  ready : Ready (a .args .job) × AxesSmall 24 (c .before .added .result) × AxesSmall 24 (c .added2 .result)
-  ready = (job-ready (a .args .job) (a .pre), zero-small, ninety-small)
+  -- its sums, by its number
+  summed : {r : Axes} → r ≡ axesOf (job .building) wind (facesOf (job .faces))
+      → r ≡ axesOf (job .building) (windNumbered (job .winds) (w + 1)) (facesOf (job .faces))
+  summed e =
+      let numbered = at-number (λ k. getD (job .winds .entry) k noWind) w in
+      e ∙ ap (λ u. axesOf (job .building) u (facesOf (job .faces))) numbered
 
-extremes-requires : tie.Need-extremes-requires
-extremes-requires c κs = let r = ready c in search needs
+abbrev asking : tie.After-last Inv-loop μ-loop → tie.In-loop Inv-loop μ-loop
+asking c = c .before .before .before .before
 
-extremes-requires-2 : tie.Need-extremes-requires-2
-extremes-requires-2 c κs = let r = ready (c .before) in search needs
+added-requires : tie.Need-added-requires Inv-loop μ-loop
+added-requires c κs = let d = asking c in (met d, d .before .loop .inv .2)
 
-extremes-requires-3 : tie.Need-extremes-requires-3
-extremes-requires-3 c κs = let r = ready (c .before .before) in search needs
+over-internals-requires : tie.Need-over-internals-requires Inv-loop μ-loop
+over-internals-requires c κs =
+    let d = asking (c .before) in
+    let j = job d in
+    let n = j .faces .count in
+    let small = axes-small (j .building) (j .faces) (wind d) (met d) n (omega arith) 24 (met d .few) in
+    (subst (AxesSmall 24) (sym (c .added .ensures .0)) small, ready d .internals, omega arith)
 
-returns : tie.Need-returns
+loop-again : tie.Need-loop-again Inv-loop μ-loop
+loop-again c =
+    let u = c .before in
+    let d = asking (u .before) in
+    let t = d .loop-test .taken in
+    let j = job d in
+    let inv = d .before .loop .inv in
+    let e = u .added .ensures in (
+      omega arith,
+      λ axis s. c .over-internals .ensures axis s
+          ∙ (λ k. better s (inv .1 axis s k) (cellsBest s (sumsOn axis (summed d (e .0) k)) (j .internals) (w d + 1)))
+          ∙ over-next s (windBest axis s j) (w d),
+      e .1,
+      below-next (λ k. StandForAll (j .building) (getD (j .winds .entry) k noWind) (j .faces) _ _) (w d)
+          (λ k h i q. still-for (e .2) (inv .3 k h i q)) (e .3),
+    )
+
+-- every wind has been gone through
+module _ (c : tie.After-loop Inv-loop μ-loop) where
+  abbrev start : tie.Start Inv-loop μ-loop
+  start = c .before .before .before .before .before .before .before
+
+  abbrev l : tie.At-loop Inv-loop μ-loop
+  l = c .before
+
+  all : l .loop .w ≡ start .args .job .winds .count
+  all = let left = c .loop-test .left in omega (arith, l .loop .inv .0)
+
+  top : (axis : Axis) (s : Side)
+      → IsTop (start .args .job) (job-ready (start .args .job) (start .pre)) axis s (topAt axis s (l .loop .ends))
+  top axis s =
+      let j = start .args .job in
+      is-top j (job-ready j (start .pre)) axis s (topAt axis s (l .loop .ends))
+      (l .loop .inv .1 axis s ∙ ap (bestUpTo axis s j) all)
+
+shown-requires : tie.Need-shown-requires Inv-loop μ-loop
+shown-requires c κs =
+    let d = c .before .before in
+    let n = all d in (
+      job-ready (start d .args .job) (start d .pre),
+      λ axis s. top d axis s .onJob,
+      λ k h. l d .loop .inv .3 k (omega arith),
+    )
+
+returns : tie.Need-returns Inv-loop μ-loop
 returns c =
     let d = c .before .before .before in
-    (λ k.
-    record {
-      x = c .before .before .extremes .ensures k;
-      y = c .before .extremes2 .ensures k;
-      z = c .extremes3 .ensures k;
-    })
-    ∙ six-are (a d .args .job) (a d .pre) (room (a d)) (m d .faces-met .result) (n d .faces-met2 .result)
-    (m d .faces-met .ensures) (n d .faces-met2 .ensures) (d .before .added .result) (d .added2 .result)
-    (d .before .added .ensures) (d .added2 .ensures)
+    let j = start d .args .job in
+    c .shown .ensures
+    ∙ six-are j (given-sound (carried j) (start d .pre)) (l d .loop .ends) (λ axis s. top d axis s .best)
 
 pub six-of-spec : {M : Type 1} → statement M
 six-of-spec =
     tie.close
-    (tie.spec faces-met-requires faces-met-requires-2 added-requires added-requires-2 extremes-requires
-    extremes-requires-2 extremes-requires-3 returns)
+    (tie.spec Inv-loop μ-loop (λ c. search needs) (λ c κs. search needs) loop-holds
+    (λ c. record { fits = omega (arith, below c) }) (λ c. omega (arith, below c)) added-requires
+    (λ c. record { fits = omega (arith, below (asking (c .before))) })
+    (λ c. record { fits = omega (arith, below (asking (c .before))) }) over-internals-requires (λ c. search needs)
+    loop-again shown-requires returns)

@@ -1,81 +1,87 @@
--- `sums::added` meets its contract: after i faces the sums are those of the first i.
+-- `sums::added` meets its contract: after i faces the sums are those of the first i, and what these asked for stands.
 use mathlib.Core.Path.{_≡_, refl, sym, ap, _∙_, subst}
-use mathlib.Core.List.{map}
-use Prim.Native.Nat.{_≤_, _-_}
+use Prim.Native.Nat.{ℕ, _≤_, _<_, _-_}
 use native.Mathlib.Omega.{arith}
 use borrow.Author.Needs.{needs}
-use lib.IntN.{ℤ}
-use lib.ListN.{length, take}
-use mir.Syntax.{w64}
-use mir.Val.{toZ, ofZ}
-use Rattle.whole.proofs.Size.{returned}
+use lib.ListN.{getD}
+use Rattle.whole.specs.Lists.{firstOf}
+use Rattle.entry.specs.declared.Face.{Face}
 use Rattle.job.specs.Carried.{noFace}
 use Rattle.worst.specs.Quick.{sum}
-use Rattle.worst.specs.Shown.{padded}
-use Rattle.worst.specs.Engine.{Small, FacesSmall, AxesSmall, surfaceOn, axesOf, withSurface}
-use Rattle.worst.proofs.Lists.{mapped-length}
-use Rattle.worst.proofs.Added.{axes-step, axes-small}
+use Rattle.worst.specs.Table.{Filled, StillStand}
+use Rattle.worst.specs.Engine.{axesOf, withFace}
+use Rattle.worst.specs.Small.{AxesSmall, StandsFor}
+use Rattle.worst.proofs.Lists.{below-next}
+use Rattle.worst.proofs.Table.{still-for}
+use Rattle.worst.proofs.Added.{axes-next, axes-small}
 use Rattle.worst.proofs.sums.added.Statement.{statement}
 use Rattle.worst.proofs.sums.added.Tie as tie
 
 abbrev Inv-loop : tie.InvT-loop
-Inv-loop b n direction faces sums₀ i₀ sums i =
-    (i ≤ n) × (sums ≡ axesOf (map (surfaceOn b (toZ w64 direction)) (take i (faces .entry))))
+Inv-loop b w asked₀ first₀ last₀ faces count sums₀ i₀ asked first last sums i =
+    (i ≤ count) × (sums ≡ axesOf b w (firstOf noFace i (faces .entry))) × Filled b asked first last
+    × StillStand b first₀ last₀ first last
+    × ((k : ℕ) → k < i → StandsFor b w (getD (faces .entry) k noFace) first last)
 
 abbrev μ-loop : tie.MeasureT-loop
-μ-loop b n direction faces sums₀ i₀ sums i = n - i
-
-long : (a : tie.Start Inv-loop μ-loop) → length (a .args .t2 .entry) ≡ 24
-long a = search (needs, mapped-length)
-
--- the direction, read back from its bits
-abbrev met : tie.Start Inv-loop μ-loop → ℤ
-met a = toZ w64 (ofZ w64 (a .args .direction))
-
-met-is : (a : tie.Start Inv-loop μ-loop) → met a ≡ a .args .direction
-met-is a = returned w64 (a .args .direction) (a .fits .direction .sfits) .same
-
-small : (a : tie.Start Inv-loop μ-loop) → FacesSmall (a .args .b) (met a) (a .args .n) (a .args .t2 .entry)
-small a = subst (λ (d : ℤ). FacesSmall (a .args .b) d (a .args .n) (a .args .t2 .entry)) (sym (met-is a)) (a .pre .1)
+μ-loop b w asked₀ first₀ last₀ faces count sums₀ i₀ asked first last sums i = count - i
 
 loop-holds : tie.Need-loop-holds Inv-loop μ-loop
-unfolding sum padded
-loop-holds c = (search needs, refl)
+unfolding sum firstOf
+loop-holds c = (search needs, refl, c .pre .1, λ k h. h, λ k h. absurd (omega arith))
 
-with-surface-requires : tie.Need-with-surface-requires Inv-loop μ-loop
-with-surface-requires c κs =
-    let a = c .before .before .before .before in
-    let l = c .before .before .before .loop in
-    let t = c .before .before .loop-test .taken in (
-      omega (arith, a .pre .0),
-      subst (AxesSmall 23) (sym (l .inv .1))
-          (axes-small (surfaceOn (a .args .b) (met a)) (a .args .t2 .entry) noFace (l .i) (λ k h. small a k (omega arith)) 23 (omega (arith, a .pre .0))),
-      subst Small (sym (c .surface-on .ensures)) (small a (l .i) t),
-    )
+-- in the loop, before and after the call
+module _ (d : tie.In-loop Inv-loop μ-loop) where
+  abbrev a : tie.Start Inv-loop μ-loop
+  a = d .before .before
+
+  abbrev i : ℕ
+  i = d .before .loop .i
+
+  abbrev face : ℕ → Face
+  face k = getD (a .args .t2 .entry) k noFace
+
+abbrev asking : tie.After-with-face-arg3 Inv-loop μ-loop → tie.In-loop Inv-loop μ-loop
+asking c = c .before .before .before .before
+
+with-face-requires : tie.Need-with-face-requires Inv-loop μ-loop
+with-face-requires c κs =
+    let d = asking c in
+    let inv = d .before .loop .inv in
+    let t = d .loop-test .taken in
+    let s = a d .args in
+    let met = a d .pre .0 in
+    let small = axes-small (s .b) (s .t2) (s .w) met (i d) (omega arith) 23 (omega (arith, met .few)) in
+    (subst (AxesSmall 23) (sym (inv .1)) small, met .each (i d) t, inv .2)
 
 loop-again : tie.Need-loop-again Inv-loop μ-loop
 loop-again c =
-    let a = c .before .before .before .before .before in
-    let l = c .before .before .before .before .loop in
-    let t = c .before .before .before .loop-test .taken in (
+    let d = asking (c .before) in
+    let inv = d .before .loop .inv in
+    let t = d .loop-test .taken in
+    let s = a d .args in
+    let e = c .with-face .ensures in (
       omega arith,
-      c .with-surface .ensures
-          ∙ (λ j. withSurface (l .i) (c .before .surface-on .ensures j) (l .inv .1 j))
-          ∙ axes-step (surfaceOn (a .args .b) (met a)) (a .args .t2 .entry) (l .i) noFace (omega (arith, a .pre .0))
-          (omega (arith, a .pre .0, long a)),
+      e .0 ∙ ap (withFace (s .b) (s .w) (face d (i d))) (inv .1) ∙ axes-next (s .b) (s .w) (s .t2 .entry) (i d),
+      e .1,
+      λ k h. e .2 k (inv .3 k h),
+      below-next (λ k. StandsFor (s .b) (s .w) (face d k) _ _) (i d) (λ k h. still-for (e .2) (inv .4 k h)) (e .3),
     )
 
 returns : tie.Need-returns Inv-loop μ-loop
 returns c =
-    let a = c .before .before in
-    let l = c .before .loop in
-    let e : l .i ≡ a .args .n = omega (arith, l .inv .0) in
-    l .inv .1
-    ∙ ap (λ k. axesOf (map (surfaceOn (a .args .b) (met a)) (take k (a .args .t2 .entry)))) e
-    ∙ ap (λ (d : ℤ). axesOf (map (surfaceOn (a .args .b) d) (take (a .args .n) (a .args .t2 .entry)))) (met-is a)
+    let inv = c .before .loop .inv in
+    let left = c .loop-test .left in
+    let s = c .before .before .args in
+    let e : c .before .loop .i ≡ s .t2 .count = omega (arith, inv .0) in (
+      inv .1 ∙ ap (λ k. axesOf (s .b) (s .w) (firstOf noFace k (s .t2 .entry))) e,
+      inv .2,
+      inv .3,
+      λ k h. inv .4 k (omega arith),
+    )
 
 pub added-spec : {M : Type 1} → statement M
 added-spec =
     tie.close
-    (tie.spec Inv-loop μ-loop loop-holds (λ c. search needs) (λ c. search needs) (λ c κs. search needs)
-    with-surface-requires (λ c. search needs) (λ c. search needs) loop-again returns)
+    (tie.spec Inv-loop μ-loop (λ c. search needs) loop-holds (λ c. search needs) (λ c. search needs)
+    with-face-requires (λ c. search needs) (λ c. search needs) loop-again returns)

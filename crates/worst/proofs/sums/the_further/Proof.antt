@@ -10,15 +10,15 @@ use Rattle.worst.proofs.sums.the_further.Statement.{statement}
 use Rattle.worst.proofs.sums.the_further.Tie as tie
 
 tested : (c : tie.After-falls-short)
-    → c .falls-short .result ≡ short (c .before .args .side) (c .before .args .first) (c .before .args .second)
+    → c .falls-short .result ≡ short (c .before .args .side) (c .before .args .first) (c .before .args .last)
 tested c =
-    c .falls-short .ensures ∙ short-read (c .before .args .side) (c .before .fits .first) (c .before .fits .second)
+    c .falls-short .ensures ∙ short-read (c .before .args .side) (c .before .fits .first) (c .before .fits .last)
 
 returns : tie.Need-returns
 unfolding further
 returns c =
     let a = c .before .before in
-    rw (sym (tested (c .before)) ∙ c .if1 .taken) (toZ-ofZ w64 (a .args .second) (a .fits .second))
+    rw (sym (tested (c .before)) ∙ c .if1 .taken) (toZ-ofZ w64 (a .args .last) (a .fits .last))
 
 returns-2 : tie.Need-returns-2
 unfolding further

@@ -1,0 +1,126 @@
+-- The table of coefficients: a place tells its direction and zone, what is stored at a place stands there, and all
+-- else stands as before.
+use mathlib.Core.Path.{_≡_, refl, sym, ap, _∙_, subst}
+use mathlib.Core.Logic.{_⊎_, ⊎-elim}
+use mathlib.Core.Bool.{Bool, true, false, true≢false}
+use mathlib.Core.List.{List}
+use Prim.Native.Nat.{ℕ, zero, suc, _+_, _-_, _≤_, _<_}
+use native.Mathlib.Omega.{arith}
+use borrow.Author.Tests.{eqb-true, eqb-false, lt-ltb, le-ltb}
+use lib.Dec.{eqb, ltb}
+use lib.IntN.{ℤ, pos}
+use lib.ListN.{length, getD, set, replicate, length-set}
+use lib.Seq.{getD-set-same, getD-set-other}
+use Rattle.whole.proofs.Tests.{by-test}
+use Rattle.building.specs.declared.Building.{Building}
+use Rattle.building.specs.Places.{A}
+use Rattle.entry.specs.declared.Wind.{Wind}
+use Rattle.entry.specs.declared.Face.{Face}
+use Rattle.worst.specs.declared.outside.Outside.{Outside}
+use Rattle.worst.specs.Table.{outsideAt, placeOf, Placed, directionAt, zoneAt, standing, Stands}
+use Rattle.worst.specs.Table.{Filled, StillStand}
+use Rattle.worst.specs.Small.{StandsFor}
+
+-- ---- places
+
+pub place-below : (d : ℤ) (z : ℕ) → Placed d z → placeOf d z < 16
+place-below d z h =
+    ⊎-elim (λ (e : d ≡ pos 0). rw e (omega (arith, h .to))) (λ (e : d ≡ pos 90). rw e (omega (arith, h .to))) (h .way)
+
+-- the direction and the zone of the place of a direction and a zone
+pub place-back : (b : Building) (d : ℤ) (z : ℕ) → Placed d z
+    → outsideAt b (directionAt (placeOf d z)) (zoneAt (placeOf d z)) ≡ outsideAt b d z
+place-back b d z h = ⊎-elim zero ninety (h .way)
+  where
+    low : ltb (z - A) 8 ≡ true
+    low = lt-ltb (z - A) 8 (omega (arith, h .to))
+
+    high : ltb (z - A + 8) 8 ≡ false
+    high = le-ltb (z - A + 8) 8 (omega arith)
+
+    zero : d ≡ pos 0 → outsideAt b (directionAt (placeOf d z)) (zoneAt (placeOf d z)) ≡ outsideAt b d z
+    zero e =
+        let back : A + (z - A) ≡ z = omega (arith, h .from) in
+        rw e (rw low (ap (outsideAt b (pos 0)) back))
+
+    ninety : d ≡ pos 90 → outsideAt b (directionAt (placeOf d z)) (zoneAt (placeOf d z)) ≡ outsideAt b d z
+    ninety e =
+        let back : A + (z - A + 8 - 8) ≡ z = omega (arith, h .from) in
+        rw e (rw high (ap (outsideAt b (pos 90)) back))
+
+-- what stands at the place of a direction and a zone are their coefficients
+pub stands-for : (b : Building) (f l : List ℤ) (d : ℤ) (z : ℕ) → Placed d z → Stands b f l (placeOf d z)
+    → standing f l (placeOf d z) ≡ outsideAt b d z
+stands-for b f l d z h s = s ∙ place-back b d z h
+
+-- ---- at first nothing was asked for
+
+none-asked : (n k : ℕ) → getD (replicate n false) k false ≡ false
+none-asked zero k = refl
+none-asked (suc n) zero = refl
+none-asked (suc n) (suc k) = none-asked n k
+
+pub nothing-filled : (b : Building) → Filled b (replicate 16 false) (replicate 16 (pos 0)) (replicate 16 (pos 0))
+nothing-filled b =
+    record { firsts = refl; lasts = refl; stand = λ k e. absurd (true≢false (sym e ∙ none-asked 16 k)) }
+
+-- ---- what is stored
+
+module _ (b : Building) (asked : List Bool) (f l : List ℤ) (was : Filled b asked f l) (d : ℤ) (z : ℕ) (h : Placed d z)
+    (o : Outside) (e : o ≡ outsideAt b d z) where
+  abbrev place : ℕ
+  place = placeOf d z
+
+  abbrev After : ℕ → Type 0
+  After = Stands b (set f place (o .first)) (set l place (o .last))
+
+  -- it stands at its place
+  here : After place
+  here =
+      let hf : place < length f = omega (arith, was .firsts, place-below d z h) in
+      let hl : place < length l = omega (arith, was .lasts, place-below d z h) in
+      (λ j. record {
+        first = getD-set-same f place (o .first) (pos 0) hf j;
+        last = getD-set-same l place (o .last) (pos 0) hl j;
+      })
+      ∙ e
+      ∙ sym (place-back b d z h)
+
+  -- and all else as before
+  there : (n : ℕ) → (n ≡ place → ⊥) → Stands b f l n → After n
+  there n t s =
+      (λ j. record {
+        first = getD-set-other f place n (o .first) (pos 0) t j;
+        last = getD-set-other l place n (o .last) (pos 0) t j;
+      })
+      ∙ s
+
+  by-place : (n : ℕ) → ((n ≡ place → ⊥) → Stands b f l n) → After n
+  by-place n s =
+      by-test (eqb n place) (λ q. subst After (sym (eqb-true n place q)) here)
+      (λ q. let t = eqb-false n place q in there n t (s t))
+
+  -- said of what is stored at k, which is the place
+  pub record Stored (k : ℕ) : Type 0 where
+    pub filled′ : Filled b (set asked k true) (set f k (o .first)) (set l k (o .last))
+    pub still : StillStand b f l (set f k (o .first)) (set l k (o .last))
+    pub stands : Stands b (set f k (o .first)) (set l k (o .last)) place
+
+  pub stored : (k : ℕ) → k ≡ place → Stored k
+  stored k q =
+      subst Stored (sym q)
+      (record {
+        filled′ =
+            record {
+              firsts = length-set f place (o .first) ∙ was .firsts;
+              lasts = length-set l place (o .last) ∙ was .lasts;
+              stand = λ n r. by-place n (λ t. was .stand n (sym (getD-set-other asked place n true false t) ∙ r));
+            };
+        still = λ n s. by-place n (λ t. s);
+        stands = here;
+      })
+
+-- what stood for a face stands for it
+pub still-for : {b : Building} {w : Wind} {f : Face} {first last first′ last′ : List ℤ}
+    → StillStand b first last first′ last′ → StandsFor b w f first last → StandsFor b w f first′ last′
+still-for {w = w} {f = f} h s = record { stands = λ e. h (placeOf (w .direction) (f .zone)) (s .stands e) }

@@ -1,0 +1,77 @@
+-- `chosen::alternative` meets its contract: a face that takes part goes by its coefficients, which stand in the
+-- table, and another has weight 0.
+use mathlib.Core.Path.{_≡_, sym, ap, _∙_, subst}
+use mathlib.Core.Bool.{true}
+use lib.IntN.{ℤ, _*ℤ_}
+use mir.Syntax.{w64}
+use borrow.Author.Needs.{needs}
+use denote.Ref.{now}
+use Rattle.whole.proofs.Size.{Num, back, fit, bound, _⊗_}
+use Rattle.worst.specs.Forces.{acts, pressure, area}
+use Rattle.worst.specs.Table.{outsideAt}
+use Rattle.worst.specs.Engine.{pick}
+use Rattle.worst.specs.Small.{OutsideSmall}
+use Rattle.worst.proofs.Told.{told}
+use Rattle.worst.proofs.Table.{stands-for}
+use Rattle.worst.proofs.Ranges.{pressure-small, area-small}
+use Rattle.worst.proofs.OneFace.{no-pick}
+use Rattle.worst.proofs.chosen.alternative.Statement.{statement}
+use Rattle.worst.proofs.chosen.alternative.Tie as tie
+
+-- a face that takes part
+module _ (c : tie.After-area-on) where
+  abbrev p : tie.After-pressure-of
+  p = c .before
+
+  abbrev o : tie.After-at-place
+  o = p .before
+
+  abbrev t : tie.Then1
+  t = o .before
+
+  abbrev a : tie.Start
+  a = t .before .before
+
+  acting : acts (a .args .f) (a .args .w .direction) ≡ true
+  acting = sym (t .before .takes-part .ensures) ∙ t .if1 .taken
+
+  coefficients : o .at-place .result ≡ outsideAt (a .args .b) (a .args .w .direction) (a .args .f .zone)
+  coefficients =
+      let first = now (a .args .first) in
+      let last = now (a .args .last) in
+      o .at-place .ensures
+      ∙ stands-for (a .args .b) first last (a .args .w .direction) (a .args .f .zone) (a .pre .0 .placed)
+      (a .pre .1 .stands acting)
+
+  abbrev weighed : Num
+  weighed =
+      told (p .pressure-of .result) (pressure (a .args .b .density) (a .args .w) (a .args .f))
+      (p .pressure-of .ensures)
+      (pressure-small (a .args .b .density) (a .args .w) (a .args .f) (a .pre .0 .dense) (a .pre .0 .slow)) tt
+      ⊗ told (c .area-on .result) (area (a .args .axis) (a .args .f)) (c .area-on .ensures)
+      (area-small (a .args .axis) (a .args .f) (a .pre .0 .face)) tt
+
+mul-picked : tie.Need-mul-picked
+mul-picked c = fit {w = w64} (weighed c) tt
+
+picked-requires : tie.Need-picked-requires
+picked-requires c κs =
+    (subst OutsideSmall (sym (coefficients c)) (a c .pre .0 .outside), bound (back w64 (weighed c) tt))
+
+returns : tie.Need-returns
+returns c =
+    let d = c .before in
+    rw (acting d)
+    (c .picked .ensures ∙ (λ j. pick (a d .args .side) (coefficients d j) (back w64 (weighed d) tt .same j)))
+
+returns-2 : tie.Need-returns-2
+returns-2 c =
+    let s = c .before .before .args in
+    rw (sym (c .before .takes-part .ensures) ∙ c .if1 .left)
+    (sym (no-pick (s .side) (outsideAt (s .b) (s .w .direction) (s .f .zone))))
+
+pub alternative-spec : {M : Type 1} → statement M
+alternative-spec =
+    tie.close
+    (tie.spec (λ c κs. search needs) (λ c κs. search needs) (λ c κs. search needs) (λ c κs. search needs) mul-picked
+    picked-requires returns returns-2)

@@ -1,0 +1,89 @@
+-- What the numbers of an acceptable job can come to. Only contracts of private functions cite it.
+use mathlib.Core.Path.{_≡_}
+use mathlib.Core.Bool.{true}
+use mathlib.Core.List.{List}
+use Prim.Native.Nat.{ℕ, _*_, _≤_, _<_}
+use lib.IntN.{ℤ, pos, natAbs}
+use lib.ListN.{getD}
+use Rattle.building.specs.declared.Building.{Building}
+use Rattle.job.specs.declared.Job.{Job}
+use Rattle.job.specs.declared.Internals.{Internals}
+use Rattle.job.specs.declared.Faces.{Faces}
+use Rattle.entry.specs.declared.Wind.{Wind}
+use Rattle.entry.specs.declared.Face.{Face}
+use Rattle.job.specs.Carried.{noWind, noFace}
+use Rattle.worst.specs.declared.outside.Outside.{Outside}
+use Rattle.worst.specs.declared.sums.Sums.{Sums}
+use Rattle.worst.specs.declared.sums.Axes.{Axes}
+use Rattle.worst.specs.declared.tops.Top.{Top}
+use Rattle.worst.specs.Forces.{acts}
+use Rattle.worst.specs.Table.{outsideAt, placeOf, Placed, Stands}
+
+pub record OutsideSmall (o : Outside) : Type 0 where
+  pub first : natAbs (o .first) ≤ 1200
+  pub last : natAbs (o .last) ≤ 1200
+
+pub record FaceSmall (f : Face) : Type 0 where
+  pub x : natAbs (f .x) ≤ 100000
+  pub y : natAbs (f .y) ≤ 100000
+  pub z : natAbs (f .z) ≤ 100000
+
+abbrev pub Pressure : ℤ → Type 0
+Pressure p = natAbs p ≤ 1500000000
+
+abbrev pub Weight : ℤ → Type 0
+Weight z = natAbs z ≤ 150000000000000
+
+-- n faces added up
+pub record SumsSmall (n : ℕ) (p : Sums) : Type 0 where
+  pub greatest : natAbs (p .greatest) ≤ n * 180000000000000000
+  pub least : natAbs (p .least) ≤ n * 180000000000000000
+  pub weight : natAbs (p .weight) ≤ n * 150000000000000
+
+pub record AxesSmall (n : ℕ) (p : Axes) : Type 0 where
+  pub x : SumsSmall n (p .x)
+  pub y : SumsSmall n (p .y)
+  pub z : SumsSmall n (p .z)
+
+abbrev pub Dense : Building → Type 0
+Dense b = natAbs (b .density) ≤ 1500
+
+abbrev pub Slow : Wind → Type 0
+Slow w = natAbs (w .speed) ≤ 1000
+
+abbrev pub LowInternals : Internals → Type 0
+LowInternals is = (is .count ≤ 4) × ((k : ℕ) → k < is .count → natAbs (getD (is .entry) k (pos 0)) ≤ 100)
+
+-- a face under a wind
+pub record Met (b : Building) (w : Wind) (f : Face) : Type 0 where
+  pub dense : Dense b
+  pub slow : Slow w
+  pub face : FaceSmall f
+  pub placed : Placed (w .direction) (f .zone)
+  pub outside : OutsideSmall (outsideAt b (w .direction) (f .zone))
+
+-- the faces of a job, under one wind and under all
+pub record AllMet (b : Building) (fs : Faces) (w : Wind) : Type 0 where
+  pub few : fs .count ≤ 24
+  pub each : (i : ℕ) → i < fs .count → Met b w (getD (fs .entry) i noFace)
+
+pub record Ready (j : Job) : Type 0 where
+  pub someWind : 0 < j .winds .count
+  pub winds : j .winds .count ≤ 8
+  pub met : (k : ℕ) → k < j .winds .count → AllMet (j .building) (j .faces) (getD (j .winds .entry) k noWind)
+  pub someInternal : 0 < j .internals .count
+  pub internals : LowInternals (j .internals)
+
+-- the wind of a cell is one of the job's
+pub record OnJob (j : Job) (t : Top) : Type 0 where
+  pub wind : 0 < t .wind
+  pub wind≤ : t .wind ≤ j .winds .count
+
+-- ---- what stands in the table of coefficients
+
+-- those of a face, where it acts
+pub record StandsFor (b : Building) (w : Wind) (f : Face) (first last : List ℤ) : Type 0 where
+  pub stands : acts f (w .direction) ≡ true → Stands b first last (placeOf (w .direction) (f .zone))
+
+abbrev pub StandForAll : Building → Wind → Faces → List ℤ → List ℤ → Type 0
+StandForAll b w fs first last = (i : ℕ) → i < fs .count → StandsFor b w (getD (fs .entry) i noFace) first last

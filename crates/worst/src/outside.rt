@@ -1,0 +1,113 @@
+// The outside coefficients. Those of a direction and a zone are looked up when a face first asks for them, and then
+// stand in a table: the first and the last, at the place of the direction and the zone.
+ghost use mathlib.Core.Path.{_≡_};
+ghost use Prim.Native.Nat.{_<_};
+ghost use Rattle.book.specs.Answer.{valuesIn};
+ghost use Rattle.worst.specs.Table.{firstAndLast, outsideAt, placeOf, standing, Placed, Stands, Filled, StillStand};
+ghost use Rattle.worst.specs.Forces.{acts};
+use book::Answer;
+use book::Values;
+use building::Building;
+use entry::BOTH;
+use entry::Face;
+use entry::Wind;
+
+// The first and the last of a zone's outside coefficients, in thousandths: one that it has alone is both.
+pub struct Outside {
+    pub first: i64,
+    pub last: i64,
+}
+
+// Whether a face takes part under a wind.
+pub(crate) fn takes_part(f: Face, w: Wind) -> bool
+    ensures { λ r. ⌜ r ≡ acts f (w .direction) ⌝ }
+{
+    if f.mark == BOTH {
+        return true;
+    }
+    f.mark == w.direction
+}
+
+// The zones A to H under direction 0, then under 90.
+fn place_of(w: Wind, f: Face) -> usize
+    requires { ⌜ Placed (w .direction) (f .zone) ⌝ }
+    ensures { λ r. ⌜ (r ≡ placeOf (w .direction) (f .zone)) × (r < 16) ⌝ }
+{
+    let k = (f.zone - 65) as usize;
+    if w.direction == 90 {
+        return k + 8;
+    }
+    k
+}
+
+fn of_pair(first: i32, last: i32) -> Outside
+    ensures { λ r. ⌜ r ≡ record { first = first; last = last } ⌝ }
+{
+    Outside {
+        first: first as i64,
+        last: last as i64,
+    }
+}
+
+fn of_values(values: Values) -> Outside
+    ensures { λ r. ⌜ r ≡ firstAndLast (valuesIn values) ⌝ }
+{
+    match values {
+        Values::One(v) => of_pair(v, v),
+        Values::Two(v, u) => of_pair(v, u),
+    }
+}
+
+fn looked_up(b: Building, w: Wind, f: Face) -> Outside
+    ensures { λ r. ⌜ r ≡ outsideAt b (w .direction) (f .zone) ⌝ }
+{
+    let answer = book::outside(b, w.direction, f.zone);
+    match answer {
+        Answer::Answered(c) => {
+            let values = c.values;
+            of_values(values)
+        }
+        Answer::Refused(_) => of_pair(0, 0),
+    }
+}
+
+// What stands at the place of a face under a wind.
+pub(crate) fn at_place(w: Wind, f: Face, first: &[i64; 16], last: &[i64; 16]) -> Outside
+    requires { ⌜ Placed (w .direction) (f .zone) ⌝ }
+    ensures { λ r. ⌜ r ≡ standing (now (first .entry)) (now (last .entry)) (placeOf (w .direction) (f .zone)) ⌝ }
+{
+    let k = place_of(w, f);
+    let v = first[k];
+    let u = last[k];
+    Outside { first: v, last: u }
+}
+
+// The coefficients of a face under a wind, which stand in the table from then on.
+pub(crate) fn found(
+    b: Building,
+    w: Wind,
+    f: Face,
+    asked: &mut [bool; 16],
+    first: &mut [i64; 16],
+    last: &mut [i64; 16],
+) -> Outside
+    requires { ⌜ Placed (w .direction) (f .zone) × Filled b (now asked) (now first) (now last) ⌝ }
+    ensures { λ r. ⌜ (r ≡ outsideAt b (w .direction) (f .zone))
+        × Filled b (now (asked .exit)) (now (first .exit)) (now (last .exit))
+        × StillStand b (now (first .entry)) (now (last .entry)) (now (first .exit)) (now (last .exit))
+        × Stands b (now (first .exit)) (now (last .exit)) (placeOf (w .direction) (f .zone)) ⌝ }
+{
+    let k = place_of(w, f);
+    if asked[k] {
+        let v = first[k];
+        let u = last[k];
+        return Outside { first: v, last: u };
+    }
+    let o = looked_up(b, w, f);
+    let v = o.first;
+    let u = o.last;
+    asked[k] = true;
+    first[k] = v;
+    last[k] = u;
+    o
+}
