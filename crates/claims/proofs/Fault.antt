@@ -51,7 +51,8 @@ pub sheet-faultless : (s : List ℕ) → Faultless (linesIn s) → (c : Carried)
 unfolding reading
 sheet-faultless s f = faultless-answer (linesIn s) (readLines (linesIn s)) (lines-answer (linesIn s)) f
 
-pub sheet-accepted : (s : List ℕ) (c : Carried) → reading s ≡ Accepted c → Faultless (linesIn s) × (linesOf c ≡ linesIn s)
+pub sheet-accepted : (s : List ℕ) (c : Carried) → reading s ≡ Accepted c
+    → Faultless (linesIn s) × (linesOf c ≡ linesIn s)
 unfolding reading
 sheet-accepted s c e =
     (accepted-answer (linesIn s) (readLines (linesIn s)) (lines-answer (linesIn s)) c e, accepted-lines (linesIn s) c e)

@@ -59,7 +59,9 @@ walk-answers (k ∷ ks) c line (x ∷ xs) =
     by-test (eqb n 0)
     (λ e.
     rw e
-    (later k ks c line x xs (eqb-true n 0 e) (walk (calls k x ++ ks) (learn k x c) (line + 1) xs) (walk-answers (calls k x ++ ks) (learn k x c) (line + 1) xs)))
+    (later k ks c line x xs (eqb-true n 0 e)
+    (walk (calls k x ++ ks) (learn k x c) (line + 1) xs)
+    (walk-answers (calls k x ++ ks) (learn k x c) (line + 1) xs)))
     (λ e.
     let p : 0 < n = omega (arith, eqb-false n 0 e) in
     rw e (at-once (k ∷ ks) c line (x ∷ xs) n p (fault-has k (before c) x p)

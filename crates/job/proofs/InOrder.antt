@@ -80,7 +80,8 @@ module _ (b : Before) where
   pub face-line : (x : List Field) → lineFault (Entry F) b x ≡ 0 → FaceInOrder (b .building) (faceOf x)
   face-line x z = face-sound (faceOf x) (in-order (Entry F) b x z .none)
 
-  marked : (z : ℤ) → (z ≡ both) ⊎ (knows (b .building .kind) z ≡ true) → not (is both z || knows (b .building .kind) z) ≡ false
+  marked : (z : ℤ) → (z ≡ both) ⊎ (knows (b .building .kind) z ≡ true)
+      → not (is both z || knows (b .building .kind) z) ≡ false
   marked z (inl e) = rw e
   marked z (inr e) = by-test (is both z) (λ q. rw q) (λ q. rw (q, e))
 
@@ -89,7 +90,10 @@ module _ (b : Before) where
     rw (le-leb A (f .zone) (o .zone .low), le-leb (f .zone) H (o .zone .high)),
     (
       marked (f .mark) (o .mark),
-      (is-small 100000 (f .x) (o .x), (is-small 100000 (f .y) (o .y), (is-small 100000 (f .z) (o .z), (ap not (o .on), tt)))),
+      (
+        is-small 100000 (f .x) (o .x),
+        (is-small 100000 (f .y) (o .y), (is-small 100000 (f .z) (o .z), (ap not (o .on), tt))),
+      ),
     ),
   )
 

@@ -86,8 +86,14 @@ pub building-given : (g : Building) (b : Before) → givenFault g ≡ lineFault 
 unfolding givenFault outOfForm buildingFault inForm
 building-given g b =
     sym (given-by (Entry B) b (buildingFields g) long (first (faults g))
-    (rw
-    (number-form (g .h), number-form (g .a), number-form (g .b), number-form (g .density), number-form (g .kind), number-form (g .x)))
+    (rw (
+      number-form (g .h),
+      number-form (g .a),
+      number-form (g .b),
+      number-form (g .density),
+      number-form (g .kind),
+      number-form (g .x),
+    ))
     (λ e.
     ap (λ (h : Building). first (faults h)) (building-back g (in-formed (forms (Entry B)) (buildingFields g) e))))
   where
@@ -103,9 +109,11 @@ module _ (b : Before) where
       (first (windFaults (b .building) w))
   unfolding inForm
   wind-given w =
-      given-by (Entry W) b (windFields w) (tooLong (w .direction) ∷ tooLong (w .speed) ∷ []) (first (windFaults (b .building) w))
+      given-by (Entry W) b (windFields w) (tooLong (w .direction) ∷ tooLong (w .speed) ∷ [])
+      (first (windFaults (b .building) w))
       (rw (number-form (w .direction), number-form (w .speed)))
-      (λ e. ap (λ (v : Wind). first (windFaults (b .building) v)) (wind-back w (in-formed (forms (Entry W)) (windFields w) e)))
+      (λ e. ap (λ (v : Wind). first (windFaults (b .building) v))
+      (wind-back w (in-formed (forms (Entry W)) (windFields w) e)))
 
   pub internal-given : (i : ℤ)
       → lineFault (Entry I) b (internalFields i) ≡ cond (tooLong i || false) 1 (first (internalFaults i))
@@ -123,7 +131,8 @@ module _ (b : Before) where
       given-by (Entry F) b (faceFields f)
       (markTooLong (f .mark) ∷ tooLong (f .x) ∷ tooLong (f .y) ∷ tooLong (f .z) ∷ []) (first (faceFaults (b .building) f))
       (rw (letter-form (f .zone), mark-form (f .mark), number-form (f .x), number-form (f .y), number-form (f .z)))
-      (λ e. ap (λ (h : Face). first (faceFaults (b .building) h)) (face-back f (in-formed (forms (Entry F)) (faceFields f) e)))
+      (λ e. ap (λ (h : Face). first (faceFaults (b .building) h))
+      (face-back f (in-formed (forms (Entry F)) (faceFields f) e)))
 
 -- what the code finds, by what it goes by
 pub long-by : {t₁ t₂ t₃ t₄ u₁ u₂ u₃ u₄ : Bool} {n m r : ℕ} → t₁ ≡ u₁ → t₂ ≡ u₂ → t₃ ≡ u₃ → t₄ ≡ u₄ → n ≡ m

@@ -19,7 +19,8 @@ ghost use Rattle.rules.specs.Sections.{about, lineFault};
 ghost use Rattle.entry_written.specs.Fields.{windFields, internalFields, faceFields};
 
 pub(crate) fn count_fault(s: Section, n: u32) -> u32
-    ensures { λ r. ⌜ ((b : Before) → r ≡ lineFault (Kind.Count s) b (Field.Letter (about s .letter) ∷ Field.Plus n ∷ [])) ⌝ }
+    ensures { λ r. ⌜ ((b : Before)
+        → r ≡ lineFault (Kind.Count s) b (Field.Letter (about s .letter) ∷ Field.Plus n ∷ [])) ⌝ }
 {
     let l = shape::limits_of(s);
     entries::count_fault(s, l.letter, n as i64)

@@ -48,11 +48,17 @@ first-least m (x ∷ fs) t f h e =
     let r = both-right (leb m (x .number)) (rising (x .number) fs) t in
     by-test (x .found)
     (λ q.
-    rw q
-    (l, ⊎-elim (λ s. omega (arith, ap (λ (g : Fault). g .number) s)) (λ k. rising-member (x .number) fs r f k) (List·Memᴰ·cases-cons h)))
+    rw q (
+      l,
+      ⊎-elim (λ s. omega (arith, ap (λ (g : Fault). g .number) s))
+          (λ k. rising-member (x .number) fs r f k)
+          (List·Memᴰ·cases-cons h),
+    ))
     (λ q.
     rw q
-    (⊎-elim (λ s. absurd (subst T (sym e ∙ ap (λ (g : Fault). g .found) s ∙ q) tt)) (λ k. let y = first-least (x .number) fs r f k e in (omega (arith, l, y .0), y .1)) (List·Memᴰ·cases-cons h)))
+    (⊎-elim (λ s. absurd (subst T (sym e ∙ ap (λ (g : Fault). g .found) s ∙ q) tt))
+    (λ k. let y = first-least (x .number) fs r f k e in (omega (arith, l, y .0), y .1))
+    (List·Memᴰ·cases-cons h)))
 
 -- a number other than 0 is that of one that is found
 pub record Found (fs : List Fault) (n : ℕ) : Type 0 where

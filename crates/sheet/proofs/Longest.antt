@@ -64,7 +64,8 @@ known-short : {f : Field} (kind : ℤ) → Formed Number f → knows kind (numbe
 known-short kind h e = let w = known-within kind _ e in short 1 h (w .plain) (omega (arith, w .to))
 
 -- speed: 4 digits
-wind-bytes : (g : Building) {x : List Field} → AllFormed (forms (Entry W)) x → WindInOrder g (windOf x) → fieldBytes x ≤ 8
+wind-bytes : (g : Building) {x : List Field} → AllFormed (forms (Entry W)) x → WindInOrder g (windOf x)
+    → fieldBytes x ≤ 8
 wind-bytes g {x} (more d (more v none)) o =
     let w =
     within 1 1000 (windOf x .speed)
@@ -85,7 +86,8 @@ mark-short kind (form.mark (minus {m = suc m} p h)) (inl e) = absurd (let q : _�
 mark-short kind (form.mark (minus {m = suc m} p h)) (inr e) = known-short kind (minus {m = suc m} p h) e
 
 -- each area: a sign and 6 digits
-face-bytes : (g : Building) {x : List Field} → AllFormed (forms (Entry F)) x → FaceInOrder g (faceOf x) → fieldBytes x ≤ 29
+face-bytes : (g : Building) {x : List Field} → AllFormed (forms (Entry F)) x → FaceInOrder g (faceOf x)
+    → fieldBytes x ≤ 29
 face-bytes g (more letter (more m (more a (more b (more d none))))) o =
     omega (
       arith,

@@ -34,7 +34,8 @@ module _ (k : Kind) (b : Before) where
   bad-line : (x : List Field) → BadAt x → lineFault k b x ≡ 1
   bad-line x y =
       fault-out k b x (by-test (inForm (forms k) x)
-      (λ e. absurd (subst NotBad (y .bad) (every-at NotBad x Bad (y .place) (y .within) (all-not-bad (in-formed (forms k) x e)))))
+      (λ e. absurd
+      (subst NotBad (y .bad) (every-at NotBad x Bad (y .place) (y .within) (all-not-bad (in-formed (forms k) x e)))))
       (λ e. e))
 
   -- not ended

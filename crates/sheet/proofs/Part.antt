@@ -59,7 +59,8 @@ no-line (k ∷ ks) c n x xs h = rw (h k (before c))
 accepted-no : (c : Carried) (v : Verdict) → Refused v ≡ Accepted c → ⊥
 accepted-no c v e = let z : _≡_ {A = ℕ} 0 1 = cc in omega arith
 
-walk-short : {s : List ℕ} → ByLines s → (ks : List Kind) (c e : Carried) (n : ℕ) → walk ks c n (linesIn s) ≡ Accepted e
+walk-short : {s : List ℕ} → ByLines s → (ks : List Kind) (c e : Carried) (n : ℕ)
+    → walk ks c n (linesIn s) ≡ Accepted e
     → length s ≤ longest ks
 walk-short none ks c e n a = omega arith
 walk-short (unended x s f) ks c e n a =
@@ -110,7 +111,8 @@ take-line n l t h =
 
 -- lines that begin alike
 walk-alike : (k : Kind) (ks : List Kind) (c : Carried) (n : ℕ) (x : List Field) (xs ys : List (List Field))
-    → (lineFault k (before c) x ≡ 0 → walk (calls k x ++ ks) (learn k x c) (n + 1) xs ≡ walk (calls k x ++ ks) (learn k x c) (n + 1) ys)
+    → (lineFault k (before c) x ≡ 0
+    → walk (calls k x ++ ks) (learn k x c) (n + 1) xs ≡ walk (calls k x ++ ks) (learn k x c) (n + 1) ys)
     → walk (k ∷ ks) c n (x ∷ xs) ≡ walk (k ∷ ks) c n (x ∷ ys)
 walk-alike k ks c n x xs ys h =
     by-test (eqb (lineFault k (before c) x) 0)
@@ -123,7 +125,8 @@ walk-alike k ks c n x xs ys h =
 
 -- the first line ends in the part, or it is longer than any line in form
 first-line : (l t : List ℕ) → Free 10 l → (ks : List Kind) (c : Carried) (n m : ℕ) → 54 ≤ m
-    → (length l < m → walk ks c n (fieldsOf l ∷ linesIn (take (m - suc (length l)) t)) ≡ walk ks c n (fieldsOf l ∷ linesIn t))
+    → (length l < m
+    → walk ks c n (fieldsOf l ∷ linesIn (take (m - suc (length l)) t)) ≡ walk ks c n (fieldsOf l ∷ linesIn t))
     → walk ks c n (linesIn (take m (l ++ (10 ∷ t)))) ≡ walk ks c n (linesIn (l ++ (10 ∷ t)))
 first-line l t f ks c n m h on =
     by-test (ltb (length l) m)

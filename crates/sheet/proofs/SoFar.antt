@@ -33,7 +33,8 @@ use Rattle.sheet.proofs.Steps.{walk-stop, walk-go}
 pub record ReadSoFar (s : List ℕ) (sec : Section) (left begun : ℕ) (j : Job) (line next : ℕ) : Type 0 where
   pub carries : Carried
   pub records : j ≡ recorded carries
-  pub rest : walk (entries sec left ++ map Count (drop begun sections)) carries line (linesIn (drop next s)) ≡ reading s
+  pub rest : walk (entries sec left ++ map Count (drop begun sections)) carries line (linesIn (drop next s))
+      ≡ reading s
   pub room : countIn j sec + left ≤ about sec .most
   pub unread : Unread j (drop begun sections)
   -- no section has more than 25 lines

@@ -53,7 +53,12 @@ times (suc n) s = s & times n s
 
 abbrev longest : String
 longest =
-    "B 1\n30000 30000 10000 1000 4 6000\nW 8\n" & times 8 "90 1000\n" & "I 4\n" & times 4 "-100\n" & "F 24\n" & times 24 "A 90 -100000 -100000 -100000\n"
+    "B 1\n30000 30000 10000 1000 4 6000\nW 8\n"
+    & times 8 "90 1000\n"
+    & "I 4\n"
+    & times 4 "-100\n"
+    & "F 24\n"
+    & times 24 "A 90 -100000 -100000 -100000\n"
 
 longest-is : length (bytes longest) ≡ 827
 longest-is = refl

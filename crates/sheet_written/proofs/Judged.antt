@@ -45,4 +45,6 @@ module _ (j : Job) (v : Verdict) (e : v ≡ verdict (judged j)) where
           → (o ≡ jobWriting sheetText (judged j) buf) × (after ≡ jobBuffer sheetText (judged j) buf)
       job-written buf e =
           rw judged-is
-          (emitted w (omega (arith, longest-sheet (sheetText (carried j)) (carried j) (written-read j (carried j) judged-is))) buf e)
+          (emitted w
+          (omega (arith, longest-sheet (sheetText (carried j)) (carried j) (written-read j (carried j) judged-is)))
+          buf e)

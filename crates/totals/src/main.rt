@@ -1,5 +1,6 @@
 // The program `totals`: a sheet on standard input, its six lines on standard output, or one line that refuses it.
-// 1024 bytes decide the answer for every longer input (crates/sheet/proofs/Part.antt), and no answer is longer than that.
+// 1024 bytes decide the answer for every longer input (crates/sheet/proofs/Part.antt), and no answer is longer than
+// that.
 use page::Writing;
 
 fn main() {

@@ -3,7 +3,8 @@
 ghost use mathlib.Core.Path.{_≡_};
 ghost use Prim.Native.Nat.{_<_};
 ghost use Rattle.book.specs.Answer.{valuesIn};
-ghost use Rattle.worst.specs.Table.{firstAndLast, outsideAt, placeOf, standing, Placed, Stands, Filled, StillStand};
+ghost use Rattle.worst.specs.Table.{firstAndLast, outsideAt, placeOf, standing, Placed, Stands, Filled};
+ghost use Rattle.worst.specs.Table.{StillStand};
 ghost use Rattle.worst.specs.Forces.{acts};
 use book::Answer;
 use book::Values;

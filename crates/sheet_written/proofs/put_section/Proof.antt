@@ -27,7 +27,9 @@ use Rattle.sheet_written.proofs.put_section.Tie as tie
 abbrev Inv-loop : tie.InvT-loop
 Inv-loop buf₀ at sec n g winds internals faces next₀ i₀ buf next i =
     (i ≤ n) × Put buf₀ next₀
-    (textOfLines (take i (entriesOf (carried (record { building = g; winds = winds; internals = internals; faces = faces })) sec))) buf next
+    (textOfLines
+    (take i (entriesOf (carried (record { building = g; winds = winds; internals = internals; faces = faces })) sec)))
+    buf next
 
 abbrev μ-loop : tie.MeasureT-loop
 μ-loop buf₀ at sec n g winds internals faces next₀ i₀ buf next i = n - i
@@ -88,7 +90,10 @@ module _ (c : tie.At-match-came Inv-loop μ-loop) where
   made =
       ⊎-elim (λ w. w .3 ∙ w .2 .ensures ∙ told (w .1 .given .1))
       (⊎-elim (λ w. w .4 ∙ w .3 .ensures ∙ told (w .1 .given .1))
-      (⊎-elim (λ w. w .4 ∙ w .3 .ensures ∙ ap (λ (z : ℤ). heldLine 0 (internalFields z)) (toZ-ofZ (sfits-of (w .2 .given))) ∙ told (w .1 .given .1))
+      (⊎-elim (λ w. w .4
+      ∙ w .3 .ensures
+      ∙ ap (λ (z : ℤ). heldLine 0 (internalFields z)) (toZ-ofZ (sfits-of (w .2 .given)))
+      ∙ told (w .1 .given .1))
       (λ w. w .4 ∙ w .3 .ensures ∙ told (w .1 .given .1))))
       (c .match .came)
     where
@@ -106,7 +111,8 @@ loop-again c =
     let t = m .before in (
       omega arith,
       put-entry (entriesOf (carried (job m)) (section m)) (i t) (m .match .x) (within t)
-          (entry-held (job m) (section m) (i t) (m .match .x) (within t) (made m)) (t .before .loop .inv .1) (p .put-line2 .ensures),
+          (entry-held (job m) (section m) (i t) (m .match .x) (within t) (made m))
+          (t .before .loop .inv .1) (p .put-line2 .ensures),
     )
 
 same-length : tie.Need-same-length Inv-loop μ-loop
@@ -129,7 +135,8 @@ returns c =
 pub put-section-spec : {M : Type 1} → statement M
 put-section-spec =
     tie.close
-    (tie.spec Inv-loop μ-loop (λ c κs. search needs) (λ c κs. search needs) (λ c κs. search needs) loop-holds cast-k (λ c. search needs)
+    (tie.spec Inv-loop μ-loop (λ c κs. search needs) (λ c κs. search needs) (λ c κs. search needs) loop-holds cast-k
+    (λ c. search needs)
     (λ c κs. search needs) (λ c. search needs) mul-w element-copy-out-w (λ c κs. search needs) (λ c. search needs)
     mul-z element-copy-out-z (λ c κs. search needs) (λ c. search needs) mul-f element-copy-out-f
     (λ c κs. search needs) (λ c κs. search needs) add-i (λ c. search needs) loop-again same-length returns)

@@ -122,7 +122,10 @@ module _ (c : tie.At-match-came Inv-loop μ-loop) where
   fault =
       ⊎-elim (λ w. w .3 ∙ w .2 .ensures ∙ building-given (job turn .building) b ∙ judged-as B (w .1 .given .1))
       (⊎-elim (λ w. w .4 ∙ w .3 .ensures ∙ judged-as W (w .1 .given .1))
-      (⊎-elim (λ w. w .4 ∙ w .3 .ensures b ∙ ap (λ (z : ℤ). lineFault (Entry I) b (internalFields z)) (toZ-ofZ (sfits-of (w .2 .given))) ∙ judged-as I (w .1 .given .1))
+      (⊎-elim (λ w. w .4
+      ∙ w .3 .ensures b
+      ∙ ap (λ (z : ℤ). lineFault (Entry I) b (internalFields z)) (toZ-ofZ (sfits-of (w .2 .given)))
+      ∙ judged-as I (w .1 .given .1))
       (λ w. w .4 ∙ w .3 .ensures ∙ judged-as F (w .1 .given .1))))
       (c .match .came)
 
@@ -157,7 +160,8 @@ returns-3 c =
 pub judge-section-spec : {M : Type 1} → statement M
 judge-section-spec =
     tie.close
-    (tie.spec Inv-loop μ-loop (λ c. search needs) (λ c κs. search needs) (λ c κs. search needs) returns loop-holds (λ c. search needs)
+    (tie.spec Inv-loop μ-loop (λ c. search needs) (λ c κs. search needs) (λ c κs. search needs) returns loop-holds
+    (λ c. search needs)
     (λ c. search needs) (λ c κs. search needs) (λ c. search needs)
     (λ c. omega (arith, room (c .before .before) W (c .enum-told2 .given .1)))
     (λ c. room (c .before .before) W (c .enum-told2 .given .1)) (λ c κs. search needs) (λ c. search needs)

@@ -27,7 +27,8 @@ returns c =
     let h = c .before in
     let a = h .before .before .args in
     sym
-    (uneven-out (forms (a .k)) (held (a .x)) (λ e. c .if1 .taken (h .held-count .ensures ∙ e ∙ sym (h .before .count-of .ensures))))
+    (uneven-out (forms (a .k)) (held (a .x))
+    (λ e. c .if1 .taken (h .held-count .ensures ∙ e ∙ sym (h .before .count-of .ensures))))
 
 -- as many fields as forms
 module _ (c : tie.Else1 Inv-loop μ-loop) where

@@ -31,7 +31,10 @@ abbrev μ-loop2 : tie.MeasureT-loop2
 
 abbrev Inv-loop : tie.InvT-loop
 Inv-loop s b₀ winds₀ internals₀ faces₀ line₀ next₀ i₀ b winds internals faces line next i =
-    (i ≤ length sections) × ((sec : Section) × ReadSoFar s sec 0 i (record { building = b .building; winds = winds; internals = internals; faces = faces }) line next)
+    (i ≤ length sections)
+    × ((sec : Section)
+    × ReadSoFar s sec 0 i
+    (record { building = b .building; winds = winds; internals = internals; faces = faces }) line next)
 
 abbrev μ-loop : tie.MeasureT-loop
 μ-loop s b₀ winds₀ internals₀ faces₀ line₀ next₀ i₀ b winds internals faces line next i = length sections - i
