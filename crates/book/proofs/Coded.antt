@@ -1,5 +1,5 @@
 -- The tables as the code has them are the printed ones.
-use mathlib.Core.Path.{_≡_, sym, ap, _∙_}
+use mathlib.Core.Path.{_≡_, refl, sym, ap, _∙_}
 use mathlib.Core.Bool.{Bool, true}
 use mathlib.Core.List.{List, [], _∷_, _++_, map}
 use Prim.Native.Nat.{ℕ, zero, suc, _+_, _-_, _^_, _≤_, _<_}
@@ -11,13 +11,13 @@ use lib.Seq.{getD-take, getD-drop, getD-append-add}
 use mir.Syntax.{w16}
 use mir.Val.{hbits}
 use borrow.Author.Tests.{eqb-true, eq-eqb, ne-eqb}
-use Rattle.whole.specs.Lists.{firstOf}
 use Rattle.whole.proofs.Size.{Num, back}
 use Rattle.whole.proofs.Tests.{is-true}
-use Rattle.whole.proofs.Table.{both, both-left, both-right, all, all-at, each-at}
-use Rattle.whole.proofs.Lists.{getD-map, firstOf-getD}
+use Rattle.whole.proofs.Table.{both, both-left, both-right, all, all-at, Each, each-at}
+use Rattle.whole.proofs.Joined.{joined, begins, joined-at}
 use Rattle.building.specs.Ratio.{Limit, _÷_}
 use Rattle.book.specs.declared.roofs.Limit as coded-limits
+use Rattle.book.specs.declared.roofs.Row as coded-rows
 use Rattle.book.specs.declared.walls.Wall as coded
 use Rattle.book.specs.Row.{Row, noRow, hundredths, rowNumbered, Standing, rowsOf}
 use Rattle.book.specs.Gable.{gableParts, gableTable, heights}
@@ -76,10 +76,72 @@ coded-limit t = (t .over, t .under)
 pub limit-is : (i : ℕ) → getD (map coded-limit heights) i (0, 0) ≡ coded-limit (getD heights i (0 ÷ 0))
 limit-is i = List·getD-map coded-limit heights i (0 ÷ 0)
 
--- ---- the roofs' rows, by their numbers
+-- ---- the roofs' rows, part after part: a row's number, the number at which it stands, and its hundredths
 
-abbrev cellsOf : List Row → List (List ℤ)
-cellsOf rows = map (λ (r : Row). r .cells) rows
+abbrev pub parts : List (List Standing)
+parts = gableParts ++ flatParts
+
+abbrev pub part : ℕ → List Standing
+part k = getD parts k []
+
+pub gable-among : (k : ℕ) → k < 3 → part k ≡ getD gableParts k []
+gable-among k h = List·getD-append gableParts flatParts [] k h
+
+pub flat-among : (kind : ℕ) → 2 ≤ kind → part (kind + 1) ≡ getD flatParts (kind - 2) []
+flat-among kind h =
+    let e : kind + 1 ≡ 3 + (kind - 2) = omega arith in
+    rw e (getD-append-add gableParts flatParts (kind - 2) [])
+
+abbrev coded-row : Standing → coded-rows.Row
+coded-row s = (s .row .number, s .at, s .row .cells)
+
+abbrev codedRow : ℕ → coded-rows.Row
+codedRow n = getD (map coded-row (joined parts)) n (coded-row noStanding)
+
+-- where the parts begin, and where the last ends
+abbrev firsts : List ℕ
+firsts = 0 ∷ 7 ∷ 14 ∷ 22 ∷ 23 ∷ 26 ∷ 29 ∷ 33 ∷ []
+
+pub record Placed (k : ℕ) : Type 0 where
+  pub begun : getD firsts k 0 ≡ begins parts k
+  pub ended : getD firsts (k + 1) 0 ≡ getD firsts k 0 + length (part k)
+  pub most : getD firsts (k + 1) 0 ≤ 33
+  pub some : 0 < length (part k)
+
+place : (k : ℕ) → getD firsts k 0 ≡ begins parts k → getD firsts (k + 1) 0 ≡ getD firsts k 0 + length (part k)
+    → T (leb (getD firsts (k + 1) 0) 33) → T (ltb 0 (length (part k))) → Placed k
+place k begun ended most some =
+    record { begun = begun; ended = ended; most = leb→le _ 33 most; some = ltb→lt 0 _ some }
+
+pub placed : (k : ℕ) → k < 7 → Placed k
+placed =
+    each-at Placed 7 (
+      place 6 refl refl tt tt,
+      (place 5 refl refl tt tt, (place 4 refl refl tt tt, (place 3 refl refl tt tt, three))),
+    )
+  where
+    three : Each Placed 3
+    three = (place 2 refl refl tt tt, (place 1 refl refl tt tt, (place 0 refl refl tt tt, tt)))
+
+pub row-is : (k i : ℕ) → k < 7 → i < length (part k)
+    → codedRow (getD firsts k 0 + i) ≡ coded-row (getD (part k) i noStanding)
+row-is k i h g =
+    List·getD-map coded-row (joined parts) (getD firsts k 0 + i) noStanding
+    ∙ ap coded-row
+    (ap (λ (n : ℕ). getD (joined parts) (n + i) noStanding) (placed k h .begun) ∙ joined-at parts k i noStanding g)
+
+-- a number of a row, as a contract has it
+pub number-in : (f : Standing → ℕ) → f noStanding ≡ 0 → (k i : ℕ)
+    → getD (map f (part k)) i 0 ≡ f (getD (part k) i noStanding)
+number-in f none k i = ap (getD (map f (part k)) i) (sym none) ∙ List·getD-map f (part k) i noStanding
+
+pub stands-small : (k i : ℕ) → getD (part k) i noStanding .at ≤ 900
+stands-small k i =
+    leb→le _ 900
+    (all-at (λ (s : Standing). leb (s .at) 900) (part k) noStanding tt
+    (all-at (λ (l : List Standing). all (λ (s : Standing). leb (s .at) 900) l) parts [] tt tt k) i)
+
+-- ---- the rows of a table by their numbers
 
 -- rows that are numbered n, n + 1, ..
 abbrev run : ℕ → List Row → Bool
@@ -98,74 +160,34 @@ run-at n (suc i) (r ∷ rows) rest t h =
     rw (ne-eqb (r .number) (n + suc i) (λ f. omega arith), next)
     (run-at (n + 1) i rows rest (both-right (eqb (r .number) n) (run (n + 1) rows) t) (omega arith))
 
-module _ (rows rest : List Row) (runs : T (run 1 rows)) (i col : ℕ) (from : 0 < i) (to : i ≤ length rows) where
-  cell-is : getD (getD (cellsOf rows) (i - 1) []) col (pos 0) ≡ hundredths (rowNumbered i (rows ++ rest)) col
-  cell-is =
+-- among all rows, those of the table begin after those before it
+module _ (before rows after rest : List Row) (runs : T (run 1 rows))
+    (all-rows : map (λ (s : Standing). s .row) (joined parts) ≡ before ++ (rows ++ after)) where
+  cell-is : (i col : ℕ) → 0 < i → i ≤ length rows
+      → getD (codedRow (length before + (i - 1)) .2) col (pos 0) ≡ hundredths (rowNumbered i (rows ++ rest)) col
+  cell-is i col from to =
+      let n = length before + (i - 1) in
       let e : 1 + (i - 1) ≡ i = omega arith in
-      ap (λ (l : List ℤ). getD l col (pos 0)) (List·getD-map (λ (r : Row). r .cells) rows (i - 1) noRow)
-      ∙ ap (λ (r : Row). hundredths r col) (sym (rw e at (run-at 1 (i - 1) rows rest runs (omega arith))))
+      let found : getD (before ++ (rows ++ after)) n noRow ≡ getD rows (i - 1) noRow =
+      getD-append-add before (rows ++ after) (i - 1) noRow ∙ List·getD-append rows after noRow (i - 1) (omega arith) in
+      ap (λ (r : coded-rows.Row). getD (r .2) col (pos 0)) (List·getD-map coded-row (joined parts) n noStanding)
+      ∙ ap (λ (r : Row). hundredths r col)
+      (sym (List·getD-map (λ (s : Standing). s .row) (joined parts) n noStanding)
+      ∙ ap (λ (l : List Row). getD l n noRow) all-rows
+      ∙ found
+      ∙ sym (rw e at (run-at 1 (i - 1) rows rest runs (omega arith))))
 
 pub gable-cell : (i col : ℕ) → 0 < i → i ≤ 22
-    → getD (getD (cellsOf gableTable) (i - 1) []) col (pos 0) ≡ hundredths (rowNumbered i gableTable) col
+    → getD (codedRow (i - 1) .2) col (pos 0) ≡ hundredths (rowNumbered i gableTable) col
 unfolding gableTable
-gable-cell = cell-is (rowsOf gableParts) [] tt
+gable-cell i col from to =
+    let e : 0 + (i - 1) ≡ i - 1 = omega arith in
+    rw e at (cell-is [] (rowsOf gableParts) (rowsOf flatParts) [] tt refl i col from to)
 
 pub flat-cell : (i col : ℕ) → 0 < i → i ≤ 10
-    → getD (getD (cellsOf (take 10 flatTable)) (i - 1) []) col (pos 0) ≡ hundredths (rowNumbered i flatTable) col
+    → getD (codedRow (i + 21) .2) col (pos 0) ≡ hundredths (rowNumbered i flatTable) col
 unfolding flatTable
-flat-cell = cell-is (take 10 (rowsOf flatParts)) (drop 10 (rowsOf flatParts)) tt
-
--- ---- the parts: how many rows, where they stand, and their numbers
-
-abbrev pub parts : List (List Standing)
-parts = gableParts ++ flatParts
-
-abbrev pub part : ℕ → List Standing
-part k = getD parts k []
-
-pub gable-among : (k : ℕ) → k < 3 → part k ≡ getD gableParts k []
-gable-among k h = List·getD-append gableParts flatParts [] k h
-
-pub flat-among : (kind : ℕ) → 2 ≤ kind → part (kind + 1) ≡ getD flatParts (kind - 2) []
-flat-among kind h =
-    let e : kind + 1 ≡ 3 + (kind - 2) = omega arith in
-    rw e (getD-append-add gableParts flatParts (kind - 2) [])
-
--- a number of each row of part k, with zeros past its last
-abbrev pub eight : (Standing → ℕ) → List Standing → List ℕ
-eight f rows = firstOf 0 8 (map f rows)
-
-pub stands-is : (k : ℕ) → k < 7 → getD (map (eight (λ s. s .at)) parts) k [] ≡ eight (λ s. s .at) (part k)
-stands-is k h = getD-map (eight (λ s. s .at)) parts k [] [] h
-
-pub numbers-is : (k : ℕ) → k < 7
-    → getD (map (eight (λ s. s .row .number)) parts) k [] ≡ eight (λ s. s .row .number) (part k)
-numbers-is k h = getD-map (eight (λ s. s .row .number)) parts k [] [] h
-
-pub count-is : (k : ℕ) → getD (map length parts) k 0 ≡ length (part k)
-count-is k = List·getD-map length parts k []
-
-abbrev Sized : ℕ → Type 0
-Sized k = (0 < length (part k)) × (length (part k) ≤ 8)
-
-sized : {n : ℕ} → T (ltb 0 n) → T (leb n 8) → (0 < n) × (n ≤ 8)
-sized {n} s t = (ltb→lt 0 n s, leb→le n 8 t)
-
-pub part-sized : (k : ℕ) → k < 7 → Sized k
-part-sized =
-    each-at Sized 7
-    (sized tt tt, (sized tt tt, (sized tt tt, (sized tt tt, (sized tt tt, (sized tt tt, (sized tt tt, tt)))))))
-
-pub stands-small : (k i : ℕ) → getD (part k) i noStanding .at ≤ 900
-stands-small k i =
-    leb→le _ 900
-    (all-at (λ (s : Standing). leb (s .at) 900) (part k) noStanding tt
-    (all-at (λ (l : List Standing). all (λ (s : Standing). leb (s .at) 900) l) parts [] tt tt k) i)
-
--- the number of row i among these
-pub eight-at : (f : Standing → ℕ) → f noStanding ≡ 0 → (k i : ℕ) → i < 8
-    → getD (eight f (part k)) i 0 ≡ f (getD (part k) i noStanding)
-eight-at f none k i h =
-    firstOf-getD 0 8 i (map f (part k)) h
-    ∙ ap (getD (map f (part k)) i) (sym none)
-    ∙ List·getD-map f (part k) i noStanding
+flat-cell i col from to =
+    let e : 22 + (i - 1) ≡ i + 21 = omega arith in
+    let rows = rowsOf flatParts in
+    rw e at (cell-is (rowsOf gableParts) (take 10 rows) (drop 10 rows) (drop 10 rows) tt refl i col from to)

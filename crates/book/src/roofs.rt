@@ -3,7 +3,6 @@ ghost use mathlib.Core.Path.{_≡_};
 ghost use mathlib.Core.List.{[], _++_, map};
 ghost use Prim.Native.Nat.{_<_, _≤_};
 ghost use lib.ListN.{length, getD};
-ghost use Rattle.whole.specs.Lists.{firstOf};
 ghost use Rattle.building.specs.Order.{SizesInOrder};
 ghost use Rattle.building.specs.Ratio.{_÷_, upTo};
 ghost use Rattle.book.specs.Row.{hundredths, rowNumbered, Standing};
@@ -25,78 +24,59 @@ struct Limit(u32, u32);
 // The gable's blocks, in the book's order: h/b to.
 const HEIGHTS: [Limit; 3] = [Limit(1, 2), Limit(3, 2), Limit(6, 1)];
 
-// The rows of table 3.2.2.2.2: wind 0 E,F; wind 0 G,H; wind 90 E,G; wind 90 F,H.
-const GABLE: [[i16; 4]; 22] = [
-    // 1 to 7: h/b to 1/2.
-    [-80, -40, -80, -40],
-    [-90, -40, -80, -40],
-    [-120, -40, -80, -60],
-    [-40, -40, -70, -60],
-    [0, -40, -70, -60],
-    [30, -50, -70, -60],
-    [70, -60, -70, -60],
-    // 8 to 14: h/b over 1/2, to 3/2.
-    [-80, -60, -100, -60],
-    [-90, -60, -90, -60],
-    [-110, -60, -80, -60],
-    [-70, -50, -80, -60],
-    [-20, -50, -80, -80],
-    [20, -50, -80, -80],
-    [60, -50, -80, -80],
-    // 15 to 22: h/b over 3/2, to 6.
-    [-70, -60, -90, -70],
-    [-70, -60, -80, -80],
-    [-70, -60, -80, -80],
-    [-80, -60, -80, -80],
-    [-100, -50, -80, -70],
-    [-20, -50, -80, -70],
-    [20, -50, -80, -70],
-    [50, -50, -80, -70],
+// A printed row: its number, the number at which it stands, and its hundredths.
+struct Row(u16, u16, [i16; 4]);
+
+// Straight eaves, which a mansard has at 90 degrees.
+const EAVES: [i16; 4] = [-70, 20, -250, -200];
+
+// Tables 3.2.2.2.2 and 3.2.2.2.4. A row stands at tenths of a degree or, for parapet and curved eaves, at thousandths
+// of h. Gable: wind 0 E,F; wind 0 G,H; wind 90 E,G; wind 90 F,H. Flat: E; F, with both signs; L1; L2.
+const ROWS: [Row; 33] = [
+    // Gable, h/b to 1/2.
+    Row(1, 0, [-80, -40, -80, -40]),
+    Row(2, 50, [-90, -40, -80, -40]),
+    Row(3, 100, [-120, -40, -80, -60]),
+    Row(4, 200, [-40, -40, -70, -60]),
+    Row(5, 300, [0, -40, -70, -60]),
+    Row(6, 450, [30, -50, -70, -60]),
+    Row(7, 600, [70, -60, -70, -60]),
+    // Gable, h/b over 1/2, to 3/2.
+    Row(8, 0, [-80, -60, -100, -60]),
+    Row(9, 50, [-90, -60, -90, -60]),
+    Row(10, 100, [-110, -60, -80, -60]),
+    Row(11, 200, [-70, -50, -80, -60]),
+    Row(12, 300, [-20, -50, -80, -80]),
+    Row(13, 450, [20, -50, -80, -80]),
+    Row(14, 600, [60, -50, -80, -80]),
+    // Gable, h/b over 3/2, to 6.
+    Row(15, 0, [-70, -60, -90, -70]),
+    Row(16, 50, [-70, -60, -80, -80]),
+    Row(17, 100, [-70, -60, -80, -80]),
+    Row(18, 200, [-80, -60, -80, -80]),
+    Row(19, 300, [-100, -50, -80, -70]),
+    Row(20, 400, [-20, -50, -80, -70]),
+    Row(21, 500, [20, -50, -80, -70]),
+    Row(22, 600, [50, -50, -80, -70]),
+    // Flat, straight eaves.
+    Row(1, 0, EAVES),
+    // Flat, parapet.
+    Row(2, 25, [-70, 20, -220, -180]),
+    Row(3, 50, [-70, 20, -200, -160]),
+    Row(4, 100, [-70, 20, -180, -140]),
+    // Flat, curved eaves.
+    Row(5, 50, [-40, 20, -150, -180]),
+    Row(6, 100, [-30, 20, -120, -140]),
+    Row(7, 200, [-30, 20, -80, -80]),
+    // Flat, mansard.
+    Row(8, 300, [-30, 20, -150, -150]),
+    Row(9, 450, [-40, 20, -180, -190]),
+    Row(10, 600, [-50, 20, -190, -190]),
+    Row(1, 900, EAVES),
 ];
 
-// The rows of table 3.2.2.2.4: E; F, with both signs; L1; L2.
-const FLAT: [[i16; 4]; 10] = [
-    // 1: straight eaves.
-    [-70, 20, -250, -200],
-    // 2 to 4: parapet.
-    [-70, 20, -220, -180],
-    [-70, 20, -200, -160],
-    [-70, 20, -180, -140],
-    // 5 to 7: curved eaves.
-    [-40, 20, -150, -180],
-    [-30, 20, -120, -140],
-    [-30, 20, -80, -80],
-    // 8 to 10: mansard.
-    [-30, 20, -150, -150],
-    [-40, 20, -180, -190],
-    [-50, 20, -190, -190],
-];
-
-// The parts of the tables, one to a line: gable by h/b; straight eaves, parapet, curved eaves, mansard. How many rows
-// each has.
-const COUNTS: [usize; 7] = [7, 7, 8, 1, 3, 3, 4];
-
-// The number at which each row stands: tenths of a degree or, for parapet and curved eaves, thousandths of h.
-const STANDS: [[u16; 8]; 7] = [
-    [0, 50, 100, 200, 300, 450, 600, 0],
-    [0, 50, 100, 200, 300, 450, 600, 0],
-    [0, 50, 100, 200, 300, 400, 500, 600],
-    [0, 0, 0, 0, 0, 0, 0, 0],
-    [25, 50, 100, 0, 0, 0, 0, 0],
-    [50, 100, 200, 0, 0, 0, 0, 0],
-    [300, 450, 600, 900, 0, 0, 0, 0],
-];
-
-// Which row of the table stands there: at 90 degrees a mansard has straight eaves.
-const NUMBERS: [[u16; 8]; 7] = [
-    [1, 2, 3, 4, 5, 6, 7, 0],
-    [8, 9, 10, 11, 12, 13, 14, 0],
-    [15, 16, 17, 18, 19, 20, 21, 22],
-    [1, 0, 0, 0, 0, 0, 0, 0],
-    [2, 3, 4, 0, 0, 0, 0, 0],
-    [5, 6, 7, 0, 0, 0, 0, 0],
-    [8, 9, 10, 1, 0, 0, 0, 0],
-];
+// Where each part begins among them: gable by h/b; straight eaves, parapet, curved eaves, mansard; and the end.
+const FIRST: [usize; 8] = [0, 7, 14, 22, 23, 26, 29, 33];
 
 // h/b comes up to the limit of a block.
 fn in_block(block: usize, s: Sizes) -> bool
@@ -134,46 +114,21 @@ fn part_of(s: Sizes) -> usize
     (s.kind + 1) as usize
 }
 
+// How many rows part k has, and row i of them: its number, and the number at which it stands.
 fn count_of(k: usize) -> usize
     requires { ⌜ k < 7 ⌝ }
     ensures { λ r. ⌜ r ≡ length (getD (gableParts ++ flatParts) k []) ⌝ }
 {
-    COUNTS[k]
+    FIRST[k + 1] - FIRST[k]
 }
 
-fn stands_of(k: usize) -> [u16; 8]
-    requires { ⌜ k < 7 ⌝ }
-    ensures { λ r. ⌜ r ≡ firstOf 0 8 (map (λ (s : Standing). s .at) (getD (gableParts ++ flatParts) k [])) ⌝ }
-{
-    STANDS[k]
-}
-
-fn numbers_of(k: usize) -> [u16; 8]
-    requires { ⌜ k < 7 ⌝ }
+fn row_of(k: usize, i: usize) -> Row
+    requires { ⌜ (k < 7) × (i < length (getD (gableParts ++ flatParts) k [])) ⌝ }
     ensures { λ r. ⌜ (let part = getD (gableParts ++ flatParts) k [] in
-        r ≡ firstOf 0 8 (map (λ (s : Standing). s .row .number) part)) ⌝ }
+        (r .0 ≡ getD (map (λ (s : Standing). s .row .number) part) i 0)
+        × (r .1 ≡ getD (map (λ (s : Standing). s .at) part) i 0)) ⌝ }
 {
-    NUMBERS[k]
-}
-
-fn stands(at: &[u16; 8], i: usize) -> u64
-    requires { ⌜ i < 8 ⌝ }
-    ensures { λ r. ⌜ r ≡ getD (now (at .entry)) i 0 ⌝ }
-{
-    wide(at[i]) as u64
-}
-
-fn number(rows: &[u16; 8], i: usize) -> u32
-    requires { ⌜ i < 8 ⌝ }
-    ensures { λ r. ⌜ r ≡ getD (now (rows .entry)) i 0 ⌝ }
-{
-    wide(rows[i])
-}
-
-fn wide(n: u16) -> u32
-    ensures { λ r. ⌜ r ≡ n ⌝ }
-{
-    n as u32
+    ROWS[FIRST[k] + i]
 }
 
 // Where x / d lies in part k: a walk over its rows, in the book's order.
@@ -181,22 +136,23 @@ fn way_in(k: usize, x: u64, d: u64) -> Spot
     requires { ⌜ (k < 7) × (d ≤ 30000) ⌝ }
     ensures { λ r. ⌜ r ≡ spotOf (wayIn (getD (gableParts ++ flatParts) k []) x d) ⌝ }
 {
-    let at = stands_of(k);
-    let rows = numbers_of(k);
     let count = count_of(k);
     let mut i: usize = 0;
     while i + 1 < count {
-        let s = stands(&at, i) * d;
+        let row = row_of(k, i);
+        let s = (row.1 as u64) * d;
         if x <= s {
-            return on_row(number(&rows, i));
+            return on_row(row.0 as u32);
         }
-        let t = stands(&at, i + 1) * d;
+        let next = row_of(k, i + 1);
+        let t = (next.1 as u64) * d;
         if x < t {
-            return between(number(&rows, i), number(&rows, i + 1), x - s, t - s);
+            return between(row.0 as u32, next.0 as u32, x - s, t - s);
         }
         i += 1;
     }
-    on_row(number(&rows, i))
+    let last = row_of(k, i);
+    on_row(last.0 as u32)
 }
 
 // Where x lies in the roof's part of its table.
@@ -212,14 +168,16 @@ fn gable_cell(row: u32, col: usize) -> i16
     requires { ⌜ (0 < row) × (row ≤ 22) × (col < 4) ⌝ }
     ensures { λ r. ⌜ r ≡ hundredths (rowNumbered row gableTable) col ⌝ }
 {
-    GABLE[(row - 1) as usize][col]
+    let r = ROWS[(row - 1) as usize];
+    r.2[col]
 }
 
 fn flat_cell(row: u32, col: usize) -> i16
     requires { ⌜ (0 < row) × (row ≤ 10) × (col < 4) ⌝ }
     ensures { λ r. ⌜ r ≡ hundredths (rowNumbered row flatTable) col ⌝ }
 {
-    FLAT[(row - 1) as usize][col]
+    let r = ROWS[(row + 21) as usize];
+    r.2[col]
 }
 
 // The hundredths of a row and column of the roof's table.

@@ -9,6 +9,7 @@ pub mod Newtons
 pub mod Tests
 pub mod Table
 pub mod Lists
+pub mod Joined
 pub mod Digits
 pub mod AreDigits
 pub mod DigitsWorked

@@ -1,15 +1,13 @@
 -- `roofs::flat_cell`: the code's cells are the printed table's.
 use borrow.Author.Needs.{needs}
-use Rattle.book.specs.Flat.{flatTable}
 use Rattle.book.proofs.Tables.{flat-row-small}
 use Rattle.book.proofs.Coded.{entry, flat-cell}
 use Rattle.book.proofs.roofs.flat_cell.Statement.{statement}
 use Rattle.book.proofs.roofs.flat_cell.Tie as tie
 
 returns : tie.Need-returns
-unfolding flatTable
 returns c =
-    let s = c .before in
+    let s = c .before .before in
     let a = s .args in
     entry (flat-cell (a .row) (a .col) (s .pre .0) (s .pre .1)) (flat-row-small (a .row) .at (a .col)) tt .same
 

@@ -1,15 +1,13 @@
 -- `roofs::gable_cell`: the code's cells are the printed table's.
 use borrow.Author.Needs.{needs}
-use Rattle.book.specs.Gable.{gableTable}
 use Rattle.book.proofs.Tables.{gable-row-small}
 use Rattle.book.proofs.Coded.{entry, gable-cell}
 use Rattle.book.proofs.roofs.gable_cell.Statement.{statement}
 use Rattle.book.proofs.roofs.gable_cell.Tie as tie
 
 returns : tie.Need-returns
-unfolding gableTable
 returns c =
-    let s = c .before in
+    let s = c .before .before in
     let a = s .args in
     entry (gable-cell (a .row) (a .col) (s .pre .0) (s .pre .1)) (gable-row-small (a .row) .at (a .col)) tt .same
 

@@ -1,6 +1,6 @@
 -- `roofs::way_in`: the loop takes the walk over the rows of the part that are left.
 use mathlib.Core.Path.{_≡_, refl, sym, ap, _∙_}
-use mathlib.Core.List.{List}
+use mathlib.Core.List.{map}
 use Prim.Native.Nat.{ℕ, _+_, _-_, _*_, _≤_, _<_}
 use native.Mathlib.Nat.{mul-le-mul}
 use native.Mathlib.Omega.{arith}
@@ -10,19 +10,18 @@ use Rattle.book.specs.Row.{Standing}
 use Rattle.book.specs.Line.{Way, between, wayIn}
 use Rattle.book.specs.Spot.{spotOf, rowSpot}
 use Rattle.book.proofs.Ways.{noStanding, way-on, way-passes, way-between, way-ends}
-use Rattle.book.proofs.Coded.{part, eight, eight-at, part-sized, stands-small}
+use Rattle.book.proofs.Coded.{part, placed, number-in, stands-small}
 use Rattle.book.proofs.roofs.way_in.Statement.{statement}
 use Rattle.book.proofs.roofs.way_in.Tie as tie
 
 abbrev Inv-loop : tie.InvT-loop
-Inv-loop k x d at rows count i₀ i =
-    (i + 1 ≤ count) × (count ≤ 8) × (wayIn (part k) x d ≡ wayIn (drop i (part k)) x d)
+Inv-loop k x d count i₀ i = (i + 1 ≤ count) × (wayIn (part k) x d ≡ wayIn (drop i (part k)) x d)
 
 abbrev μ-loop : tie.MeasureT-loop
-μ-loop k x d at rows count i₀ i = count - i
+μ-loop k x d count i₀ i = count - i
 
 abbrev start : tie.At-loop Inv-loop μ-loop → tie.Start Inv-loop μ-loop
-start c = c .before .before .before .before
+start c = c .before .before
 
 -- row i of the part
 abbrev row : tie.At-loop Inv-loop μ-loop → ℕ → Standing
@@ -32,16 +31,13 @@ last : (c : tie.At-loop Inv-loop μ-loop) → c .before .count-of .result ≡ le
 last c = c .before .count-of .ensures
 
 -- a number that was read is the printed one
-printed : (f : Standing → ℕ) → f noStanding ≡ 0 → (k i : ℕ) → i < 8 → {l : List ℕ} {n : ℕ} → n ≡ getD l i 0
-    → l ≡ eight f (part k) → n ≡ f (getD (part k) i noStanding)
-printed f none k i h e g = e ∙ ap (λ (l : List ℕ). getD l i 0) g ∙ eight-at f none k i h
+module _ (c : tie.At-loop Inv-loop μ-loop) (i : ℕ) {n : ℕ} where
+  stands-at : n ≡ getD (map (λ (s : Standing). s .at) (part (start c .args .k))) i 0 → n ≡ row c i .at
+  stands-at e = e ∙ number-in (λ s. s .at) refl (start c .args .k) i
 
-module _ (c : tie.At-loop Inv-loop μ-loop) (i : ℕ) (h : i < 8) where
-  stands-at : {n : ℕ} → n ≡ getD (c .before .before .before .stands-of .result) i 0 → n ≡ row c i .at
-  stands-at e = printed (λ s. s .at) refl (start c .args .k) i h e (c .before .before .before .stands-of .ensures)
-
-  number-at : {n : ℕ} → n ≡ getD (c .before .before .numbers-of .result) i 0 → n ≡ row c i .row .number
-  number-at e = printed (λ s. s .row .number) refl (start c .args .k) i h e (c .before .before .numbers-of .ensures)
+  number-at : n ≡ getD (map (λ (s : Standing). s .row .number) (part (start c .args .k))) i 0
+      → n ≡ row c i .row .number
+  number-at e = e ∙ number-in (λ s. s .row .number) refl (start c .args .k) i
 
 small : {n : ℕ} (k i d : ℕ) → d ≤ 30000 → n ≡ getD (part k) i noStanding .at → n * d ≤ 900 * 30000
 small k i d h e = rw e (mul-le-mul (stands-small k i) h)
@@ -50,108 +46,111 @@ small k i d h e = rw e (mul-le-mul (stands-small k i) h)
 scaled : {n m : ℕ} (d : ℕ) → n ≡ m → n * d ≡ m * d
 scaled d e = ap (λ (n : ℕ). n * d) e
 
-loop-holds : tie.Need-loop-holds Inv-loop μ-loop
-loop-holds c =
-    let s = c .before .before .before in
-    let e = c .count-of .ensures in
-    let f = part-sized (s .args .k) (s .pre .0) in
-    (omega arith, omega arith, refl)
-
-mul-s : tie.Need-mul-s Inv-loop μ-loop
-mul-s c =
-    let l = c .before .before .before in
-    let s = start l in
-    let i = l .loop .i in
-    omega (arith, small (s .args .k) i (s .args .d) (s .pre .1) (stands-at l i (omega arith) (c .stands .ensures)))
-
 -- what the walk comes to, with the rows' numbers
 met : (c : tie.At-loop Inv-loop μ-loop) {w : Way} →
     let a = start c .args in
     wayIn (drop (c .loop .i) (part (a .k))) (a .x) (a .d) ≡ w → spotOf w ≡ spotOf (wayIn (part (a .k)) (a .x) (a .d))
-met c e = ap spotOf (sym (c .loop .inv .2 ∙ e))
+met c e = ap spotOf (sym (c .loop .inv .1 ∙ e))
+
+loop-holds : tie.Need-loop-holds Inv-loop μ-loop
+loop-holds c =
+    let s = c .before in
+    (omega (arith, c .count-of .ensures, placed (s .args .k) (s .pre .0) .some), refl)
+
+row-of-requires : tie.Need-row-of-requires Inv-loop μ-loop
+row-of-requires c κs = let l = c .before in (start l .pre .0, omega (arith, last l))
+
+mul-s : tie.Need-mul-s Inv-loop μ-loop
+mul-s c =
+    let r = c .before in
+    let l = r .before .before in
+    let s = start l in
+    omega (arith, small (s .args .k) (l .loop .i) (s .args .d) (s .pre .1) (stands-at l (l .loop .i) (r .row-of .ensures .1)))
 
 returns : tie.Need-returns Inv-loop μ-loop
 returns c =
-    let r = c .before in
-    let t = r .before .before in
-    let l = t .before .before .before .before in
+    let t = c .before .before in
+    let r = t .before .before in
+    let l = r .before .before in
     let a = start l .args in
     let i = l .loop .i in
     let n = last l in
-    let e = scaled (a .d) (stands-at l i (omega arith) (t .before .stands .ensures)) in
+    let e = scaled (a .d) (stands-at l i (r .row-of .ensures .1)) in
     c .on-row .ensures
-    ∙ ap rowSpot (number-at l i (omega arith) (r .number .ensures))
+    ∙ ap rowSpot (number-at l i (r .row-of .ensures .0))
     ∙ met l (way-on (part (a .k)) (a .x) (a .d) i (omega arith) (omega arith))
+
+row-of-requires-2 : tie.Need-row-of-requires-2 Inv-loop μ-loop
+row-of-requires-2 c κs = let l = c .before .before .before .before in (start l .pre .0, omega (arith, last l))
 
 mul-t : tie.Need-mul-t Inv-loop μ-loop
 mul-t c =
-    let l = c .before .before .before .before .before .before in
+    let q = c .before in
+    let l = q .before .before .before .before .before in
     let s = start l in
     let i = l .loop .i + 1 in
-    omega (arith, small (s .args .k) i (s .args .d) (s .pre .1) (stands-at l i (omega arith) (c .stands2 .ensures)))
+    omega (arith, small (s .args .k) i (s .args .d) (s .pre .1) (stands-at l i (q .row-of2 .ensures .1)))
 
 between-requires : tie.Need-between-requires Inv-loop μ-loop
 between-requires c κs =
-    let t = c .before .before .before .before in
-    let f = t .before .before .before .before in
-    let l = f .before .before .before in
+    let q = c .before .before .before .before in
+    let l = q .before .before .before .before .before in
     let s = start l in
     let i = l .loop .i + 1 in
-    let upper = stands-at l i (omega arith) (t .before .stands2 .ensures) in
-    let most = small (s .args .k) i (s .args .d) (s .pre .1) upper in
+    let most = small (s .args .k) i (s .args .d) (s .pre .1) (stands-at l i (q .row-of2 .ensures .1)) in
     (omega arith, omega arith, omega arith)
 
 returns-2 : tie.Need-returns-2 Inv-loop μ-loop
 returns-2 c =
-    let q = c .before in
-    let r = q .before .before in
-    let t = r .before .before in
-    let f = t .before .before .before .before in
-    let l = f .before .before .before in
+    let q = c .before .before .before .before .before in
+    let r = q .before .before .before in
+    let l = r .before .before in
     let a = start l .args in
     let i = l .loop .i in
     let n = last l in
-    let lower = stands-at l i (omega arith) (f .stands .ensures) in
-    let upper = stands-at l (i + 1) (omega arith) (t .before .stands2 .ensures) in
+    let lower = stands-at l i (r .row-of .ensures .1) in
+    let upper = stands-at l (i + 1) (q .row-of2 .ensures .1) in
     let from = scaled (a .d) lower in
     let to = scaled (a .d) upper in
-    let this = number-at l i (omega arith) (r .number2 .ensures) in
-    let next = number-at l (i + 1) (omega arith) (q .number3 .ensures) in
+    let this = number-at l i (r .row-of .ensures .0) in
+    let next = number-at l (i + 1) (q .row-of2 .ensures .0) in
     c .between .ensures
     ∙ rw (this, next, lower, upper)
     (met l (way-between (part (a .k)) (a .x) (a .d) i (omega arith) (omega arith) (omega arith)))
 
 loop-again : tie.Need-loop-again Inv-loop μ-loop
 loop-again c =
-    let t = c .before in
-    let f = t .before .before .before in
-    let l = f .before .before .before in
+    let q = c .before .before in
+    let r = q .before .before .before in
+    let l = r .before .before in
     let a = start l .args in
     let i = l .loop .i in
     let n = last l in
-    let from = scaled (a .d) (stands-at l i (omega arith) (f .stands .ensures)) in
-    let to = scaled (a .d) (stands-at l (i + 1) (omega arith) (t .stands2 .ensures)) in (
+    let from = scaled (a .d) (stands-at l i (r .row-of .ensures .1)) in
+    let to = scaled (a .d) (stands-at l (i + 1) (q .row-of2 .ensures .1)) in (
       omega arith,
-      omega arith,
-      l .loop .inv .2 ∙ way-passes (part (a .k)) (a .x) (a .d) i (omega arith) (omega arith) (omega arith),
+      l .loop .inv .1 ∙ way-passes (part (a .k)) (a .x) (a .d) i (omega arith) (omega arith) (omega arith),
     )
+
+row-of-requires-3 : tie.Need-row-of-requires-3 Inv-loop μ-loop
+row-of-requires-3 c κs = let l = c .before in (start l .pre .0, omega (arith, last l))
 
 returns-3 : tie.Need-returns-3 Inv-loop μ-loop
 returns-3 c =
-    let r = c .before in
-    let l = r .before .before .before in
+    let r = c .before .before in
+    let l = r .before .before in
     let a = start l .args in
     let i = l .loop .i in
     let n = last l in
     c .on-row2 .ensures
-    ∙ ap rowSpot (number-at l i (omega arith) (r .number4 .ensures))
+    ∙ ap rowSpot (number-at l i (r .row-of3 .ensures .0))
     ∙ met l (way-ends (part (a .k)) (a .x) (a .d) i (omega arith))
 
 pub way-in-spec : {M : Type 1} → statement M
 way-in-spec =
     tie.close
-    (tie.spec Inv-loop μ-loop (λ c κs. search needs) (λ c κs. search needs) (λ c κs. search needs) loop-holds
-    (λ c. search needs) (λ c κs. search needs) mul-s (λ c κs. search needs) (λ c κs. search needs) returns
-    (λ c. search needs) (λ c κs. search needs) mul-t (λ c κs. search needs) (λ c. search needs)
-    (λ c κs. search needs) (λ c. search needs) (λ c. search needs) between-requires returns-2 (λ c. search needs)
-    (λ c. search needs) loop-again (λ c κs. search needs) (λ c κs. search needs) returns-3)
+    (tie.spec Inv-loop μ-loop (λ c κs. search needs) loop-holds (λ c. search needs) row-of-requires
+    (λ c. search needs) mul-s (λ c. search needs) (λ c κs. search needs) returns (λ c. search needs)
+    row-of-requires-2 (λ c. search needs) mul-t (λ c. search needs) (λ c. search needs) (λ c. search needs)
+    (λ c. search needs) between-requires returns-2 (λ c. search needs) (λ c. search needs) loop-again
+    row-of-requires-3 (λ c. search needs) (λ c κs. search needs) returns-3)
