@@ -47,10 +47,10 @@ module _ (v w : ℤ) (part whole : ℕ) (within : part ≤ whole) (some : 0 < wh
   both : (whole - part) + part ≡ whole
   both = omega arith
 
-  abbrev mean : ℤ
+  abbrev pub mean : ℤ
   mean = (v *ℤ pos (whole - part) +ℤ w *ℤ pos part) *ℤ pos 10
 
-  weighted : alongLine v w part whole ≡ mean
+  pub weighted : alongLine v w part whole ≡ mean
   weighted = ap (λ (z : ℤ). z *ℤ pos 10) (rw both at (weights v w (whole - part) part))
 
   line-above : (m : ℤ) → m ≤ℤ v → m ≤ℤ w → (m *ℤ pos 10) ≤ℤ onStraight v w part whole

@@ -1,5 +1,5 @@
 -- The roof of a building in order: its part of the tables, the rows that x lies between, and how large a value is.
-use mathlib.Core.Path.{_≡_, sym, subst}
+use mathlib.Core.Path.{_≡_, refl, sym, _∙_, subst, subst₂}
 use mathlib.Core.Bool.{cond}
 use mathlib.Core.List.{List, [], _∷_}
 use Prim.Native.Nat.{ℕ, _+_, _-_, _*_, _≤_, _<_}
@@ -10,13 +10,15 @@ use lib.ListN.{length, getD}
 use borrow.Author.Tests.{eqb-true, eqb-false, eq-eqb, ne-eqb}
 use Rattle.whole.specs.Lists.{Every}
 use Rattle.whole.proofs.Tests.{by-test}
+use Rattle.whole.proofs.Lists.{every-at}
 use Rattle.building.specs.declared.Sizes.{Sizes}
 use Rattle.building.specs.Roof.{roofOf}
 use Rattle.building.specs.Order.{SizesInOrder}
 use Rattle.book.specs.Row.{Row, hundredths, Standing}
 use Rattle.book.specs.Line.{Way, wayIn, valueAt}
 use Rattle.book.specs.Interpolated.{LiesAt}
-use Rattle.book.specs.Gable.{blockOf}
+use Rattle.book.specs.NoHalf.{NoHalfOn}
+use Rattle.book.specs.Gable.{gableParts, blockOf}
 use Rattle.book.specs.Roofs.{partOf, roofTable, roofWay}
 use Rattle.book.proofs.Ways.{noStanding, way-rows, Proper, way-proper, way-small}
 use Rattle.book.proofs.Walked.{lastAt, lies-walked, lies-only}
@@ -24,6 +26,10 @@ use Rattle.book.proofs.Tables.{SmallRow, SmallZones, Listed, Part, gabl
 use Rattle.book.proofs.Tables.{flat-small}
 use Rattle.book.proofs.Rows.{blockOf-most}
 use Rattle.book.proofs.Between.{line-small}
+use Rattle.book.proofs.Slopes.{gable-no-half}
+
+abbrev No-half-in : List Standing → Type 0
+No-half-in rows = (x : ℕ) (w : Way) → LiesAt rows x 1 w → NoHalfOn w
 
 -- how many rows the table of a roof of a kind has
 abbrev pub lastNumber : ℕ → ℕ
@@ -83,6 +89,16 @@ module _ (s : Sizes) (o : SizesInOrder s) (roofed : 0 < s .kind) where
   pub roof-only : {w : Way} → LiesAt (partOf s) (s .along) (s .across) w → w ≡ roofWay s
   unfolding roofWay
   roof-only = lies-only (s .along) (s .across) (o .ranged .across-least) (partOf s) (part-is .rises)
+
+  -- on a gable no half comes up
+  pub roof-no-half : s .kind ≡ 1 → NoHalfOn (roofWay s)
+  unfolding roofOf
+  roof-no-half e =
+      let block = blockOf-most (s .h) (s .b) (o .h-over-b) in
+      let plain : s .across ≡ 1 = o .x-over ∙ rw e refl in
+      let rows : partOf s ≡ getD gableParts (blockOf (s .h) (s .b)) [] = rw (eq-eqb (s .kind) 1 e) in
+      every-at No-half-in gableParts [] (blockOf (s .h) (s .b)) (omega arith) gable-no-half (s .along) (roofWay s)
+      (subst₂ (λ (l : List Standing) (d : ℕ). LiesAt l (s .along) d (roofWay s)) rows plain roof-lies)
 
   -- the value is small
   value-small : (k col : ℕ) → natAbs (hundredths (roofWay s .lower) col) ≤ k

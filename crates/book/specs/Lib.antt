@@ -3,6 +3,7 @@
 pub mod Number
 pub mod Row
 pub mod Line
+pub mod NoHalf
 pub mod Spot
 pub mod Interpolated
 pub mod Walls

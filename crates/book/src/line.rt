@@ -1,10 +1,11 @@
 // A place between the rows of a table, and the value there.
 ghost use mathlib.Core.Path.{_≡_};
 ghost use Prim.Native.Nat.{_+_, _*_, _/_, _<_, _≤_};
-ghost use lib.IntN.{natAbs};
+ghost use lib.IntN.{natAbs, pos, _+ℤ_};
 ghost use Rattle.whole.specs.Round.{roundAway};
 ghost use Rattle.whole.specs.Lowest.{commonDivisor};
 ghost use Rattle.book.specs.Line.{onStraight};
+ghost use Rattle.book.specs.NoHalf.{NoHalf};
 ghost use Rattle.book.specs.Spot.{rowSpot};
 
 // From row `lower` to row `upper` of a table, by their numbers, `part` / `whole` of the way, in lowest terms.
@@ -69,4 +70,22 @@ pub(crate) fn line_at(v: i16, w: i16, part: u32, whole: u32) -> i32
 {
     let n = ((v as i64) * (whole as i64) + ((w as i64) - (v as i64)) * (part as i64)) * 10;
     round_away(n, whole as u64) as i32
+}
+
+// Hundredths counted from -250, below which no roof has a value.
+fn raised(v: i16) -> u64
+    requires { ⌜ natAbs v ≤ 250 ⌝ }
+    ensures { λ r. ⌜ r ≡ natAbs (v +ℤ pos 250) ⌝ }
+{
+    ((v as i64) + 250) as u64
+}
+
+// The same where no half comes up: so counted, one division rounds it, whatever its sign.
+pub(crate) fn slope_at(v: i16, w: i16, part: u32, whole: u32) -> i32
+    requires { ⌜ (natAbs v ≤ 250) × (natAbs w ≤ 250) × (part ≤ whole) × (0 < whole) × (whole < 100000000) ⌝ }
+    requires { ⌜ NoHalf v w part whole ⌝ }
+    ensures { λ r. ⌜ r ≡ onStraight v w part whole ⌝ }
+{
+    let n = (raised(v) * ((whole - part) as u64) + raised(w) * (part as u64)) * 10;
+    (half_up(n, whole as u64) as i32) - 2500
 }

@@ -15,6 +15,7 @@ use super::line::Spot;
 use super::line::between;
 use super::line::line_at;
 use super::line::on_row;
+use super::line::slope_at;
 use building::Sizes;
 use building::ratio::up_to;
 
@@ -191,12 +192,16 @@ fn cell(kind: u64, row: u32, col: usize) -> i16
     flat_cell(row, col)
 }
 
-// The value of a column where x lies.
+// The value of a column where x lies. A half can come up on a flat roof, and on a gable none does.
 pub(crate) fn roof_value(s: Sizes, w: Spot, col: usize) -> i32
     requires { ⌜ SizesInOrder s ⌝ }
     requires { ⌜ (0 < s .kind) × (w ≡ spotOf (roofWay s)) × (col < 4) ⌝ }
     ensures { λ r. ⌜ r ≡ valueAt (roofWay s) col ⌝ }
 {
-    let v = cell(s.kind, w.lower, col);
-    line_at(v, cell(s.kind, w.upper, col), w.part, w.whole)
+    let lower = cell(s.kind, w.lower, col);
+    let upper = cell(s.kind, w.upper, col);
+    if 2 <= s.kind {
+        return line_at(lower, upper, w.part, w.whole);
+    }
+    slope_at(lower, upper, w.part, w.whole)
 }

@@ -99,7 +99,15 @@ pub orderly : (g : Building) → Fields g → outOfWalls (sizes g) ≡ false →
 orderly g f e d =
     let w = in-walls (sizes g) e in
     let r = in-roof (sizes g) d in
-    record { ranged = ranged f; h-over-b = w .0; a-above-b = w .1; a-over-b = w .2; x-from = r .0; x-to = r .1 }
+    record {
+      ranged = ranged f;
+      h-over-b = w .0;
+      a-above-b = w .1;
+      a-over-b = w .2;
+      x-over = refl;
+      x-from = r .0;
+      x-to = r .1;
+    }
 
 -- ---- a line without a fault has passed every test
 

@@ -1,8 +1,9 @@
 -- What it is for a building to be in order, said of its sizes. `in-order` of proofs/Accepted.antt shows it of each
 -- building without a fault.
+use mathlib.Core.Path.{_≡_}
 use Prim.Native.Nat.{_*_, _≤_, _<_}
 use Rattle.building.specs.declared.Sizes.{Sizes}
-use Rattle.building.specs.Roof.{roofOf}
+use Rattle.building.specs.Roof.{roofOf, acrossOf}
 
 -- every number in its range, and so what x is compared over
 pub record Ranged (s : Sizes) : Type 0 where
@@ -22,5 +23,6 @@ pub record SizesInOrder (s : Sizes) : Type 0 where
   pub h-over-b : s .h ≤ 6 * s .b
   pub a-above-b : s .b < s .a
   pub a-over-b : s .a ≤ 4 * s .b
+  pub x-over : s .across ≡ acrossOf (s .kind) (s .h)
   pub x-from : roofOf (s .kind) .least * s .across ≤ s .along
   pub x-to : s .along ≤ roofOf (s .kind) .greatest * s .across

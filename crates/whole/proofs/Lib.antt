@@ -4,6 +4,7 @@ pub mod Order
 pub mod Size
 pub mod Rounding
 pub mod Nearest
+pub mod NoHalf
 pub mod Lowest
 pub mod Newtons
 pub mod Tests

@@ -17,13 +17,13 @@ natAbs-gap : (z : ℤ) → natAbs z ≡ (up z - down z) + (down z - up z)
 natAbs-gap (pos n) = omega arith
 natAbs-gap (negsuc n) = omega arith
 
-off : (z : ℤ) (d : ℕ) (r : ℤ)
+pub off : (z : ℤ) (d : ℕ) (r : ℤ)
     → natAbs (r *ℤ pos d -ℤ z) ≡ (up r * d + down z - (down r * d + up z)) + (down r * d + up z - (up r * d + down z))
 off z d r = omega (arith, natAbs-gap (r *ℤ pos d -ℤ z), sub-lawℤ (r *ℤ pos d) z, up-scale r d, down-scale r d)
 
 -- ---- `roundAway` is so rounded
 
-half-near : (n d : ℕ) → 0 < d → (2 * (halfUp n d * d) ≤ 2 * n + d) × (2 * n < 2 * (halfUp n d * d) + d)
+pub half-near : (n d : ℕ) → 0 < d → (2 * (halfUp n d * d) ≤ 2 * n + d) × (2 * n < 2 * (halfUp n d * d) + d)
 unfolding halfUp
 half-near n d h =
     let e = div-add-mod' (2 * n + d) (2 * d) in

@@ -27,3 +27,7 @@ roundDown (negsuc n) d = negsuc (n / d)
 unfoldable pub leftOver : ℤ → ℕ → ℕ
 leftOver (pos n) d = n % d
 leftOver (negsuc n) d = d - 1 - n % d
+
+-- z / d lies halfway between two whole numbers: what is left of z is just a half of d
+abbrev pub Half : ℤ → ℕ → Type 0
+Half z d = 2 * leftOver z d ≡ d

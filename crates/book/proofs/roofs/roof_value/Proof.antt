@@ -1,5 +1,5 @@
 -- `roofs::roof_value`: the rows are the table's, and the value is read from their cells.
-use mathlib.Core.Path.{_≡_, sym, ap, ap₂, _∙_, subst}
+use mathlib.Core.Path.{_≡_, refl, sym, ap, _∙_, subst, subst₂}
 use mathlib.Core.List.{List}
 use Prim.Native.Nat.{ℕ, _^_, _≤_, _<_}
 use native.Mathlib.Omega.{arith}
@@ -11,10 +11,12 @@ use mir.Val.{toZ, ofZ}
 use Rattle.whole.proofs.Size.{returned}
 use Rattle.book.specs.declared.line.Spot.{Spot}
 use Rattle.book.specs.Row.{Row, hundredths, rowNumbered}
-use Rattle.book.specs.Line.{onStraight}
+use Rattle.book.specs.Line.{Way, onStraight, valueAt}
+use Rattle.book.specs.Spot.{spotOf}
+use Rattle.book.specs.NoHalf.{NoHalf}
 use Rattle.book.specs.Roofs.{roofTable, roofWay}
 use Rattle.book.proofs.Tables.{Listed}
-use Rattle.book.proofs.Roofed.{lastNumber, way-is, way-few, rows-listed, rows-small}
+use Rattle.book.proofs.Roofed.{lastNumber, way-is, way-few, rows-listed, rows-small, roof-no-half}
 use Rattle.book.proofs.roofs.roof_value.Statement.{statement}
 use Rattle.book.proofs.roofs.roof_value.Tie as tie
 
@@ -77,32 +79,63 @@ to c =
     read (roofTable kind) (lastNumber kind) (a .w .upper) (a .col) (c .cell2 .ok) (c .cell2 .ensures) (upper s)
     (listed s .1)
 
+-- what holds of the two rows' hundredths and of the fraction holds of what the code has
+module _ (s : tie.Start) (v u : ℤ) (from-is : v ≡ hundredths (roofWay (s .args .s) .lower) (s .args .col))
+    (to-is : u ≡ hundredths (roofWay (s .args .s) .upper) (s .args .col)) where
+  abbrev way : Way
+  way = roofWay (s .args .s)
+
+  alike : (P : ℤ → ℤ → Spot → Type 0)
+      → P (hundredths (way .lower) (s .args .col)) (hundredths (way .upper) (s .args .col)) (spotOf way)
+      → P v u (s .args .w)
+  alike P h =
+      subst (P v u) (sym (s .pre .1 .1)) (subst₂ (λ (x y : ℤ). P x y (spotOf way)) (sym from-is) (sym to-is) h)
+
+  fine : let w = s .args .w in
+      (natAbs v ≤ 250) × (natAbs u ≤ 250) × (w .part ≤ w .whole) × (0 < w .whole) × (w .whole < 100000000)
+  fine =
+      let g = way-is (s .args .s) in
+      let r = rows-small (s .args .s) (s .pre .0) (s .pre .1 .0) in
+      let few = way-few (s .args .s) (s .pre .0) (s .pre .1 .0) in
+      alike
+      (λ v u w.
+      (natAbs v ≤ 250) × (natAbs u ≤ 250) × (w .part ≤ w .whole) × (0 < w .whole) × (w .whole < 100000000))
+      (r .0 .at (s .args .col), r .1 .at (s .args .col), g .within, g .some, omega arith)
+
+  none : s .args .s .kind ≡ 1 → NoHalf v u (s .args .w .part) (s .args .w .whole)
+  none e =
+      alike (λ v u w. NoHalf v u (w .part) (w .whole))
+      (roof-no-half (s .args .s) (s .pre .0) (s .pre .1 .0) e (s .args .col))
+
+  valued : {r : ℤ} → mag r < 2 ^ 31 → r ≡ onStraight v u (s .args .w .part) (s .args .w .whole)
+      → toZ w32 (ofZ w32 r) ≡ valueAt way (s .args .col)
+  valued {r} f e =
+      returned w32 r f .same
+      ∙ e
+      ∙ alike (λ v u w. onStraight v u (w .part) (w .whole) ≡ valueAt way (s .args .col)) refl
+
 line-at-requires : tie.Need-line-at-requires
 line-at-requires c κs =
-    let s = c .before .before in
-    let g = way-is (s .args .s) in
-    let few = way-few (s .args .s) (s .pre .0) (s .pre .1 .0) in
-    let r = rows-small (s .args .s) (s .pre .0) (s .pre .1 .0) in
-    let part = ap (λ (r : Spot). r .part) (s .pre .1 .1) in
-    let whole = ap (λ (r : Spot). r .whole) (s .pre .1 .1) in (
-      subst (λ (z : ℤ). natAbs z ≤ 250) (sym (from (c .before))) (r .0 .at (s .args .col)),
-      subst (λ (z : ℤ). natAbs z ≤ 250) (sym (to c)) (r .1 .at (s .args .col)),
-      omega (arith, g .within),
-      omega (arith, g .some),
-      omega arith,
-    )
+    let k = c .before .before in
+    fine (k .before .before) _ _ (from (k .before)) (to k)
 
 returns : tie.Need-returns
 returns c =
-    let s = c .before .before .before in
-    let w = roofWay (s .args .s) in
-    let at = s .args .w in
-    let col = s .args .col in
-    returned w32 (c .line-at .result) (c .line-at .ok) .same
-    ∙ c .line-at .ensures
-    ∙ ap₂ (λ (v u : ℤ). onStraight v u (at .part) (at .whole)) (from (c .before .before)) (to (c .before))
-    ∙ ap (λ (r : Spot). onStraight (hundredths (w .lower) col) (hundredths (w .upper) col) (r .part) (r .whole))
-    (s .pre .1 .1)
+    let k = c .before .before .before in
+    valued (k .before .before) _ _ (from (k .before)) (to k) (c .line-at .ok) (c .line-at .ensures)
+
+slope-at-requires : tie.Need-slope-at-requires
+slope-at-requires c κs =
+    let k = c .before .before in
+    let s = k .before .before in
+    let roofed = s .pre .1 .0 in
+    (fine s _ _ (from (k .before)) (to k), none s _ _ (from (k .before)) (to k) (omega arith))
+
+returns-2 : tie.Need-returns-2
+returns-2 c =
+    let k = c .before .before .before in
+    valued (k .before .before) _ _ (from (k .before)) (to k) (c .slope-at .ok) (c .slope-at .ensures)
 
 pub roof-value-spec : {M : Type 1} → statement M
-roof-value-spec = tie.close (tie.spec cell-requires cell-requires-2 line-at-requires returns)
+roof-value-spec =
+    tie.close (tie.spec cell-requires cell-requires-2 line-at-requires returns slope-at-requires returns-2)
