@@ -28,10 +28,10 @@ module _ (s : List ℕ) (r : Read) (e : r ≡ answer (reading s)) where
     pub text-accepted : r .verdict .number ≡ 0 → {t : Text} {w : Writing} {after : List ℕ}
         → t ≡ hostText w → (w ≡ jobWriting text (judged (r .job)) buf) × (after ≡ jobBuffer text (judged (r .job)) buf)
         → (t ≡ hostText (jobWriting text (reading s) buf)) × (after ≡ jobBuffer text (reading s) buf)
-    text-accepted z told wrote =
+    text-accepted z given wrote =
         let a = read-accepted s r e z in
         let j = a .2 ∙ sym (a .1) in (
-          told ∙ ap hostText (wrote .0 ∙ ap (λ (x : Reading). jobWriting text x buf) j),
+          given ∙ ap hostText (wrote .0 ∙ ap (λ (x : Reading). jobWriting text x buf) j),
           wrote .1 ∙ ap (λ (x : Reading). jobBuffer text x buf) j,
         )
 

@@ -19,7 +19,7 @@ use Rattle.building.specs.Building.{buildingFault, sizes}
 use Rattle.building.specs.Places.{E, F, wallPlace, zoneOn, localOn, knows}
 use Rattle.building.specs.Question.{askedOf}
 use Rattle.building.proofs.Places.{needs-roof, must-be-E}
-use Rattle.building.proofs.Judged.{Told, told, in-question}
+use Rattle.building.proofs.Judged.{FitIn, question-fits, in-question}
 use Rattle.building.proofs.Accepted.{in-order}
 use Rattle.book.specs.declared.Answer.the-variants.{Answered}
 use Rattle.book.specs.declared.Cited.{Cited}
@@ -137,7 +137,7 @@ module _ (g : Building) (direction : ℤ) (place : ℕ) where
       (flatValue-small (sizes g) o (needs-roof (g .kind) place w on) i 0 (lit< tt))))
 
   -- any answer: no alternative is above 2.500
-  small-answer : (q : Question) → Told g direction place q → Small (valuesOf (answerTo q (natAbs direction) place))
+  small-answer : (q : Question) → FitIn g direction place q → Small (valuesOf (answerTo q (natAbs direction) place))
   small-answer (asked.Of s) f =
       let o = f .order in
       small-of
@@ -147,4 +147,4 @@ module _ (g : Building) (direction : ℤ) (place : ℕ) where
 
   pub answer-small : Small (valuesOf (outsideOf g direction place))
   unfolding outsideOf
-  answer-small = small-answer (askedOf g direction place) (told g direction place)
+  answer-small = small-answer (askedOf g direction place) (question-fits g direction place)

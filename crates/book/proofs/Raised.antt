@@ -1,6 +1,6 @@
--- Interpolation with the rows' hundredths counted from -k: a natural number, which rounds as the value does where no half
--- comes up.
-use mathlib.Core.Path.{_≡_, sym, ap, _∙_}
+-- Interpolation with the rows' hundredths counted from -k: a natural number, which rounds as the value does where no
+-- half comes up.
+use mathlib.Core.Path.{_≡_, ap, _∙_}
 use mathlib.Core.Logic.{⊎-elim}
 use Prim.Native.Nat.{ℕ, _+_, _-_, _*_, _≤_, _<_}
 use native.Mathlib.Omega.{arith}

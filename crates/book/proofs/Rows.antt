@@ -24,20 +24,20 @@ module _ (h b : ℕ) where
 
 module _ (h a b : ℕ) where
   -- h/b and a/b come up to a row's limits
-  abbrev pub within : Wall → Bool
-  within r = upTo h b (r .high) && upTo a b (r .long)
+  abbrev pub inRow : Wall → Bool
+  inRow r = upTo h b (r .high) && upTo a b (r .long)
 
   abbrev pub wallIndex : ℕ
-  wallIndex = firstWith within 0 walls
+  wallIndex = firstWith inRow 0 walls
 
   pub wall-index : getD walls wallIndex noWall .row ≡ wallRow h a b
   unfolding wallRow
-  wall-index = ap (λ (r : Wall). r .row) (first-in within noWall walls)
+  wall-index = ap (λ (r : Wall). r .row) (first-in inRow noWall walls)
 
   pub wall-below : h ≤ 6 * b → a ≤ 4 * b → wallIndex < 6
   wall-below l m =
       let last = ap₂ _&&_ (upTo-yes h b 6 1 (omega arith)) (upTo-yes a b 4 1 (omega arith)) in
-      omega (arith, first-most within noWall walls 0 5 (lit< tt) last)
+      omega (arith, first-most inRow noWall walls 0 5 (lit< tt) last)
 
   pub wallRow-small : SmallRow 120 (wallRow h a b)
   wallRow-small = subst (SmallRow 120) wall-index (wall-small wallIndex)

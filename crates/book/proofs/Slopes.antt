@@ -18,7 +18,7 @@ use Rattle.whole.proofs.Tests.{is-true, or-true}
 use Rattle.whole.proofs.Lists.{every-by, every-member}
 use Rattle.book.specs.Row.{Row, hundredths, Standing}
 use Rattle.book.specs.Line.{Way, wayIn}
-use Rattle.book.specs.Interpolated.{Neighbours, first, later, LiesBetween, LiesAt, alone, onRow, within}
+use Rattle.book.specs.Interpolated.{Neighbours, first, later, LiesBetween, LiesAt, alone, onRow, betweenRows}
 use Rattle.book.specs.NoHalf.{NoHalf, NoHalfOn, InTens, DegreesApart, five, ten, fifteen}
 use Rattle.book.specs.Gable.{low, middle, tall, gableParts}
 use Rattle.book.proofs.Neighbours.{lower-among, upper-among}
@@ -110,7 +110,7 @@ module _ (rows : List Standing) (block : Sloped rows) where
   lies-no-half : (x : ℕ) (w : Way) → LiesAt rows x 1 w → NoHalfOn w
   lies-no-half x w (alone {r} e) = no-half-on (r .row)
   lies-no-half x w (onRow {r} m e) = no-half-on (r .row)
-  lies-no-half x w (within {lower} {upper} {part} {whole} n from to low) =
+  lies-no-half x w (betweenRows {lower} {upper} {part} {whole} n from to low) =
       let part-of = x - lower .at * 1 in
       let y = upper .at * 1 - lower .at * 1 in
       let distance : y ≡ upper .at - lower .at = omega arith in

@@ -12,7 +12,7 @@ use Rattle.whole.proofs.Tests.{by-test}
 use Rattle.whole.proofs.Lowest.{lowest-terms, lowest-unique}
 use Rattle.book.specs.Row.{Standing}
 use Rattle.book.specs.Line.{Way, on, between, wayIn}
-use Rattle.book.specs.Interpolated.{Neighbours, first, later, Rising, LiesAt, alone, onRow, within}
+use Rattle.book.specs.Interpolated.{Neighbours, first, later, Rising, LiesAt, alone, onRow, betweenRows}
 use Rattle.book.proofs.Neighbours.{neighbours-from, row-from}
 
 -- the number at which the last row stands
@@ -70,7 +70,7 @@ module _ (x d : ℕ) where
     unfolding wayIn
     lies-only rows rises (alone e) = rw e
     lies-only rows rises (onRow m e) = sym (walk-on rows rises m e)
-    lies-only rows rises (within {lower} {upper} n from to low) =
+    lies-only rows rises (betweenRows {lower} {upper} n from to low) =
         let a = x - lower .at * d in
         let b = upper .at * d - lower .at * d in
         let u = lowest-unique a b (omega arith) low (lowest-terms a b (omega arith)) in
@@ -86,7 +86,7 @@ module _ (x d : ℕ) where
         onRow (List·Memᴰ·tail (List·Memᴰ·head same)) (omega arith)
     further r s (t ∷ rows) to from (alone e) = let z : _≡_ {A = ℕ} 0 1 = cc in absurd (omega arith)
     further r s rows to from (onRow m e) = onRow (List·Memᴰ·tail m) e
-    further r s rows to from (within n f t low) = within (later n) f t low
+    further r s rows to from (betweenRows n f t low) = betweenRows (later n) f t low
 
     pub lies-walked : (r : Standing) (rows : List Standing) → r .at * d ≤ x → x ≤ lastAt (r ∷ rows) * d
         → LiesAt (r ∷ rows) x d (wayIn (r ∷ rows) x d)
@@ -100,4 +100,4 @@ module _ (x d : ℕ) where
         (λ g. let h = leb-true (s .at * d) x g in rw (e, g) (further r s rows to h (lies-walked s rows h to)))
         (λ g. let h = leb-false (s .at * d) x g in
         rw (e, g)
-        (within first f h (lowest-terms (x - r .at * d) (s .at * d - r .at * d) (omega arith)))))
+        (betweenRows first f h (lowest-terms (x - r .at * d) (s .at * d - r .at * d) (omega arith)))))

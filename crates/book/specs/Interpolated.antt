@@ -31,7 +31,7 @@ pub record LiesBetween (rows : List Standing) (x d : ℕ) (lower upper : Standin
 pub data LiesAt (rows : List Standing) (x d : ℕ) : Way → Type 0 where
   alone : {r : Standing} → rows ≡ r ∷ [] → LiesAt rows x d (on (r .row))
   onRow : {r : Standing} → List·Memᴰ r rows → x ≡ r .at * d → LiesAt rows x d (on (r .row))
-  within : {lower upper : Standing} {part whole : ℕ} → Neighbours rows lower upper → lower .at * d < x
+  betweenRows : {lower upper : Standing} {part whole : ℕ} → Neighbours rows lower upper → lower .at * d < x
       → x < upper .at * d → LowestTerms (x - lower .at * d) (upper .at * d - lower .at * d) part whole
       → LiesAt rows x d (record { lower = lower .row; upper = upper .row; part = part; whole = whole })
 

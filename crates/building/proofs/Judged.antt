@@ -50,21 +50,21 @@ module _ (g : Building) (direction : ℤ) (place : ℕ) where
     pub order : SizesInOrder s
     pub roofed : wallPlace place ≡ false → 0 < s .kind
 
-  abbrev pub Told : Question → Type 0
-  Told (Of s) = Fit s
-  Told (Refused v) = Unit {0}
+  abbrev pub FitIn : Question → Type 0
+  FitIn (Of s) = Fit s
+  FitIn (Refused v) = Unit {0}
 
-  pub told : Told (askedOf g direction place)
-  told =
+  pub question-fits : FitIn (askedOf g direction place)
+  question-fits =
       go (eqb (givenFault g) 0) (knows (g .kind) direction)
       (zoneOn (g .kind) place || localOn (g .kind) place) refl refl refl
     where
       go : (t u v : Bool) → eqb (givenFault g) 0 ≡ t → knows (g .kind) direction ≡ u → On v
-          → Told (askedOf g direction place)
-      go false u v p q r = subst Told (sym (bad-building (eqb-false (givenFault g) 0 p))) tt
-      go true false v p q r = subst Told (sym (bad-direction (none-given g (eqb-true (givenFault g) 0 p)) q)) tt
-      go true true false p q r = subst Told (sym (bad-place (none-given g (eqb-true (givenFault g) 0 p)) q r)) tt
+          → FitIn (askedOf g direction place)
+      go false u v p q r = subst FitIn (sym (bad-building (eqb-false (givenFault g) 0 p))) tt
+      go true false v p q r = subst FitIn (sym (bad-direction (none-given g (eqb-true (givenFault g) 0 p)) q)) tt
+      go true true false p q r = subst FitIn (sym (bad-place (none-given g (eqb-true (givenFault g) 0 p)) q r)) tt
       go true true true p q r =
           let e = none-given g (eqb-true (givenFault g) 0 p) in
-          subst Told (sym (in-question e q r))
+          subst FitIn (sym (in-question e q r))
           (record { order = in-order g e; roofed = λ w. needs-roof (g .kind) place w r })

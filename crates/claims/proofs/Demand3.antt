@@ -108,13 +108,13 @@ reports-worst =
           shown.reported-totals (sheet-in-order (now (a .0)) c e) e (now (a .1 .0)) p;
       aral-report = λ κ a r s p c e.
           let out = now (a .1 .0) in
-          let told = shown.reported (sheet-in-order (now (a .0)) c e) e out (refl, p .1) in
-          (jobWriting reportText (reading (now (a .0))) out, told, p .0);
+          let shows = shown.reported (sheet-in-order (now (a .0)) c e) e out (refl, p .1) in
+          (jobWriting reportText (reading (now (a .0))) out, shows, p .0);
       aral-total = λ κ a r s p c e axis side n.
           let six = sixExtremes c in
-          let told = shown.six-shown c (sheet-in-order (now (a .0)) c e) axis side in (
+          let shows = shown.six-shown c (sheet-in-order (now (a .0)) c e) axis side in (
             shownIn six axis side,
-            told,
+            shows,
             p ∙ ap (λ x. hostTotal x (a .1 .0)) e ∙ ap (hostLine six) n ∙ line-is c axis side,
           );
     }

@@ -90,21 +90,21 @@ job-as-sheet κ a r s p κ′ b q t p′ f same =
     let e : q ≡ answer x = p′ ∙ ap (λ s. answer (reading s)) same ∙ ap answer (judge-is-reader (a .0) f) in
     p ∙ sym (ap (λ v. v .verdict) e ∙ answer-verdict x)
 
--- the length that a host is told of a report
-told-length : (x : Reading) (buf : List ℕ) → ((c : Carried) → x ≡ Accepted c → length (reportText c) ≤ 474)
+-- the length that a host gets for a report
+answered-length : (x : Reading) (buf : List ℕ) → ((c : Carried) → x ≡ Accepted c → length (reportText c) ≤ 474)
     → hostText (jobWriting reportText x buf) .length ≤ 474
-told-length (Accepted c) buf h = go (leb (length (reportText c)) (length buf))
+answered-length (Accepted c) buf h = go (leb (length (reportText c)) (length buf))
   where
     go : (t : Bool)
         → hostText (cond t (written.Length (length (reportText c))) (written.Refused (refusal 7 0))) .length ≤ 474
     go true = h c refl
     go false = omega arith
-told-length (Refused v) buf h = omega arith
+answered-length (Refused v) buf h = omega arith
 
 pub texts-are-short : TextsAreShort
 texts-are-short = (
   λ κ a r s p. rw (p .0)
-      (told-length (reading (now (a .0))) (now (a .1 .0)) (λ c e. report-most c (sheet-in-order (now (a .0)) c e))),
+      (answered-length (reading (now (a .0))) (now (a .1 .0)) (λ c e. report-most c (sheet-in-order (now (a .0)) c e))),
   λ κ a r s p c e. longest-sheet (now (a .0)) c e,
 )
 

@@ -31,7 +31,7 @@ use Rattle.book.proofs.Coefficients.{coefficient-unique, outside-is}
 use Rattle.claims.specs.Question.{Judged, not-asked, asked-of}
 use Rattle.job.specs.Carried.{nothing, before}
 use Rattle.claims.specs.Question.{Refusal, bad-building, bad-direction, bad-place, InQuestion, Outside, refused}
-use Rattle.claims.specs.Question.{told, SameRows, Net, as-outside, bad-internal, less-internal, sheetFault}
+use Rattle.claims.specs.Question.{answered, SameRows, Net, as-outside, bad-internal, less-internal, sheetFault}
 
 -- no test both holds and fails
 pub clash : {A : Type 0} {t : Bool} → t ≡ true → t ≡ false → A
@@ -134,7 +134,7 @@ module _ (g : Building) (direction : ℤ) (place : ℕ) where
   pub outside-got : Outside g direction place (outsideOf g direction place)
   outside-got =
       outside-by (λ v f e. subst (Outside g direction place) (sym e) (refused f))
-      (λ q c e i. subst (Outside g direction place) (sym e) (told q i))
+      (λ q c e i. subst (Outside g direction place) (sym e) (answered q i))
 
   -- what is answered is the coefficient, and the question was in order
   pub answered-so : {c : Cited} → outsideOf g direction place ≡ Answered c
@@ -150,9 +150,9 @@ module _ (g : Building) (direction : ℤ) (place : ℕ) where
 
   pub outside-unique : {r r′ : book.Answer} → Outside g direction place r → Outside g direction place r′ → r ≡ r′
   outside-unique (refused f) (refused h) = ap Refused (refusal-unique f h)
-  outside-unique (refused f) (told q i) = not-both f q
-  outside-unique (told q i) (refused f) = not-both f q
-  outside-unique (told q i) (told q′ i′) = ap Answered (coefficient-one q i i′)
+  outside-unique (refused f) (answered q i) = not-both f q
+  outside-unique (answered q i) (refused f) = not-both f q
+  outside-unique (answered q i) (answered q′ i′) = ap Answered (coefficient-one q i i′)
 
   -- ---- the net coefficient
 

@@ -35,7 +35,7 @@ worked =
 
 pub worked-hold : Every Holds worked
 unfolding outsideOf askedOf givenFault buildingFault outOfForm outOfRange outOfWalls outOfRoof tooLong beyond zoneOn
-    localOn roofOf coefficientOf wallColumn gableColumn flatColumn wallRow blockOf roofWay wayIn divisorUpTo commonDivisor
-    onStraight halfUp roundAway
+    localOn roofOf coefficientOf wallColumn gableColumn flatColumn wallRow blockOf roofWay wayIn divisorUpTo
+    commonDivisor onStraight halfUp roundAway
 worked-hold =
     refl and refl and refl and refl and refl and refl and refl and refl and refl and refl and refl and tt

@@ -20,9 +20,9 @@ Faultless xs = NoFault sheet nothing xs
 
 module _ {L : Type 0} {A R S : L → Type 0} (Post : (κ : L) → A κ → R κ → S κ → Type 0)
     (lines : (κ : L) → A κ → List (List Field)) where
-  -- the result is what `told` makes of that number and line, and nothing else
+  -- the result is what `answer` makes of that number and line, and nothing else
   abbrev pub GetsFault : ((κ : L) → A κ → Verdict → R κ) → Type 0
-  GetsFault told = Always Post (λ κ a r s. (v : Verdict) → Faulty (lines κ a) v → r ≡ told κ a v)
+  GetsFault answer = Always Post (λ κ a r s. (v : Verdict) → Faulty (lines κ a) v → r ≡ answer κ a v)
 
   -- where no line has a fault, the result is as `accepted` says
   abbrev pub GetsAccepted : ((κ : L) → R κ → Type 0) → Type 0

@@ -57,7 +57,7 @@ module _ (g : Building) (direction : ℤ) (place : ℕ) where
   -- an answer is the coefficient with its rows
   pub data Outside : book.Answer → Type 0 where
     refused : {v : Verdict} → Refusal v → Outside (Refused v)
-    told : {c : Cited} → InQuestion → IsCoefficient (sizes g) (natAbs direction) place c → Outside (Answered c)
+    answered : {c : Cited} → InQuestion → IsCoefficient (sizes g) (natAbs direction) place c → Outside (Answered c)
 
   -- "then, where the net is asked, the internal coefficient, 3 with line 0"; else outside minus internal, alternative
   -- by alternative

@@ -116,7 +116,8 @@ module _ (es : Section → List (List Field)) (o : SheetInOrder es) where
   said-in-order = record {
     building =
         found-none (faults (b .building))
-        (in-order (Entry B) b _ (every-at _ (es B) [] 0 (omega (arith, o .counted B .low)) (in-order-all es o B)) .none);
+        (in-order (Entry B) b _
+        (every-at _ (es B) [] 0 (omega (arith, o .counted B .low)) (in-order-all es o B)) .none);
     winds-counted = counted-map windOf (es W) (o .counted W);
     winds = all-said (WindInOrder (b .building)) W windOf (wind-line b);
     internals-counted = counted-map internalOf (es I) (o .counted I);
@@ -142,7 +143,10 @@ module _ (b : Before) where
       let v =
       within 1 1000 (w .speed) (is-within (pos 1) (pos 1000) (w .speed) (o .least-speed) (o .greatest-speed)) in
       wind-given b w
-      ∙ rw (known-short (b .building .kind) (w .direction) (o .direction), small-short (w .speed) (omega (arith, v .to)))
+      ∙ rw (
+        known-short (b .building .kind) (w .direction) (o .direction),
+        small-short (w .speed) (omega (arith, v .to)),
+      )
       (found-none (windFaults (b .building) w) (wind-none b w o))
 
   internal-entry : (z : ℤ) → InternalInOrder z → lineFault (Entry I) b (internalFields z) ≡ 0

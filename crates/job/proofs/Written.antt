@@ -129,7 +129,8 @@ module _ (b : Before) where
   unfolding inForm
   face-given f =
       given-by (Entry F) b (faceFields f)
-      (markTooLong (f .mark) ∷ tooLong (f .x) ∷ tooLong (f .y) ∷ tooLong (f .z) ∷ []) (first (faceFaults (b .building) f))
+      (markTooLong (f .mark) ∷ tooLong (f .x) ∷ tooLong (f .y) ∷ tooLong (f .z) ∷ [])
+      (first (faceFaults (b .building) f))
       (rw (letter-form (f .zone), mark-form (f .mark), number-form (f .x), number-form (f .y), number-form (f .z)))
       (λ e. ap (λ (h : Face). first (faceFaults (b .building) h))
       (face-back f (in-formed (forms (Entry F)) (faceFields f) e)))

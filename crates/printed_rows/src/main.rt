@@ -1,5 +1,5 @@
-// Asks about every printed row of every table: at its ends, and one step to either side of each limit. tools/rows.py works
-// out from the book what must come out.
+// Asks about every printed row of every table: at its ends, and one step to either side of each limit. tools/rows.py
+// works out from the book what must come out.
 use book::Answer;
 use book::Values;
 use building::Building;

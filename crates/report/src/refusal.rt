@@ -9,8 +9,8 @@ fn put_refused(buf: &mut [u8], v: Verdict) -> usize
     ensures { λ r. ⌜ Put (now (buf .entry)) 0 (refusedText v) (now (buf .exit)) r ⌝ }
 {
     let word = page::put_bytes(buf, 0, b"refused");
-    let told = crate::six::put_spaced(buf, word, v.number);
-    let placed = crate::six::put_spaced(buf, told, v.line);
+    let numbered = crate::six::put_spaced(buf, word, v.number);
+    let placed = crate::six::put_spaced(buf, numbered, v.line);
     page::put_byte(buf, placed, b'\n')
 }
 

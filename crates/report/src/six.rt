@@ -65,8 +65,8 @@ fn put_line(buf: &mut [u8], at: usize, axis: u8, word: &[u8; 5], e: Extreme) -> 
     let named = page::put_byte(buf, at, axis);
     let worded = page::put_bytes(buf, named, word);
     let totalled = digits::put_decimal(buf, worded, e.total);
-    let told = put_case(buf, totalled, e);
-    page::put_byte(buf, told, b'\n')
+    let cased = put_case(buf, totalled, e);
+    page::put_byte(buf, cased, b'\n')
 }
 
 fn put_axis(buf: &mut [u8], at: usize, axis: u8, e: Extremes) -> usize

@@ -65,11 +65,13 @@ parts-short [] = inr (omega arith)
 parts-short (p ∷ ps) =
     ⊎-elim (λ b. inl (record { place = 0; within = omega arith; bad = b }))
     (λ n. ⊎-elim (λ b. inl (record { place = suc (b .place); within = omega (arith, b .within); bad = b .bad }))
-    (λ r. inr (omega (arith, ap length (field-back p n), field-length (fieldFrom p) (field-form p n)))) (parts-short ps))
+    (λ r. inr (omega (arith, ap length (field-back p n), field-length (fieldFrom p) (field-form p n))))
+    (parts-short ps))
     (is-bad (fieldFrom p))
 
 -- a line has a field out of form, or at most 8 bytes for each and one more between them
 pub line-short : (l : List ℕ) → BadAt (fieldsOf l) ⊎ (length l + 1 ≤ 9 * length (fieldsOf l))
 unfolding fieldsOf
 line-short l =
-    ⊎-elim inl (λ r. inr (omega (arith, split-spread 32 l, length-map (split 32 l) fieldFrom))) (parts-short (split 32 l))
+    ⊎-elim inl (λ r. inr (omega (arith, split-spread 32 l, length-map (split 32 l) fieldFrom)))
+    (parts-short (split 32 l))

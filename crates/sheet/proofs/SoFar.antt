@@ -146,16 +146,16 @@ module _ {s : List ℕ} {left i : ℕ} {j : Job} {line next : ℕ} {x : Line} (o
 
   -- the record has room for it
   pub entry-room : {t : Section} → sectionAt i ≡ t → countIn j t < about t .most
-  entry-room told =
-      subst (λ (v : Section). countIn j v < about v .most) told (omega (arith, o .so-far .room, o .more))
+  entry-room is-t =
+      subst (λ (v : Section). countIn j v < about v .most) is-t (omega (arith, o .so-far .room, o .more))
 
   -- the next line, with the entry stored in the record
   pub entry-read : {t : Section} → sectionAt i ≡ t
       → ReadSoFar s (sectionAt i) (left - 1) (suc i) (stored t (held x) j) (line + 1) (x .next)
-  entry-read {t} told =
+  entry-read {t} is-t =
       let r = o .so-far in
       let e : stored t (held x) j ≡ recorded (learn (Entry (sectionAt i)) (held x) here) =
-      rw told (stored-records (held x) here (r .records) t (entry-room told)) in
+      rw is-t (stored-records (held x) here (r .records) t (entry-room is-t)) in
       let p : countIn (recorded here) (sectionAt i) + left ≤ about (sectionAt i) .most =
       rw (r .records) at (r .room) in
       let u : Unread (recorded here) (drop (suc i) sections) = rw (r .records) at (r .unread) in

@@ -1,5 +1,5 @@
--- Where no half comes up, rounding needs no sign: a number is moved up among the naturals, rounded there by one division
--- and moved back.
+-- Where no half comes up, rounding needs no sign: a number is moved up among the naturals, rounded there by one
+-- division and moved back.
 use mathlib.Core.Path.{_≡_, sym, ap, subst}
 use mathlib.Core.Logic.{⊎-elim}
 use Prim.Native.Nat.{ℕ, _+_, _-_, _*_, _≤_, _<_}

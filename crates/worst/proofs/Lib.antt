@@ -11,7 +11,7 @@ pub mod Quick  -- the quick way finds the worst of all cases
 -- ---- numbers and lists as the code has them
 pub mod Lists  -- numbers in order
 pub mod Padded  -- arrays filled from their start
-pub mod Told  -- a signed result read back
+pub mod ReadBack  -- a signed result read back
 pub mod Kept  -- the better of an earlier and a later cell
 pub mod Table  -- the table of coefficients
 pub mod Ranges  -- how large every number can be

@@ -6,7 +6,7 @@ use borrow.Author.Needs.{needs}
 use Rattle.building.specs.declared.Question.{Question}
 use Rattle.building.specs.Question.{askedOf}
 use Rattle.whole.proofs.Size.{said}
-use Rattle.building.proofs.Judged.{Told, told}
+use Rattle.building.proofs.Judged.{FitIn, question-fits}
 use Rattle.book.specs.declared.Answer.the-variants.{Answered}
 use Rattle.book.specs.Question.{coefficientOf, answerTo, outsideOf}
 use Rattle.book.proofs.outside.Statement.{statement}
@@ -25,8 +25,8 @@ coefficient-requires c κs =
     let d = q .before .before in
     let a = d .before .args in
     let f =
-    subst (Told (a .g) (a .direction) (a .place)) (sym (asked d) ∙ q .q .given .1)
-    (told (a .g) (a .direction) (a .place)) in
+    subst (FitIn (a .g) (a .direction) (a .place)) (sym (asked d) ∙ q .q .given .1)
+    (question-fits (a .g) (a .direction) (a .place)) in
     (f .order, f .roofed)
 
 returns : tie.Need-returns

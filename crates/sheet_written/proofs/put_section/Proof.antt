@@ -88,18 +88,18 @@ module _ (c : tie.At-match-came Inv-loop μ-loop) where
 
   made : c .match .x ≡ heldLine 0 (entryOf job section (i (c .before)))
   made =
-      ⊎-elim (λ w. w .3 ∙ w .2 .ensures ∙ told (w .1 .given .1))
-      (⊎-elim (λ w. w .4 ∙ w .3 .ensures ∙ told (w .1 .given .1))
+      ⊎-elim (λ w. w .3 ∙ w .2 .ensures ∙ of-section (w .1 .given .1))
+      (⊎-elim (λ w. w .4 ∙ w .3 .ensures ∙ of-section (w .1 .given .1))
       (⊎-elim (λ w. w .4
       ∙ w .3 .ensures
       ∙ ap (λ (z : ℤ). heldLine 0 (internalFields z)) (toZ-ofZ (sfits-of (w .2 .given)))
-      ∙ told (w .1 .given .1))
-      (λ w. w .4 ∙ w .3 .ensures ∙ told (w .1 .given .1))))
+      ∙ of-section (w .1 .given .1))
+      (λ w. w .4 ∙ w .3 .ensures ∙ of-section (w .1 .given .1))))
       (c .match .came)
     where
-      told : {t : Section} → section ≡ t
+      of-section : {t : Section} → section ≡ t
           → heldLine 0 (entryOf job t (i (c .before))) ≡ heldLine 0 (entryOf job section (i (c .before)))
-      told e = ap (λ (t : Section). heldLine 0 (entryOf job t (i (c .before)))) (sym e)
+      of-section e = ap (λ (t : Section). heldLine 0 (entryOf job t (i (c .before)))) (sym e)
 
 add-i : tie.Need-add-i Inv-loop μ-loop
 add-i c = record { fits = omega (arith, below-24 (c .before .before .before .before .before)) }

@@ -33,8 +33,8 @@ loop-again c =
     let t = p .before .before .before in
     let l = t .before in (
       omega arith,
-      one-section (entriesOf (carried (l .before .before .args .j))) (l .loop .i) (t .loop-test .taken) (l .loop .inv .1)
-          (p .put-section .ensures),
+      one-section (entriesOf (carried (l .before .before .args .j))) (l .loop .i) (t .loop-test .taken)
+          (l .loop .inv .1) (p .put-section .ensures),
     )
 
 returns : tie.Need-returns Inv-loop μ-loop

@@ -65,7 +65,8 @@ mul-s c =
     let r = c .before in
     let l = r .before .before in
     let s = start l in
-    omega (arith, small (s .args .k) (l .loop .i) (s .args .d) (s .pre .1) (stands-at l (l .loop .i) (r .row-of .ensures .1)))
+    let i = l .loop .i in
+    omega (arith, small (s .args .k) i (s .args .d) (s .pre .1) (stands-at l i (r .row-of .ensures .1)))
 
 returns : tie.Need-returns Inv-loop μ-loop
 returns c =

@@ -8,12 +8,12 @@ use Rattle.whole.proofs.First.{Left, left-here, left-later, left-none}
 use Rattle.building.specs.declared.Sizes.{Sizes}
 use Rattle.building.specs.Order.{SizesInOrder}
 use Rattle.book.specs.Walls.{noWall, walls, wallRow}
-use Rattle.book.proofs.Rows.{within, wallIndex, wall-index, wall-below}
+use Rattle.book.proofs.Rows.{inRow, wallIndex, wall-index, wall-below}
 use Rattle.book.proofs.walls.wall_row.Statement.{statement}
 use Rattle.book.proofs.walls.wall_row.Tie as tie
 
 abbrev Inv-loop : tie.InvT-loop
-Inv-loop s row₀ row = Left (within (s .h) (s .a) (s .b)) noWall walls (wallIndex (s .h) (s .a) (s .b)) row
+Inv-loop s row₀ row = Left (inRow (s .h) (s .a) (s .b)) noWall walls (wallIndex (s .h) (s .a) (s .b)) row
 
 abbrev μ-loop : tie.MeasureT-loop
 μ-loop s row₀ row = 6 - row
@@ -32,7 +32,7 @@ returns c =
     let l = t .before .before in
     let s = l .before .args .s in
     let here =
-    left-here (within (s .h) (s .a) (s .b)) noWall walls (wallIndex (s .h) (s .a) (s .b)) (l .loop .row)
+    left-here (inRow (s .h) (s .a) (s .b)) noWall walls (wallIndex (s .h) (s .a) (s .b)) (l .loop .row)
     (l .loop .inv) (omega arith) (sym (t .in-row .ensures) ∙ c .if1 .taken) in
     found s (l .before .pre) (l .loop .row) here
 
@@ -41,7 +41,7 @@ loop-again c =
     let t = c .before in
     let l = t .before .before in
     let s = l .before .args .s in
-    left-later (within (s .h) (s .a) (s .b)) noWall walls (wallIndex (s .h) (s .a) (s .b)) (l .loop .row)
+    left-later (inRow (s .h) (s .a) (s .b)) noWall walls (wallIndex (s .h) (s .a) (s .b)) (l .loop .row)
     (l .loop .inv) (omega arith) (sym (t .in-row .ensures) ∙ c .if1 .left)
 
 returns-2 : tie.Need-returns-2 Inv-loop μ-loop
@@ -49,7 +49,7 @@ returns-2 c =
     let l = c .before in
     let s = l .before .args .s in
     let none =
-    left-none (within (s .h) (s .a) (s .b)) noWall walls (wallIndex (s .h) (s .a) (s .b)) (l .loop .row)
+    left-none (inRow (s .h) (s .a) (s .b)) noWall walls (wallIndex (s .h) (s .a) (s .b)) (l .loop .row)
     (l .loop .inv) (omega arith) in
     found s (l .before .pre) (l .loop .row) none
 

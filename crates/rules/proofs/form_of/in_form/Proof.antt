@@ -61,7 +61,8 @@ module _ (c : tie.After-has-form Inv-loop μ-loop) where
       ∙ form-on (forms (a .k)) (held (a .x)) (loop .loop .i) (omega (arith, forms-there (loop .before)))
       (omega (arith, fields-there (loop .before)))
       ∙ ap (λ (t : Bool). t && rest)
-      (sym (c .has-form .ensures ∙ ap₂ hasForm (c .before .before .form-at .ensures) (c .before .field-at .ensures)) ∙ e)
+      (sym (c .has-form .ensures
+      ∙ ap₂ hasForm (c .before .before .form-at .ensures) (c .before .field-at .ensures)) ∙ e)
 
 returns-2 : tie.Need-returns-2 Inv-loop μ-loop
 returns-2 c = sym (on (c .before) false (not-true _ (c .if2 .taken)))

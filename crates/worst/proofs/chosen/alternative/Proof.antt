@@ -11,7 +11,7 @@ use Rattle.worst.specs.Forces.{acts, pressure, area}
 use Rattle.worst.specs.Table.{outsideAt}
 use Rattle.worst.specs.Engine.{pick}
 use Rattle.worst.specs.Small.{OutsideSmall}
-use Rattle.worst.proofs.Told.{told}
+use Rattle.worst.proofs.ReadBack.{read-back}
 use Rattle.worst.proofs.Table.{stands-for}
 use Rattle.worst.proofs.Ranges.{pressure-small, area-small}
 use Rattle.worst.proofs.OneFace.{no-pick}
@@ -45,10 +45,10 @@ module _ (c : tie.After-area-on) where
 
   abbrev weighed : Num
   weighed =
-      told (p .pressure-of .result) (pressure (a .args .b .density) (a .args .w) (a .args .f))
+      read-back (p .pressure-of .result) (pressure (a .args .b .density) (a .args .w) (a .args .f))
       (p .pressure-of .ensures)
       (pressure-small (a .args .b .density) (a .args .w) (a .args .f) (a .pre .0 .dense) (a .pre .0 .slow)) tt
-      ⊗ told (c .area-on .result) (area (a .args .axis) (a .args .f)) (c .area-on .ensures)
+      ⊗ read-back (c .area-on .result) (area (a .args .axis) (a .args .f)) (c .area-on .ensures)
       (area-small (a .args .axis) (a .args .f) (a .pre .0 .face)) tt
 
 mul-picked : tie.Need-mul-picked

@@ -6,7 +6,7 @@ use lib.IntN.{ℤ, natAbs, _*ℤ_}
 use Rattle.whole.proofs.Size.{Num, num≤, back, fit, _⊗_}
 use Rattle.worst.specs.Best.{short}
 use Rattle.worst.specs.Engine.{which}
-use Rattle.worst.proofs.Told.{product}
+use Rattle.worst.proofs.ReadBack.{product}
 use Rattle.worst.proofs.chosen.picked.Statement.{statement}
 use Rattle.worst.proofs.chosen.picked.Tie as tie
 

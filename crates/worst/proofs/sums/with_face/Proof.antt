@@ -7,7 +7,7 @@ use Rattle.whole.proofs.Size.{Num, bound}
 use Rattle.worst.specs.Forces.{acts, pressure}
 use Rattle.worst.specs.Engine.{withPressure}
 use Rattle.worst.specs.Small.{OutsideSmall}
-use Rattle.worst.proofs.Told.{told}
+use Rattle.worst.proofs.ReadBack.{read-back}
 use Rattle.worst.proofs.Ranges.{pressure-small}
 use Rattle.worst.proofs.Added.{face-acts, face-aside}
 use Rattle.worst.proofs.sums.with_face.Statement.{statement}
@@ -29,7 +29,7 @@ module _ (c : tie.After-pressure-of) where
 
   abbrev pressed : Num
   pressed =
-      told (c .pressure-of .result) (pressure (a .args .b .density) (a .args .w) (a .args .f))
+      read-back (c .pressure-of .result) (pressure (a .args .b .density) (a .args .w) (a .args .f))
       (c .pressure-of .ensures)
       (pressure-small (a .args .b .density) (a .args .w) (a .args .f) (a .pre .1 .dense) (a .pre .1 .slow)) tt
 

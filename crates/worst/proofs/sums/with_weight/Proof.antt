@@ -9,7 +9,7 @@ use Rattle.whole.proofs.Size.{Num, num≤, back, fit, _⊕_}
 use Rattle.worst.specs.declared.Side.{Side}
 use Rattle.worst.specs.declared.Side.the-variants.{Greatest, Least}
 use Rattle.worst.specs.Engine.{further, reach}
-use Rattle.worst.proofs.Told.{told, product}
+use Rattle.worst.proofs.ReadBack.{read-back, product}
 use Rattle.worst.proofs.Ranges.{reach-small}
 use Rattle.worst.proofs.sums.with_weight.Statement.{statement}
 use Rattle.worst.proofs.sums.with_weight.Tie as tie
@@ -30,7 +30,7 @@ module _ (a : tie.Start) where
   abbrev grown : (s : Side) (z r : ℤ) → natAbs z ≤ 23 * 180000000000000000
       → r ≡ further s (back w64 first tt .has) (back w64 last tt .has) → Num
   grown s z r h e =
-      back w64 (num≤ z h) tt ⊕ told r (reach s (a .args .o) (a .args .weight)) (gained s r e)
+      back w64 (num≤ z h) tt ⊕ read-back r (reach s (a .args .o) (a .args .weight)) (gained s r e)
       (reach-small s (a .args .o) (a .args .weight) (a .pre .1) (a .pre .2)) tt
 
   abbrev weights : Num

@@ -7,8 +7,8 @@ use mir.Syntax.{w64}
 use mir.Val.{toZ, ofZ}
 use Rattle.whole.proofs.Size.{Num, num≤, back, _⊗_}
 
-abbrev pub told : (r z : ℤ) {k : ℕ} → r ≡ z → natAbs z ≤ k → T (ltb k (2 ^ 63)) → Num
-told r z {k} e h t =
+abbrev pub read-back : (r z : ℤ) {k : ℕ} → r ≡ z → natAbs z ≤ k → T (ltb k (2 ^ 63)) → Num
+read-back r z {k} e h t =
     record {
       has = toZ w64 (ofZ w64 r);
       is = z;
