@@ -1,6 +1,5 @@
 -- Numbers at the edges, worked out by the definitions.
 use mathlib.Core.Path.{_≡_, refl}
-use mathlib.Core.List.{[], _∷_}
 use lib.IntN.{pos, negsuc}
 use Rattle.whole.specs.Digits.{decimal}
 use Rattle.whole.proofs.Quoted.{bytes}

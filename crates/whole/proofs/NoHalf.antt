@@ -1,13 +1,12 @@
 -- Where no half comes up, rounding needs no sign: a number is moved up among the naturals, rounded there by one
 -- division and moved back.
-use mathlib.Core.Path.{_≡_, sym, ap, subst}
-use mathlib.Core.Logic.{⊎-elim}
-use Prim.Native.Nat.{ℕ, _+_, _-_, _*_, _≤_, _<_}
+use mathlib.Core.Path.{_≡_, sym, ap}
+use Prim.Native.Nat.{ℕ, _+_, _-_, _*_, _<_}
 use native.Mathlib.Omega.{arith}
 use lib.Dec.{leb}
 use borrow.Author.Tests.{leb-true, leb-false}
 use lib.IntN.{ℤ, pos, natAbs, _+ℤ_, _-ℤ_, _*ℤ_}
-use Rattle.whole.specs.Round.{halfUp, roundAway, leftOver, Nearest, Half}
+use Rattle.whole.specs.Round.{halfUp, roundAway, leftOver, Half}
 use Rattle.whole.proofs.Parts.{up, down, add-law, sub-lawℤ, up-scale, down-scale, eq-by, eq-at}
 use Rattle.whole.proofs.Rounding.{down-unique}
 use Rattle.whole.proofs.Nearest.{off, half-near, nearest-roundAway}

@@ -1,6 +1,5 @@
 -- `limits::too_long`: by the size of the number.
 use mathlib.Core.Path.{ap}
-use Prim.Native.Nat.{ℕ}
 use lib.Dec.{ltb}
 use lib.IntN.{natAbs}
 use Rattle.whole.proofs.Size.{said}
