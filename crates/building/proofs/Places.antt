@@ -1,15 +1,18 @@
 -- Zones and locals: a place that is not on the walls needs a roof. And what the directions are that a roof knows.
 use mathlib.Core.Path.{_≡_, refl, sym, subst}
-use mathlib.Core.Logic.{_⊎_, ⊎-elim, inl, inr}
+use mathlib.Core.Logic.{⊎-elim}
+use mathlib.Core.List.{List, [], _∷_}
 use mathlib.Core.Bool.{Bool, true, false, _&&_, _||_, true≢false, false≢true}
 use Prim.Native.Nat.{ℕ, zero, suc, _≤_, _<_}
 use native.Mathlib.Omega.{arith}
 use lib.Dec.{leb, eqb}
 use lib.IntN.{ℤ, pos, negsuc, natAbs}
 use borrow.Author.Tests.{leb-true, ne-eqb}
+use Rattle.whole.specs.Lists.{Every}
 use Rattle.whole.proofs.Tests.{or-true, or-false, and-true}
-use Rattle.building.specs.Test.{among, is, beyond}
-use Rattle.building.specs.Places.{A, D, E, F, H, wallLocal, gable, flat, zoneOn, localOn, knows, wallPlace}
+use Rattle.building.specs.Test.{among, is, oneOf, beyond}
+use Rattle.building.specs.Places.{A, D, E, F, H, wallLocal, gable, flat, zoneOn, localOn, wallPlace}
+use Rattle.building.specs.Places.{directions, knows}
 use Rattle.building.proofs.Accepted.{Within}
 use Rattle.building.proofs.Machine.{is-same}
 
@@ -49,14 +52,23 @@ must-be-E kind zone e f g h =
     in
     omega arith
 
--- a direction that a roof knows is 0 or 90
-pub known : (kind direction : ℤ) → knows kind direction ≡ true → (direction ≡ pos 0) ⊎ (direction ≡ pos 90)
-known kind direction e =
-    ⊎-elim (λ q. inl (is-same (pos 0) direction q)) (λ q. inr (is-same (pos 90) direction q))
-    (or-true (is (pos 0) direction) (is (pos 90) direction) e)
+-- ---- directions
+
+-- a test that each of these numbers passes is passed by one of them
+pub one-of : (P : ℤ → Type 0) (ns : List ℤ) → Every P ns → (z : ℤ) → oneOf ns z ≡ true → P z
+one-of P [] hs z e = absurd (true≢false (sym e))
+one-of P (n ∷ ns) hs z e =
+    ⊎-elim (λ q. subst P (sym (is-same n z q)) (hs .0)) (λ q. one-of P ns (hs .1) z q) (or-true (is n z) (oneOf ns z) e)
+
+-- what holds of each direction that a roof has holds of one that it knows
+pub known : (P : ℤ → Type 0) (kind direction : ℤ) → Every P (directions kind) → knows kind direction ≡ true
+    → P direction
+unfolding knows
+known P kind direction h e = one-of P (directions kind) h direction e
+
+at-most : (n : ℕ) → n ≤ 90 → Within 0 90 (pos n)
+at-most n h = record { from = omega arith; to = h; plain = refl }
 
 pub known-within : (kind direction : ℤ) → knows kind direction ≡ true → Within 0 90 direction
-known-within kind direction e =
-    ⊎-elim (λ q. subst (Within 0 90) (sym q) (record { from = omega arith; to = omega arith; plain = refl }))
-    (λ q. subst (Within 0 90) (sym q) (record { from = omega arith; to = omega arith; plain = refl }))
-    (known kind direction e)
+known-within kind direction =
+    known (Within 0 90) kind direction (at-most 0 (omega arith), (at-most 90 (omega arith), tt))

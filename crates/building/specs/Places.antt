@@ -1,9 +1,10 @@
 -- Zones and locals by their bytes, and the directions: which of them a roof of a kind has.
 use mathlib.Core.Bool.{Bool, _&&_, _||_}
+use mathlib.Core.List.{List, [], _∷_}
 use Prim.Native.Nat.{ℕ}
 use lib.IntN.{ℤ, pos}
 use lib.Dec.{eqb}
-use Rattle.building.specs.Test.{among, is, within}
+use Rattle.building.specs.Test.{among, is, oneOf, within}
 
 abbrev pub A : ℕ
 A = 65
@@ -48,9 +49,16 @@ zoneOn kind zone = among A D zone || (gable kind && among E H zone || flat kind 
 unfoldable pub localOn : ℤ → ℕ → Bool
 localOn kind place = eqb place wallLocal || flat kind && (eqb place L1 || eqb place L2)
 
--- the directions that a roof of this kind knows
-abbrev pub knows : ℤ → ℤ → Bool
-knows kind direction = is (pos 0) direction || is (pos 90) direction
+-- the directions that the walls' table has, and those of a roof of a kind
+abbrev pub wallDirections : List ℤ
+wallDirections = pos 0 ∷ pos 90 ∷ []
+
+abbrev pub directions : ℤ → List ℤ
+directions kind = wallDirections
+
+-- a roof of this kind knows the direction
+unfoldable pub knows : ℤ → ℤ → Bool
+knows kind direction = oneOf (directions kind) direction
 
 -- A to D, and the wall's local
 abbrev pub wallPlace : ℕ → Bool

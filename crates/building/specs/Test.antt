@@ -1,5 +1,6 @@
 -- Tests of one number, and the fault where a test fails.
 use mathlib.Core.Bool.{Bool, true, false, not, _&&_, _||_}
+use mathlib.Core.List.{List, [], _∷_}
 use Prim.Native.Nat.{ℕ}
 use lib.IntN.{ℤ, pos, negsuc, natAbs}
 use lib.Signed.{ltZ}
@@ -15,6 +16,11 @@ is (pos n) (pos k) = eqb k n
 is (pos n) (negsuc k) = false
 is (negsuc n) (pos k) = false
 is (negsuc n) (negsuc k) = eqb k n
+
+-- a signed number is one of these
+abbrev pub oneOf : List ℤ → ℤ → Bool
+oneOf [] z = false
+oneOf (n ∷ ns) z = is n z || oneOf ns z
 
 -- a signed number is below the least of a range, or above its greatest; or it is neither
 unfoldable pub beyond : ℤ → ℤ → ℤ → Bool

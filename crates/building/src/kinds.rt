@@ -1,7 +1,8 @@
 // What a roof of a kind has: its zones and locals, and the directions that it knows.
 ghost use mathlib.Core.Path.{_≡_};
 ghost use Rattle.building.specs.Places as places;
-ghost use Rattle.building.specs.Places.{localOn};
+ghost use Rattle.building.specs.Places.{localOn, wallDirections};
+ghost use Rattle.building.specs.Test.{oneOf};
 use super::limits::beyond;
 use super::tests::both;
 use super::tests::either;
@@ -19,11 +20,18 @@ pub(crate) fn flat(kind: i64) -> bool
     !beyond(2, 5, kind)
 }
 
-// The directions that a roof of this kind knows.
+// A direction that the walls' table has.
+pub(crate) fn on_walls(direction: i64) -> bool
+    ensures { λ r. ⌜ r ≡ oneOf wallDirections direction ⌝ }
+{
+    either(is(0, direction), is(90, direction))
+}
+
+// Whether a roof of this kind knows the direction.
 pub fn knows(kind: i64, direction: i64) -> bool
     ensures { λ r. ⌜ r ≡ places.knows kind direction ⌝ }
 {
-    either(is(0, direction), is(90, direction))
+    on_walls(direction)
 }
 
 pub(crate) fn local_on(kind: i64, place: u8) -> bool

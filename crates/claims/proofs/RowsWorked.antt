@@ -8,7 +8,7 @@ use Rattle.whole.specs.Lowest.{divisorUpTo, commonDivisor}
 use Rattle.building.specs.Test.{beyond, tooLong}
 use Rattle.building.specs.Roof.{roofOf}
 use Rattle.building.specs.Building.{givenFault, buildingFault, outOfForm, outOfRange, outOfWalls, outOfRoof}
-use Rattle.building.specs.Places.{E, F, L1, zoneOn, localOn}
+use Rattle.building.specs.Places.{E, F, L1, zoneOn, localOn, knows}
 use Rattle.building.specs.Question.{askedOf}
 use Rattle.book.specs.declared.Values.the-variants.{One, Two}
 use Rattle.book.specs.Line.{wayIn, onStraight}
@@ -35,7 +35,7 @@ worked =
 
 pub worked-hold : Every Holds worked
 unfolding outsideOf askedOf givenFault buildingFault outOfForm outOfRange outOfWalls outOfRoof tooLong beyond zoneOn
-    localOn roofOf coefficientOf wallColumn gableColumn flatColumn wallRow blockOf roofWay wayIn divisorUpTo
+    localOn knows roofOf coefficientOf wallColumn gableColumn flatColumn wallRow blockOf roofWay wayIn divisorUpTo
     commonDivisor onStraight halfUp roundAway
 worked-hold =
     refl and refl and refl and refl and refl and refl and refl and refl and refl and refl and refl and tt

@@ -8,7 +8,7 @@ use Rattle.field.specs.declared.Field.{Field}
 use Rattle.field.specs.declared.Field.the-variants.{Bad, Plus, Minus, Letter, Dash}
 use Rattle.building.specs.Building.{outOfRange, outOfWalls, outOfRoof}
 use Rattle.building.specs.Roof.{roofOf}
-use Rattle.building.specs.Places.{zoneOn}
+use Rattle.building.specs.Places.{zoneOn, knows}
 use Rattle.building.specs.Test.{beyond, tooLong}
 use Rattle.rules.specs.Form.{hasForm, inForm}
 use Rattle.rules.specs.Sections.{lineFault}
@@ -75,4 +75,5 @@ cases =
 cases-right : map (λ c. verdict (readLines (c .lines))) cases ≡ map
     (λ c. refusal (c .number) (c .line)) cases
 unfolding readLines walk lineFault inForm hasForm outOfRange outOfWalls outOfRoof roofOf tooLong beyond zoneOn
+    knows
 cases-right = refl

@@ -11,7 +11,7 @@ use Rattle.field.specs.Field.{digitsInForm, unsigned, negative, numeral, fieldF
 use Rattle.lines.specs.Lines.{split, fieldsOf, linesFrom, linesIn}
 use Rattle.building.specs.Building.{outOfRange, outOfWalls, outOfRoof}
 use Rattle.building.specs.Roof.{roofOf}
-use Rattle.building.specs.Places.{zoneOn}
+use Rattle.building.specs.Places.{zoneOn, knows}
 use Rattle.building.specs.Test.{beyond, tooLong}
 use Rattle.rules.specs.Form.{hasForm, inForm}
 use Rattle.rules.specs.Sections.{lineFault}
@@ -129,5 +129,5 @@ cases-right : map (λ c. verdict (reading (bytes (c .text)))) cases ≡ map
     (λ c. refusal (c .number) (c .line)) cases
 unfolding reading linesIn linesFrom split fieldsOf fieldFrom numeral unsigned negative digitsInForm
     allDigits valueAfter value readLines walk lineFault inForm hasForm outOfRange outOfWalls outOfRoof roofOf tooLong
-    beyond zoneOn
+    beyond zoneOn knows
 cases-right = refl

@@ -90,6 +90,11 @@ returned w z h = param {w = w} {z = z} (record { sfits = h })
 pub said : {A : Type 0} (f : ℤ → A) (z : ℤ) {r : A} → r ≡ f (toZ w64 (ofZ w64 z)) → mag z < 2 ^ 63 → r ≡ f z
 said f z e h = e ∙ ap f (returned w64 z h .same)
 
+-- and of two
+pub said₂ : {A : Type 0} (f : ℤ → ℤ → A) (y z : ℤ) {r : A} → r ≡ f (toZ w64 (ofZ w64 y)) (toZ w64 (ofZ w64 z))
+    → mag y < 2 ^ 63 → mag z < 2 ^ 63 → r ≡ f y z
+said₂ f y z e h k = said (f y) z (said (λ (x : ℤ). f x (toZ w64 (ofZ w64 z))) y e h) k
+
 abbrev pub nat : (w : Width) {n : ℕ} (k : ℕ) → n ≤ k → T (ltb k (2 ^ hbits w)) → Num
 nat w {n} k h t =
     record {

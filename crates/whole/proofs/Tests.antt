@@ -41,5 +41,9 @@ pub or-left : (t : Bool) {u : Bool} → u ≡ false → (t || u) ≡ true → t 
 or-left true e f = refl
 or-left false {u} e f = rw e at f
 
+pub or-none : (t : Bool) → t ≡ (t || false)
+or-none true = refl
+or-none false = refl
+
 -- what a branch knows of two numbers, said of the tests: `search tests` closes a return that goes by cases
 pub ruleset tests = (lt-ltb, le-ltb, le-leb, lt-leb, eq-eqb, ne-eqb)

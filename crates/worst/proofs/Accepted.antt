@@ -1,7 +1,7 @@
 -- What an accepted job gives: every number is in its range, every face has one or two coefficients, and so it can be
 -- reckoned.
-use mathlib.Core.Path.{_≡_, subst}
-use mathlib.Core.Logic.{_⊎_, ⊎-elim}
+use mathlib.Core.Path.{_≡_, refl, subst}
+use mathlib.Core.Logic.{_⊎_, inl, inr, ⊎-elim}
 use mathlib.Core.Bool.{true}
 use mathlib.Core.List.{List, List·Memᴰ}
 use Prim.Native.Nat.{ℕ, zero, suc, _-_, _≤_, _<_}
@@ -44,7 +44,11 @@ values-small (two h k e f) zero = h
 values-small (two h k e f) (suc zero) = k
 values-small (two h k e f) (suc (suc i)) = omega arith
 
+either-way : (kind d : ℤ) → knows kind d ≡ true → (d ≡ pos 0) ⊎ (d ≡ pos 90)
+either-way kind d = known (λ (z : ℤ). (z ≡ pos 0) ⊎ (z ≡ pos 90)) kind d (inl refl, (inr refl, tt))
+
 knows-either : (kind d : ℤ) → (d ≡ pos 0) ⊎ (d ≡ pos 90) → knows kind d ≡ true
+unfolding knows
 knows-either kind d = ⊎-elim (λ e. rw e) (λ e. rw e)
 
 -- a speed's range
@@ -82,7 +86,7 @@ module _ (c : Carried) (o : InOrder c) where
         face = face-small f hf;
         placed =
             record {
-              way = known (c .building .kind) (w .direction) (hw .direction);
+              way = either-way (c .building .kind) (w .direction) (hw .direction);
               from = hf .zone .low;
               to = hf .zone .high;
             };
@@ -97,7 +101,7 @@ module _ (c : Carried) (o : InOrder c) where
         internal = λ i m. every-member InternalInOrder (c .internals) (o .internals) m;
         fewFaces = o .faces-counted .high;
         face = λ f m. face-small f (face-in f m);
-        direction = λ w m. known (c .building .kind) (w .direction) (wind-in w m .direction);
+        direction = λ w m. either-way (c .building .kind) (w .direction) (wind-in w m .direction);
         outside = λ d e f m. values-small (answered d (knows-either (c .building .kind) d e) f (face-in f m));
       }
 

@@ -9,7 +9,7 @@ use Rattle.verdict.specs.Verdict.{refusal}
 use Rattle.building.specs.declared.Question.the-variants.{Of, Refused}
 use Rattle.building.specs.Building.{buildingFault}
 use Rattle.building.specs.Places.{knows, zoneOn, localOn}
-use Rattle.whole.proofs.Size.{said}
+use Rattle.whole.proofs.Size.{said, said₂}
 use Rattle.building.proofs.Accepted.{in-range, none-given}
 use Rattle.building.proofs.Judged.{bad-building, bad-direction, bad-place, in-question}
 use Rattle.building.proofs.asked.Statement.{statement}
@@ -30,7 +30,8 @@ direction : (c : tie.After-knows)
     → let a = start c .args in c .knows .result ≡ knows (a .g .kind) (a .direction)
 direction c =
     let s = start c in
-    said (knows (s .args .g .kind)) (s .args .direction) (c .knows .ensures) (s .fits .direction .sfits)
+    let bounds = c .before .struct-told .given .1 .1 .1 .1 .0 .1 in
+    said₂ knows (s .args .g .kind) (s .args .direction) (c .knows .ensures) bounds (s .fits .direction .sfits)
 
 known-direction : (c : tie.Else2)
     → let a = start (c .before) .args in knows (a .g .kind) (a .direction) ≡ true

@@ -1,21 +1,15 @@
 -- `kinds::knows`: the direction is read back as it is.
-use mathlib.Core.Path.{ap₂, _∙_}
-use mathlib.Core.Bool.{_||_}
-use lib.IntN.{pos}
 use borrow.Author.Needs.{needs}
-use Rattle.building.specs.Test.{is}
+use Rattle.building.specs.Test.{oneOf}
+use Rattle.building.specs.Places.{wallDirections, knows}
 use Rattle.whole.proofs.Size.{said}
 use Rattle.building.proofs.kinds.knows.Statement.{statement}
 use Rattle.building.proofs.kinds.knows.Tie as tie
 
 returns : tie.Need-returns
+unfolding knows
 returns c =
-    let s = c .before .before .before in
-    let z = s .args .direction in
-    let f = s .fits .direction .sfits in
-    c .either .ensures
-    ∙ ap₂ _||_ (said (is (pos 0)) z (c .before .before .is .ensures) f)
-    (said (is (pos 90)) z (c .before .is2 .ensures) f)
+    said (oneOf wallDirections) (c .before .args .direction) (c .on-walls .ensures) (c .before .fits .direction .sfits)
 
 pub knows-spec : {M : Type 1} → statement M
-knows-spec = tie.close (tie.spec (λ c κs. search needs) (λ c κs. search needs) (λ c κs. search needs) returns)
+knows-spec = tie.close (tie.spec (λ c κs. search needs) returns)

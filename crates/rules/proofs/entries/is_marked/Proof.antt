@@ -1,6 +1,6 @@
 -- `is_marked` meets its contract.
 use native.Mathlib.Omega.{arith}
-use Rattle.whole.proofs.Size.{said}
+use Rattle.whole.proofs.Size.{said₂}
 use Rattle.building.specs.Places.{knows}
 use Rattle.building.proofs.Machine.{bits-same, bits-other}
 use Rattle.entry.specs.Says.{both}
@@ -18,7 +18,8 @@ returns-2 c =
     let e = c .before .before in
     let s = e .before in
     rw (bits-other both (s .args .m) (omega arith) (s .fits .m .sfits) (e .if1 .left))
-    (said (knows (s .args .g .kind)) (s .args .m) (c .knows .ensures) (s .fits .m .sfits))
+    (said₂ knows (s .args .g .kind) (s .args .m) (c .knows .ensures)
+    (c .before .struct-told .given .1 .1 .1 .1 .0 .1) (s .fits .m .sfits))
 
 pub is-marked-spec : {M : Type 1} → statement M
 is-marked-spec = tie.close (tie.spec returns (λ c κs. search needs) returns-2)

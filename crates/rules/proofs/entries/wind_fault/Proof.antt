@@ -2,7 +2,7 @@
 use mathlib.Core.Path.{_≡_, _∙_}
 use mathlib.Core.Bool.{not}
 use lib.IntN.{pos}
-use Rattle.whole.proofs.Size.{said}
+use Rattle.whole.proofs.Size.{said, said₂}
 use Rattle.building.specs.Places.{knows}
 use Rattle.building.specs.Test.{beyond}
 use borrow.Author.Needs.{needs}
@@ -16,10 +16,11 @@ returns c =
     let s = k .before .before .before in
     let w = s .args .w in
     let q = b .before .struct-told3 .given in
+    let kind = k .before .before .struct-told .given .1 .1 .1 .1 .0 .1 in
     rw (
       c .fault2 .ensures,
       c .before .fault .ensures,
-      said (knows (s .args .g .kind)) (w .direction) (k .knows .ensures) (q .0 .1),
+      said₂ knows (s .args .g .kind) (w .direction) (k .knows .ensures) kind (q .0 .1),
       said (beyond (pos 1) (pos 1000)) (w .speed) (b .beyond .ensures) (q .1 .0 .1),
     )
 
