@@ -1,6 +1,7 @@
 -- The answers: which case a place comes to, and how large its alternatives can be.
-use mathlib.Core.Path.{_≡_, sym, subst}
-use mathlib.Core.Bool.{Bool, true, false, _||_}
+use mathlib.Core.Path.{_≡_, sym, _∙_, subst}
+use mathlib.Core.Logic.{⊎-elim}
+use mathlib.Core.Bool.{Bool, true, false, _||_, true≢false}
 use mathlib.Core.List.{List}
 use Prim.Native.Nat.{ℕ, _≤_, _<_}
 use native.Mathlib.Omega.{arith}
@@ -9,7 +10,7 @@ use lib.IntN.{ℤ, natAbs}
 use borrow.Author.Tests.{eq-eqb, ne-eqb, eqb-true, eqb-false}
 use Rattle.whole.specs.Lists.{Every}
 use Rattle.whole.proofs.Size.{natAbs-neg}
-use Rattle.whole.proofs.Tests.{by-test}
+use Rattle.whole.proofs.Tests.{by-test, and-true}
 use Rattle.building.specs.declared.Building.{Building}
 use Rattle.building.specs.declared.Sizes.{Sizes}
 use Rattle.building.specs.declared.Question.{Question}
@@ -18,7 +19,7 @@ use Rattle.building.specs.Order.{SizesInOrder}
 use Rattle.building.specs.Building.{buildingFault, sizes}
 use Rattle.building.specs.Places.{E, F, wallPlace, zoneOn, localOn, knows}
 use Rattle.building.specs.Question.{askedOf}
-use Rattle.building.proofs.Places.{needs-roof, must-be-E}
+use Rattle.building.proofs.Places.{among-yes, among-is, needs-roof, roof-zone}
 use Rattle.building.proofs.Judged.{FitIn, question-fits, in-question}
 use Rattle.building.proofs.Accepted.{in-order}
 use Rattle.book.specs.declared.Answer.the-variants.{Answered}
@@ -26,43 +27,50 @@ use Rattle.book.specs.declared.Cited.{Cited}
 use Rattle.book.specs.Row.{hundredths}
 use Rattle.book.specs.Line.{valueAt}
 use Rattle.book.specs.Walls.{wallRow, wallWay}
-use Rattle.book.specs.Roofs.{roofWay}
+use Rattle.book.specs.Roofs.{flatRoof, roofWay}
 use Rattle.book.specs.Answer.{valuesIn, valuesOf, Alternatives, one, two}
-use Rattle.book.specs.Question.{wallColumn, gableColumn, flatColumn, oneAt, bothSigns, coefficientOf, answerTo}
-use Rattle.book.specs.Question.{outsideOf}
+use Rattle.book.specs.Question.{wallColumn, flatColumn, roofColumn, twoSigns, oneAt, bothSigns}
+use Rattle.book.specs.Question.{coefficientOf, answerTo, outsideOf}
 use Rattle.book.proofs.Between.{line-small}
 use Rattle.book.proofs.Rows.{wallRow-small}
 use Rattle.book.proofs.Roofed.{roofValue-small, flatValue-small, gableValue-small}
 
--- ---- the four cases of a coefficient
+-- ---- the three cases of a coefficient
 
 module _ (s : Sizes) (wind place : ℕ) where
   pub on-wall : wallPlace place ≡ true → coefficientOf s wind place ≡ oneAt (wallWay s) (wallColumn wind place)
   unfolding coefficientOf
   on-wall e = rw e
 
-  pub on-gable : wallPlace place ≡ false → s .kind ≡ 1
-      → coefficientOf s wind place ≡ oneAt (roofWay s) (gableColumn wind place)
+  pub on-f : wallPlace place ≡ false → twoSigns (s .kind) place ≡ true
+      → coefficientOf s wind place ≡ bothSigns (roofWay s) (roofColumn (s .kind) wind place)
   unfolding coefficientOf
-  on-gable e f = rw (e, eq-eqb (s .kind) 1 f)
+  on-f e f = rw (e, f)
 
-  pub on-f : wallPlace place ≡ false → (s .kind ≡ 1 → ⊥) → place ≡ F
-      → coefficientOf s wind place ≡ bothSigns (roofWay s) 1
-  unfolding coefficientOf flatColumn
-  on-f e f g = rw (e, ne-eqb (s .kind) 1 f, eq-eqb place F g)
-
-  pub on-flat : wallPlace place ≡ false → (s .kind ≡ 1 → ⊥) → (place ≡ F → ⊥)
-      → coefficientOf s wind place ≡ oneAt (roofWay s) (flatColumn place)
+  pub on-one : wallPlace place ≡ false → twoSigns (s .kind) place ≡ false
+      → coefficientOf s wind place ≡ oneAt (roofWay s) (roofColumn (s .kind) wind place)
   unfolding coefficientOf
-  on-flat e f g = rw (e, ne-eqb (s .kind) 1 f, ne-eqb place F g)
+  on-one e f = rw (e, f)
 
-pub column-F : {place : ℕ} → place ≡ F → flatColumn place ≡ 1
-unfolding flatColumn
-column-F e = rw e
+-- both signs are had in zone F of a flat roof
+signs-where : (kind place : ℕ) → twoSigns kind place ≡ true → (flatRoof kind ≡ true) × (place ≡ F)
+unfolding twoSigns
+signs-where kind place e =
+    let r = and-true (flatRoof kind) (eqb place F) e in
+    (r .0, eqb-true place F (r .1))
 
-column-E : {place : ℕ} → place ≡ E → flatColumn place ≡ 0
-unfolding flatColumn
-column-E e = rw e
+signs-there : (kind place : ℕ) → flatRoof kind ≡ true → twoSigns kind place ≡ false → place ≡ F → ⊥
+unfolding twoSigns
+signs-there kind place f e p = true≢false (sym (rw (f, eq-eqb place F p)) ∙ e)
+
+-- the columns of E and F there
+flat-columns : (kind wind place : ℕ) → flatRoof kind ≡ true → E ≤ place → place ≤ F → roofColumn kind wind place < 2
+unfolding roofColumn flatColumn
+flat-columns kind wind place f from to =
+    let k = among-yes 2 5 kind f in
+    by-test (eqb place E) (λ e. rw (ne-eqb kind 1 (λ p. omega arith), e) (lit< tt))
+    (λ e. let n = eqb-false place E e in
+    rw (ne-eqb kind 1 (λ p. omega arith), e, eq-eqb place F (omega arith)) (lit< tt))
 
 -- ---- how large they can be
 
@@ -75,25 +83,22 @@ wallValue-small s col =
 
 module _ (s : Sizes) (o : SizesInOrder s) (wind place k : ℕ) (enough : 1200 ≤ k)
     (roofed : wallPlace place ≡ false → 0 < s .kind)
-    (flat : wallPlace place ≡ false → (s .kind ≡ 1 → ⊥) → (place ≡ F → ⊥)
-    → natAbs (valueAt (roofWay s) (flatColumn place)) ≤ k) where
+    (small : wallPlace place ≡ false → twoSigns (s .kind) place ≡ false
+    → natAbs (valueAt (roofWay s) (roofColumn (s .kind) wind place)) ≤ k) where
   abbrev Alternatives-of : Cited → Type 0
   Alternatives-of c = Alternatives k (s .kind) place (valuesIn (c .values))
 
   off-wall : wallPlace place ≡ false → Alternatives-of (coefficientOf s wind place)
   off-wall e =
-      by-test (eqb (s .kind) 1)
-      (λ p. let i = eqb-true (s .kind) 1 p in
-      subst Alternatives-of (sym (on-gable s wind place e i))
-      (one (omega (arith, gableValue-small s o (roofed e) i (gableColumn wind place)))))
-      (λ p. let i = eqb-false (s .kind) 1 p in
-      let some = roofed e in
-      by-test (eqb place F)
-      (λ q. let small = flatValue-small s o some i 1 (lit< tt) in
-      subst Alternatives-of (sym (on-f s wind place e i (eqb-true place F q)))
-      (two (omega arith) (omega (arith, natAbs-neg (valueAt (roofWay s) 1))) (eqb-true place F q) (omega arith)))
-      (λ q. let g = eqb-false place F q in
-      subst Alternatives-of (sym (on-flat s wind place e i g)) (one (flat e i g))))
+      by-test (twoSigns (s .kind) place)
+      (λ p. let f = signs-where (s .kind) place p in
+      let z = f .1 in
+      let col = roofColumn (s .kind) wind place in
+      let below = flat-columns (s .kind) wind place (f .0) (omega arith) (omega arith) in
+      let v = flatValue-small s o (roofed e) (f .0) col below in
+      subst Alternatives-of (sym (on-f s wind place e p))
+      (two (omega arith) (omega (arith, natAbs-neg (valueAt (roofWay s) col))) (f .1) (f .0)))
+      (λ p. subst Alternatives-of (sym (on-one s wind place e p)) (one (small e p)))
 
   alternatives : Alternatives-of (coefficientOf s wind place)
   alternatives =
@@ -129,12 +134,15 @@ module _ (g : Building) (direction : ℤ) (place : ℕ) where
   zone-answered e f z =
       let o = in-order g e in
       let on = or-true (zoneOn (g .kind) place) (localOn (g .kind) place) z in
+      let roofed : wallPlace place ≡ false → 0 < natAbs (g .kind) = λ w. needs-roof (g .kind) place w on in
       rw (answered e f on)
-      (alternatives (sizes g) o (natAbs direction) place 1200 (lit≤ tt) (λ w. needs-roof (g .kind) place w on)
-      (λ w i h.
-      subst (λ (n : ℕ). natAbs (valueAt (roofWay (sizes g)) n) ≤ 1200)
-      (sym (column-E (must-be-E (g .kind) place z w i h)))
-      (flatValue-small (sizes g) o (needs-roof (g .kind) place w on) i 0 (lit< tt))))
+      (alternatives (sizes g) o (natAbs direction) place 1200 (lit≤ tt) roofed
+      (λ w h.
+      ⊎-elim (λ i. gableValue-small (sizes g) o (roofed w) i (roofColumn (natAbs (g .kind)) (natAbs direction) place))
+      (λ k. let flat = among-is (k .0 .from) (k .0 .to) in
+      flatValue-small (sizes g) o (roofed w) flat (roofColumn (natAbs (g .kind)) (natAbs direction) place)
+      (flat-columns (natAbs (g .kind)) (natAbs direction) place flat (k .1) (k .2)))
+      (roof-zone (g .kind) place z w)))
 
   -- any answer: no alternative is above 2.500
   small-answer : (q : Question) → FitIn g direction place q → Small (valuesOf (answerTo q (natAbs direction) place))
@@ -142,7 +150,7 @@ module _ (g : Building) (direction : ℤ) (place : ℕ) where
       let o = f .order in
       small-of
       (alternatives s o (natAbs direction) place 2500 (lit≤ tt) (f .roofed)
-      (λ w i h. roofValue-small s o (f .roofed w) (flatColumn place)))
+      (λ w h. roofValue-small s o (f .roofed w) (roofColumn (s .kind) (natAbs direction) place)))
   small-answer (asked.Refused v) f = tt
 
   pub answer-small : Small (valuesOf (outsideOf g direction place))

@@ -22,11 +22,11 @@ use Rattle.book.specs.Line.{Way, valueAt}
 use Rattle.book.specs.Walls.{wallWay}
 use Rattle.book.specs.Roofs.{roofWay}
 use Rattle.book.specs.Answer.{cites}
-use Rattle.book.specs.Question.{wallColumn, gableColumn, flatColumn, coefficientOf, outsideOf}
-use Rattle.book.specs.Coefficient.{OnRoof, IsCoefficient, onWall, onGable, onFlat, onF}
+use Rattle.book.specs.Question.{wallColumn, roofColumn, twoSigns, coefficientOf, outsideOf}
+use Rattle.book.specs.Coefficient.{OnRoof, IsCoefficient, onWall, onRoof, onF}
 use Rattle.book.proofs.Interpolated.{value-near, near-value}
 use Rattle.book.proofs.Roofed.{way-is, roof-lies, roof-only}
-use Rattle.book.proofs.Answers.{on-wall, on-gable, on-f, on-flat, answered}
+use Rattle.book.proofs.Answers.{on-wall, on-f, on-one, answered}
 
 module _ (s : Sizes) (o : SizesInOrder s) (wind place : ℕ) where
   -- what is answered for a place that is on the building
@@ -36,21 +36,13 @@ module _ (s : Sizes) (o : SizesInOrder s) (wind place : ℕ) where
 
   pub coefficient-is : (wallPlace place ≡ false → 0 < s .kind)
       → IsCoefficient s wind place (coefficientOf s wind place)
-  unfolding flatColumn
   coefficient-is roofed =
       by-test (wallPlace place)
       (λ w. rw (on-wall s wind place w) (onWall w (value-near (wallWay s) (wallColumn wind place) (lit< tt))))
-      (λ w. let value = on-roof (roofed w) in
-      by-test (eqb (s .kind) 1)
-      (λ e.
-      let k = eqb-true (s .kind) 1 e in rw (on-gable s wind place w k) (onGable w k (value (gableColumn wind place))))
-      (λ e. let k = eqb-false (s .kind) 1 e in
-      let some = roofed w in
-      by-test (eqb place F)
-      (λ f. let p = eqb-true place F f in rw (on-f s wind place w k p) (onF w (omega arith) p (value 1)))
-      (λ f.
-      let p = eqb-false place F f in
-      rw (on-flat s wind place w k p) (onFlat w (omega arith) p (value (flatColumn place))))))
+      (λ w. let value = on-roof (roofed w) (roofColumn (s .kind) wind place) in
+      by-test (twoSigns (s .kind) place)
+      (λ e. rw (on-f s wind place w e) (onF w (roofed w) e value))
+      (λ e. rw (on-one s wind place w e) (onRoof w (roofed w) e value)))
 
   -- and nothing else is
   one-only : 0 < s .kind → (col : ℕ) (values : ℤ → Values) {w : Way} {v : ℤ} → OnRoof s col w v
@@ -62,16 +54,13 @@ module _ (s : Sizes) (o : SizesInOrder s) (wind place : ℕ) where
       ∙ ap (λ (u : Way). cites (values (valueAt u col)) u) e
 
   pub coefficient-only : {c : Cited} → IsCoefficient s wind place c → c ≡ coefficientOf s wind place
-  unfolding flatColumn
   coefficient-only (onWall w n) =
       let value = near-value (wallWay s) (wallColumn wind place) (lit< tt) n in
       rw (on-wall s wind place w, value)
-  coefficient-only (onGable w k r) =
-      one-only (omega arith) (gableColumn wind place) One r ∙ sym (on-gable s wind place w k)
-  coefficient-only (onFlat w k p r) =
-      one-only (omega arith) (flatColumn place) One r ∙ sym (on-flat s wind place w (λ e. omega arith) p)
-  coefficient-only (onF w k p r) =
-      one-only (omega arith) 1 (λ v. Two v (negℤ v)) r ∙ sym (on-f s wind place w (λ e. omega arith) p)
+  coefficient-only (onRoof w k e r) =
+      one-only k (roofColumn (s .kind) wind place) One r ∙ sym (on-one s wind place w e)
+  coefficient-only (onF w k e r) =
+      one-only k (roofColumn (s .kind) wind place) (λ v. Two v (negℤ v)) r ∙ sym (on-f s wind place w e)
 
   pub coefficient-unique : {c d : Cited} → IsCoefficient s wind place c → IsCoefficient s wind place d → c ≡ d
   coefficient-unique i j = coefficient-only i ∙ sym (coefficient-only j)

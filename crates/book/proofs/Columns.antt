@@ -9,7 +9,8 @@ use Rattle.whole.proofs.Tests.{or-left}
 use Rattle.building.specs.Test.{among}
 use Rattle.building.specs.Places.{A, D, E, F, G, L1, wallLocal, wallPlace}
 use Rattle.building.proofs.Places.{among-yes}
-use Rattle.book.specs.Question.{wallColumn, gableColumn, flatColumn}
+use Rattle.book.specs.Roofs.{width}
+use Rattle.book.specs.Question.{wallColumn, gableColumn, flatColumn, roofColumn}
 
 pub wall-letter : (place : ℕ) → wallPlace place ≡ true → (place ≡ wallLocal → ⊥) → (A ≤ place) × (place ≤ D)
 wall-letter place e n = among-yes A D place (or-left (among A D place) (ne-eqb place wallLocal n) e)
@@ -27,14 +28,19 @@ pick-below : (t : Bool) {m n k : ℕ} → m < k → n < k → cond t m n < k
 pick-below true h g = h
 pick-below false h g = g
 
-pub gableColumn-below : (wind zone : ℕ) → gableColumn wind zone < 4
+gableColumn-below : (wind zone : ℕ) → gableColumn wind zone < 4
 unfolding gableColumn
 gableColumn-below wind zone =
     pick-below (eqb wind 0) (pick-below (leb zone F) (lit< tt) (lit< tt))
     (pick-below (eqb zone E || eqb zone G) (lit< tt) (lit< tt))
 
-pub flatColumn-below : (place : ℕ) → flatColumn place < 4
+flatColumn-below : (place : ℕ) → flatColumn place < 4
 unfolding flatColumn
 flatColumn-below place =
     pick-below (eqb place E) (lit< tt)
     (pick-below (eqb place F) (lit< tt) (pick-below (eqb place L1) (lit< tt) (lit< tt)))
+
+pub roofColumn-below : (kind wind place : ℕ) → roofColumn kind wind place < width kind
+unfolding roofColumn
+roofColumn-below kind wind place =
+    pick-below (eqb kind 1) (gableColumn-below wind place) (flatColumn-below place)

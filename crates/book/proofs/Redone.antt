@@ -3,25 +3,24 @@ use mathlib.Core.Path.{_≡_}
 use mathlib.Core.Bool.{false}
 use mathlib.Core.List.{List}
 use Prim.Native.Nat.{ℕ, _<_}
-use lib.Dec.{eqb, lit<}
+use lib.Dec.{lit<}
 use lib.IntN.{negℤ}
-use borrow.Author.Tests.{eqb-true, eqb-false}
 use Rattle.whole.proofs.Tests.{by-test}
 use Rattle.building.specs.declared.Sizes.{Sizes}
 use Rattle.building.specs.Order.{SizesInOrder}
-use Rattle.building.specs.Places.{F, wallPlace}
+use Rattle.building.specs.Places.{wallPlace}
 use Rattle.book.specs.declared.Values.the-variants.{One, Two}
 use Rattle.book.specs.Row.{Row, rowNumbered}
 use Rattle.book.specs.Line.{Way, valueAt}
 use Rattle.book.specs.Walls.{wallTable, wallWay}
 use Rattle.book.specs.Roofs.{roofTable, roofWay}
 use Rattle.book.specs.Answer.{cites}
-use Rattle.book.specs.Question.{wallColumn, gableColumn, flatColumn, coefficientOf}
+use Rattle.book.specs.Question.{wallColumn, roofColumn, twoSigns, coefficientOf}
 use Rattle.book.specs.ByHand.{tableFor, columnFor, ByHand}
 use Rattle.book.proofs.Interpolated.{value-near}
 use Rattle.book.proofs.Rows.{wallRow-listed}
 use Rattle.book.proofs.Roofed.{way-is, rows-listed}
-use Rattle.book.proofs.Answers.{on-wall, on-gable, on-f, on-flat, column-F}
+use Rattle.book.proofs.Answers.{on-wall, on-f, on-one}
 
 -- a way whose rows the table lists under their numbers
 module _ (table : List Row) (w : Way) (col : ℕ) (some : 0 < w .whole)
@@ -44,15 +43,9 @@ module _ (s : Sizes) (o : SizesInOrder s) (wind place : ℕ) where
       (λ w. let l = rows-listed s o (roofed w) in
       let some = way-is s .some in
       let table = roofTable (s .kind) in
-      by-test (eqb (s .kind) 1)
+      let col = roofColumn (s .kind) wind place in
+      by-test (twoSigns (s .kind) place)
       (λ e.
-      rw (on-gable s wind place w (eqb-true (s .kind) 1 e), w, e)
-      (rw e at (one-redone table (roofWay s) (gableColumn wind place) some (l .0 .found) (l .1 .found))))
-      (λ e. let k = eqb-false (s .kind) 1 e in
-      by-test (eqb place F)
-      (λ f. let p = eqb-true place F f in
-      rw (on-f s wind place w k p, w, e, column-F p)
-      (rw e at (both-redone table (roofWay s) 1 some (l .0 .found) (l .1 .found))))
-      (λ f. let p = eqb-false place F f in
-      rw (on-flat s wind place w k p, w, e)
-      (rw e at (one-redone table (roofWay s) (flatColumn place) some (l .0 .found) (l .1 .found))))))
+      rw (on-f s wind place w e, w) (both-redone table (roofWay s) col some (l .0 .found) (l .1 .found)))
+      (λ e.
+      rw (on-one s wind place w e, w) (one-redone table (roofWay s) col some (l .0 .found) (l .1 .found))))

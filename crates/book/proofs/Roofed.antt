@@ -1,6 +1,6 @@
 -- The roof of a building in order: its part of the tables, the rows that x lies between, and how large a value is.
 use mathlib.Core.Path.{_≡_, refl, sym, _∙_, subst, subst₂}
-use mathlib.Core.Bool.{cond}
+use mathlib.Core.Bool.{true}
 use mathlib.Core.List.{List, [], _∷_}
 use Prim.Native.Nat.{ℕ, _+_, _-_, _*_, _≤_, _<_}
 use native.Mathlib.Omega.{arith}
@@ -14,12 +14,13 @@ use Rattle.whole.proofs.Lists.{every-at}
 use Rattle.building.specs.declared.Sizes.{Sizes}
 use Rattle.building.specs.Roof.{roofOf}
 use Rattle.building.specs.Order.{SizesInOrder}
+use Rattle.building.proofs.Places.{among-yes}
 use Rattle.book.specs.Row.{Row, hundredths, Standing}
 use Rattle.book.specs.Line.{Way, wayIn, valueAt}
 use Rattle.book.specs.Interpolated.{LiesAt}
 use Rattle.book.specs.NoHalf.{NoHalfOn}
 use Rattle.book.specs.Gable.{gableParts, blockOf}
-use Rattle.book.specs.Roofs.{partOf, roofTable, roofWay}
+use Rattle.book.specs.Roofs.{flatRoof, partOf, roofTable, lastNumber, roofWay}
 use Rattle.book.proofs.Ways.{noStanding, way-rows, Proper, way-proper, way-small}
 use Rattle.book.proofs.Walked.{lastAt, lies-walked, lies-only}
 use Rattle.book.proofs.Tables.{SmallRow, SmallZones, Listed, Part, gable-part, flat-part, gable-small}
@@ -30,10 +31,6 @@ use Rattle.book.proofs.Slopes.{gable-no-half}
 
 abbrev No-half-in : List Standing → Type 0
 No-half-in rows = (x : ℕ) (w : Way) → LiesAt rows x 1 w → NoHalfOn w
-
--- how many rows the table of a roof of a kind has
-abbrev pub lastNumber : ℕ → ℕ
-lastNumber kind = cond (eqb kind 1) 22 10
 
 -- the fraction of the way is one
 pub way-is : (s : Sizes) → Proper (roofWay s)
@@ -119,9 +116,10 @@ module _ (s : Sizes) (o : SizesInOrder s) (roofed : 0 < s .kind) where
       let r = way-rows-of (SmallRow 120) small in
       value-small 120 col (r .0 .at col) (r .1 .at col)
 
-  pub flatValue-small : (s .kind ≡ 1 → ⊥) → (col : ℕ) → col < 2 → natAbs (valueAt (roofWay s) col) ≤ 1200
+  pub flatValue-small : flatRoof (s .kind) ≡ true → (col : ℕ) → col < 2 → natAbs (valueAt (roofWay s) col) ≤ 1200
   flatValue-small f col h =
+      let k = among-yes 2 5 (s .kind) f in
       let small : Every (λ (r : Standing). SmallZones 120 (r .row)) (partOf s) =
-      rw (ne-eqb (s .kind) 1 f) (flat-small (s .kind - 2)) in
+      rw (ne-eqb (s .kind) 1 (λ e. omega arith)) (flat-small (s .kind - 2)) in
       let r = way-rows-of (SmallZones 120) small in
       value-small 120 col (r .0 .at col h) (r .1 .at col h)

@@ -1,5 +1,6 @@
 -- An answer: the rows that its values cite, and a zone's alternatives in order.
 use mathlib.Core.Path.{_≡_}
+use mathlib.Core.Bool.{true}
 use mathlib.Core.List.{List, [], _∷_}
 use Prim.Native.Nat.{ℕ, _≤_}
 use lib.IntN.{ℤ, natAbs}
@@ -10,6 +11,7 @@ use Rattle.book.specs.declared.Cited.{Cited}
 use Rattle.book.specs.declared.Answer.{Answer}
 use Rattle.book.specs.declared.Answer.the-variants.{Answered, Refused}
 use Rattle.book.specs.Line.{Way}
+use Rattle.book.specs.Roofs.{flatRoof}
 
 -- values that lie on a way, with the numbers of its rows
 abbrev pub cites : Values → Way → Cited
@@ -33,4 +35,4 @@ valuesOf (Refused v) = []
 -- the alternatives of a place on a roof of a kind, none above k in size: two only in zone F of a flat roof
 pub data Alternatives (k kind place : ℕ) : List ℤ → Type 0 where
   one : {v : ℤ} → natAbs v ≤ k → Alternatives k kind place (v ∷ [])
-  two : {v w : ℤ} → natAbs v ≤ k → natAbs w ≤ k → place ≡ F → 2 ≤ kind → Alternatives k kind place (v ∷ w ∷ [])
+  two : {v w : ℤ} → natAbs v ≤ k → natAbs w ≤ k → place ≡ F → flatRoof kind ≡ true → Alternatives k kind place (v ∷ w ∷ [])

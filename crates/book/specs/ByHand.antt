@@ -3,7 +3,6 @@ use mathlib.Core.Bool.{cond}
 use mathlib.Core.List.{List}
 use Prim.Native.Nat.{ℕ}
 use lib.IntN.{pos}
-use lib.Dec.{eqb}
 use lib.ListN.{getD}
 use Rattle.building.specs.declared.Sizes.{Sizes}
 use Rattle.building.specs.Places.{wallPlace}
@@ -14,7 +13,7 @@ use Rattle.book.specs.Interpolated.{NearLine}
 use Rattle.book.specs.Walls.{wallTable}
 use Rattle.book.specs.Roofs.{roofTable}
 use Rattle.book.specs.Answer.{valuesIn}
-use Rattle.book.specs.Question.{wallColumn, gableColumn, flatColumn}
+use Rattle.book.specs.Question.{wallColumn, roofColumn}
 
 -- the table for a place, and the column in it
 abbrev pub tableFor : Sizes → ℕ → List Row
@@ -22,8 +21,7 @@ tableFor s place = cond (wallPlace place) wallTable (roofTable (s .kind))
 
 abbrev pub columnFor : Sizes → ℕ → ℕ → ℕ
 columnFor s wind place =
-    cond (wallPlace place) (wallColumn wind place)
-    (cond (eqb (s .kind) 1) (gableColumn wind place) (flatColumn place))
+    cond (wallPlace place) (wallColumn wind place) (roofColumn (s .kind) wind place)
 
 -- the way that an answer cites, with the rows that the table has under these numbers
 abbrev pub wayCited : List Row → Cited → Way

@@ -1,5 +1,5 @@
 -- The question about one zone or local: its column, its coefficient and, less the internal coefficient, its net.
-use mathlib.Core.Bool.{Bool, cond, _||_}
+use mathlib.Core.Bool.{Bool, cond, _&&_, _||_}
 use Prim.Native.Nat.{ℕ, _+_, _-_}
 use lib.IntN.{ℤ, pos, negℤ, natAbs, _-ℤ_, _*ℤ_}
 use lib.Dec.{leb, eqb}
@@ -18,7 +18,7 @@ use Rattle.book.specs.declared.Values.{Values}
 use Rattle.book.specs.declared.Values.the-variants.{One, Two}
 use Rattle.book.specs.Line.{Way, valueAt}
 use Rattle.book.specs.Walls.{wallWay}
-use Rattle.book.specs.Roofs.{roofWay}
+use Rattle.book.specs.Roofs.{flatRoof, roofWay}
 use Rattle.book.specs.Answer.{cites}
 
 -- ---- the coefficient
@@ -33,7 +33,15 @@ gableColumn wind zone = cond (eqb wind 0) (cond (leb zone F) 0 1) (cond (eqb zon
 unfoldable pub flatColumn : ℕ → ℕ
 flatColumn place = cond (eqb place E) 0 (cond (eqb place F) 1 (cond (eqb place L1) 2 3))
 
--- the value of a column; F of a flat roof: first plus, second minus
+-- which column of the table of a roof of a kind
+unfoldable pub roofColumn : ℕ → ℕ → ℕ → ℕ
+roofColumn kind wind place = cond (eqb kind 1) (gableColumn wind place) (flatColumn place)
+
+-- a place has both signs of its value: zone F of a flat roof
+unfoldable pub twoSigns : ℕ → ℕ → Bool
+twoSigns kind place = flatRoof kind && eqb place F
+
+-- the value of a column; or both signs of it, first plus, second minus
 abbrev pub oneAt : Way → ℕ → Cited
 oneAt w col = cites (One (valueAt w col)) w
 
@@ -42,9 +50,9 @@ bothSigns w col = cites (Two (valueAt w col) (negℤ (valueAt w col))) w
 
 unfoldable pub coefficientOf : Sizes → ℕ → ℕ → Cited
 coefficientOf s wind place =
+    let col = roofColumn (s .kind) wind place in
     cond (wallPlace place) (oneAt (wallWay s) (wallColumn wind place))
-    (cond (eqb (s .kind) 1) (oneAt (roofWay s) (gableColumn wind place))
-    (cond (eqb place F) (bothSigns (roofWay s) (flatColumn F)) (oneAt (roofWay s) (flatColumn place))))
+    (cond (twoSigns (s .kind) place) (bothSigns (roofWay s) col) (oneAt (roofWay s) col))
 
 -- ---- the question
 

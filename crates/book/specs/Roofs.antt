@@ -1,18 +1,29 @@
 -- Roofs: the table of a roof, its part for this building, and where x lies in it.
-use mathlib.Core.Bool.{cond}
+use mathlib.Core.Bool.{Bool, cond}
 use mathlib.Core.List.{List, []}
 use Prim.Native.Nat.{ℕ, _-_}
 use lib.Dec.{eqb}
 use lib.ListN.{getD}
 use Rattle.building.specs.declared.Sizes.{Sizes}
+use Rattle.building.specs.Test.{among}
 use Rattle.book.specs.Row.{Row, Standing}
 use Rattle.book.specs.Line.{Way, wayIn}
 use Rattle.book.specs.Gable.{gableParts, gableTable, blockOf}
 use Rattle.book.specs.Flat.{flatParts, flatTable}
 
--- the table of a roof of a kind
+-- kinds 2 to 5
+abbrev pub flatRoof : ℕ → Bool
+flatRoof kind = among 2 5 kind
+
+-- the table of a roof of a kind, how many rows it numbers, and how many columns it has
 abbrev pub roofTable : ℕ → List Row
 roofTable kind = cond (eqb kind 1) gableTable flatTable
+
+abbrev pub lastNumber : ℕ → ℕ
+lastNumber kind = cond (eqb kind 1) 22 10
+
+abbrev pub width : ℕ → ℕ
+width kind = 4
 
 -- a gable's part goes by h/b, a flat roof's by its kind
 abbrev pub partOf : Sizes → List Standing

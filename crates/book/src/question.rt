@@ -11,7 +11,8 @@ ghost use Rattle.book.specs.Answer.{valuesIn};
 ghost use Rattle.book.specs.Spot.{citesAt};
 ghost use Rattle.book.specs.Walls.{wallWay};
 ghost use Rattle.book.specs.Question as question;
-ghost use Rattle.book.specs.Question.{wallColumn, gableColumn, flatColumn, oneAt, coefficientOf, netCited};
+ghost use Rattle.book.specs.Question.{wallColumn, gableColumn, flatColumn, roofColumn, twoSigns, oneAt};
+ghost use Rattle.book.specs.Question.{coefficientOf, netCited};
 use super::Cited;
 use super::Values;
 use super::line::Spot;
@@ -82,6 +83,29 @@ fn flat_column(place: u8) -> usize
     3
 }
 
+// The column of a place in the table of its roof.
+fn roof_column(kind: u64, wind: u64, place: u8) -> usize
+    ensures { λ r. ⌜ r ≡ roofColumn kind wind place ⌝ }
+{
+    if kind == 1 {
+        return gable_column(wind, place);
+    }
+    flat_column(place)
+}
+
+// Zone F of a flat roof.
+fn two_signs(kind: u64, place: u8) -> bool
+    ensures { λ r. ⌜ r ≡ twoSigns kind place ⌝ }
+{
+    if kind < 2 {
+        return false;
+    }
+    if 5 < kind {
+        return false;
+    }
+    place == b'F'
+}
+
 fn both_signs(v: i32) -> Values
     requires { ⌜ natAbs v ≤ 2500 ⌝ }
     ensures { λ r. ⌜ r ≡ Two v (negℤ v) ⌝ }
@@ -119,11 +143,8 @@ fn on_roof(s: Sizes, wind: u64, place: u8) -> Cited
     ensures { λ r. ⌜ r ≡ coefficientOf s wind place ⌝ }
 {
     let w = roof_way(s);
-    if s.kind == 1 {
-        return cited(Values::One(roof_value(s, w, gable_column(wind, place))), w);
-    }
-    let v = roof_value(s, w, flat_column(place));
-    if place == b'F' {
+    let v = roof_value(s, w, roof_column(s.kind, wind, place));
+    if two_signs(s.kind, place) {
         return cited(both_signs(v), w);
     }
     cited(Values::One(v), w)

@@ -10,7 +10,7 @@ ghost use Rattle.book.specs.Line.{wayIn, valueAt};
 ghost use Rattle.book.specs.Spot.{spotOf};
 ghost use Rattle.book.specs.Gable.{gableParts, gableTable, heights, blockOf};
 ghost use Rattle.book.specs.Flat.{flatParts, flatTable};
-ghost use Rattle.book.specs.Roofs.{partOf, roofTable, roofWay};
+ghost use Rattle.book.specs.Roofs.{partOf, roofTable, lastNumber, width, roofWay};
 use super::line::Spot;
 use super::line::between;
 use super::line::line_at;
@@ -183,7 +183,7 @@ fn flat_cell(row: u32, col: usize) -> i16
 
 // The hundredths of a row and column of the roof's table.
 fn cell(kind: u64, row: u32, col: usize) -> i16
-    requires { ⌜ (0 < row) × (kind ≡ 1 → row ≤ 22) × ((kind ≡ 1 → ⊥) → row ≤ 10) × (col < 4) ⌝ }
+    requires { ⌜ (0 < row) × (row ≤ lastNumber kind) × (col < width kind) ⌝ }
     ensures { λ r. ⌜ r ≡ hundredths (rowNumbered row (roofTable kind)) col ⌝ }
 {
     if kind == 1 {
@@ -195,7 +195,7 @@ fn cell(kind: u64, row: u32, col: usize) -> i16
 // The value of a column where x lies. A half can come up on a flat roof, and on a gable none does.
 pub(crate) fn roof_value(s: Sizes, w: Spot, col: usize) -> i32
     requires { ⌜ SizesInOrder s ⌝ }
-    requires { ⌜ (0 < s .kind) × (w ≡ spotOf (roofWay s)) × (col < 4) ⌝ }
+    requires { ⌜ (0 < s .kind) × (w ≡ spotOf (roofWay s)) × (col < width (s .kind)) ⌝ }
     ensures { λ r. ⌜ r ≡ valueAt (roofWay s) col ⌝ }
 {
     let lower = cell(s.kind, w.lower, col);

@@ -1,25 +1,28 @@
 -- Zones and locals: a place that is not on the walls needs a roof. And what the directions are that a roof knows.
-use mathlib.Core.Path.{_≡_, refl, sym, subst}
-use mathlib.Core.Logic.{⊎-elim}
+use mathlib.Core.Path.{_≡_, refl, sym, ap, subst}
+use mathlib.Core.Logic.{_⊎_, ⊎-elim, inl, inr}
 use mathlib.Core.List.{List, [], _∷_}
 use mathlib.Core.Bool.{Bool, true, false, _&&_, _||_, true≢false, false≢true}
 use Prim.Native.Nat.{ℕ, zero, suc, _≤_, _<_}
 use native.Mathlib.Omega.{arith}
 use lib.Dec.{leb, eqb}
 use lib.IntN.{ℤ, pos, negsuc, natAbs}
-use borrow.Author.Tests.{leb-true, ne-eqb}
+use borrow.Author.Tests.{leb-true, le-leb, not-true}
 use Rattle.whole.specs.Lists.{Every}
 use Rattle.whole.proofs.Tests.{or-true, or-false, and-true}
 use Rattle.building.specs.Test.{among, is, oneOf, beyond}
 use Rattle.building.specs.Places.{A, D, E, F, H, wallLocal, gable, flat, zoneOn, localOn, wallPlace}
 use Rattle.building.specs.Places.{directions, knows}
-use Rattle.building.proofs.Accepted.{Within}
+use Rattle.building.proofs.Accepted.{Within, within}
 use Rattle.building.proofs.Machine.{is-same}
 
 pub among-yes : (least greatest n : ℕ) → among least greatest n ≡ true → (least ≤ n) × (n ≤ greatest)
 among-yes least greatest n e =
     let r = and-true (leb least n) (leb n greatest) e in
     (leb-true least n (r .0), leb-true n greatest (r .1))
+
+pub among-is : {least greatest n : ℕ} → least ≤ n → n ≤ greatest → among least greatest n ≡ true
+among-is {least} {greatest} {n} h k = rw (le-leb least n h, le-leb n greatest k)
 
 nowhere : (t u : Bool) → (t || u) ≡ false → ((t || (false || false)) || (u || false)) ≡ true → ⊥
 nowhere true u e f = true≢false e
@@ -33,24 +36,25 @@ needs-roof (pos zero) place e f = absurd (nowhere (among A D place) (eqb place w
 needs-roof (pos (suc n)) place e f = omega arith
 needs-roof (negsuc n) place e f = omega arith
 
--- a roof's zone that is neither a gable's nor F is E
-no-gable : (kind : ℤ) → (natAbs kind ≡ 1 → ⊥) → gable kind ≡ false
-no-gable (pos k) h = ne-eqb k 1 h
-no-gable (negsuc k) h = refl
+-- ---- the zones of roofs
 
-last-of : (t u v w z : Bool) → t ≡ false → u ≡ false → (t || (u && v || w && z)) ≡ true → z ≡ true
-last-of t u v w z e f k = and-true w z (rw (e, f) at k) .1
+is-gable : (kind : ℤ) → gable kind ≡ true → natAbs kind ≡ 1
+is-gable kind e = ap natAbs (is-same (pos 1) kind e)
 
-pub must-be-E : (kind : ℤ) (zone : ℕ) → zoneOn kind zone ≡ true → wallPlace zone ≡ false → (natAbs kind ≡ 1 → ⊥)
-    → (zone ≡ F → ⊥) → zone ≡ E
+is-flat : (kind : ℤ) → flat kind ≡ true → Within 2 5 kind
+is-flat kind e = within 2 5 kind (not-true (beyond (pos 2) (pos 5) kind) e)
+
+-- a zone that is not on the walls is a gable's, or E or F of a flat roof
+pub roof-zone : (kind : ℤ) (zone : ℕ) → zoneOn kind zone ≡ true → wallPlace zone ≡ false
+    → (natAbs kind ≡ 1) ⊎ (Within 2 5 kind × (E ≤ zone) × (zone ≤ F))
 unfolding zoneOn
-must-be-E kind zone e f g h =
-    let r =
-    among-yes E F zone
-    (last-of (among A D zone) (gable kind) (among E H zone) (flat kind) (among E F zone)
-    (or-false (among A D zone) (eqb zone wallLocal) f .0) (no-gable kind g) e)
-    in
-    omega arith
+roof-zone kind zone e f =
+    let off = or-false (among A D zone) (eqb zone wallLocal) f .0 in
+    let on = or-true (gable kind && among E H zone) (flat kind && among E F zone) (rw off at e) in
+    ⊎-elim (λ g. inl (is-gable kind (and-true (gable kind) (among E H zone) g .0)))
+    (λ g. let r = and-true (flat kind) (among E F zone) g in
+    let z = among-yes E F zone (r .1) in
+    inr (is-flat kind (r .0), z .0, z .1)) on
 
 -- ---- directions
 

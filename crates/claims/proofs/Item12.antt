@@ -17,7 +17,7 @@ use Rattle.book.specs.Interpolated.{Neighbours, LiesBetween, LiesAt}
 use Rattle.book.specs.NoHalf.{NoHalf, NoHalfOn, InTens, DegreesApart}
 use Rattle.book.specs.Gable.{gableParts}
 use Rattle.book.specs.Roofs.{roofWay}
-use Rattle.book.specs.Question.{outsideOf, coefficientOf, flatColumn}
+use Rattle.book.specs.Question.{outsideOf, coefficientOf, flatColumn, roofColumn, twoSigns}
 use Rattle.book.proofs.Slopes.{gable-in-tens, gable-apart, gable-distances, gable-slopes}
 use Rattle.claims.proofs.Printed.{gives, Holds, shed, m}
 
@@ -67,5 +67,6 @@ no-half-on-a-gable = gable-slopes
 
 pub half-on-a-flat-roof : HalfOnAFlatRoof
 unfolding divisorUpTo commonDivisor outsideOf askedOf givenFault buildingFault outOfForm outOfRange outOfWalls outOfRoof
-    tooLong beyond zoneOn localOn knows roofOf coefficientOf flatColumn roofWay wayIn onStraight halfUp roundAway leftOver
+    tooLong beyond zoneOn localOn knows roofOf coefficientOf flatColumn roofColumn twoSigns roofWay wayIn onStraight
+    halfUp roundAway leftOver
 half-on-a-flat-roof = (refl, refl)

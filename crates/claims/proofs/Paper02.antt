@@ -17,7 +17,7 @@ use Rattle.book.specs.Walls.{wallWay}
 use Rattle.book.specs.Roofs.{partOf}
 use Rattle.book.specs.Answer.{cites}
 use Rattle.book.specs.Question.{outsideOf}
-use Rattle.book.specs.Coefficient.{IsCoefficient, onWall, onGable, onFlat, onF}
+use Rattle.book.specs.Coefficient.{IsCoefficient, onWall, onRoof, onF}
 use Rattle.book.specs.ByHand.{tableFor, columnFor, ByHand}
 use Rattle.book.proofs.Coefficients.{coefficient-only}
 use Rattle.book.proofs.Redone.{redone}
@@ -49,14 +49,12 @@ module _ (s : Sizes) (wind place : ℕ) where
   on-roof : {c : Cited} → IsCoefficient s wind place c → wallPlace place ≡ false
       → (w : Way) × LiesAt (partOf s) (s .along) (s .across) w × (c ≡ cites (c .values) w)
   on-roof (onWall e n) f = clash e f
-  on-roof (onGable {w} e k r) f = (w, r .lies, refl)
-  on-roof (onFlat {w} e k p r) f = (w, r .lies, refl)
+  on-roof (onRoof {w} e k p r) f = (w, r .lies, refl)
   on-roof (onF {w} e k p r) f = (w, r .lies, refl)
 
   on-wall : {c : Cited} → IsCoefficient s wind place c → wallPlace place ≡ true → c ≡ cites (c .values) (wallWay s)
   on-wall (onWall e n) f = refl
-  on-wall (onGable e k r) f = clash f e
-  on-wall (onFlat e k p r) f = clash f e
+  on-wall (onRoof e k p r) f = clash f e
   on-wall (onF e k p r) f = clash f e
 
 pub answers-cite-rows : AnswersCiteRows

@@ -15,7 +15,7 @@ use Rattle.book.specs.Line.{wayIn, onStraight}
 use Rattle.book.specs.Walls.{wallRow}
 use Rattle.book.specs.Gable.{blockOf}
 use Rattle.book.specs.Roofs.{roofWay}
-use Rattle.book.specs.Question.{outsideOf, coefficientOf, wallColumn, gableColumn, flatColumn}
+use Rattle.book.specs.Question.{outsideOf, coefficientOf, wallColumn, gableColumn, flatColumn, roofColumn, twoSigns}
 use Rattle.claims.proofs.Printed.{Row, gives, Holds, shed, m, _and_}
 
 abbrev pub worked : List Row
@@ -35,7 +35,7 @@ worked =
 
 pub worked-hold : Every Holds worked
 unfolding outsideOf askedOf givenFault buildingFault outOfForm outOfRange outOfWalls outOfRoof tooLong beyond zoneOn
-    localOn knows roofOf coefficientOf wallColumn gableColumn flatColumn wallRow blockOf roofWay wayIn divisorUpTo
+    localOn knows roofOf coefficientOf wallColumn gableColumn flatColumn roofColumn twoSigns wallRow blockOf roofWay wayIn divisorUpTo
     commonDivisor onStraight halfUp roundAway
 worked-hold =
     refl and refl and refl and refl and refl and refl and refl and refl and refl and refl and refl and tt

@@ -7,7 +7,7 @@ use Rattle.book.proofs.roofs.cell.Statement.{statement}
 use Rattle.book.proofs.roofs.cell.Tie as tie
 
 gable-cell-requires : tie.Need-gable-cell-requires
-gable-cell-requires c κs = let s = c .before in (s .pre .0, s .pre .1 (c .if1 .taken), s .pre .3)
+gable-cell-requires c κs = let s = c .before in (s .pre .0, rw (eq-eqb _ 1 (c .if1 .taken)) at (s .pre .1), s .pre .2)
 
 returns : tie.Need-returns
 returns c =
@@ -16,7 +16,7 @@ returns c =
     (returned w16 (c .gable-cell .result) (c .gable-cell .ok) .same ∙ c .gable-cell .ensures)
 
 flat-cell-requires : tie.Need-flat-cell-requires
-flat-cell-requires c κs = let s = c .before in (s .pre .0, s .pre .2 (c .if1 .left), s .pre .3)
+flat-cell-requires c κs = let s = c .before in (s .pre .0, rw (ne-eqb _ 1 (c .if1 .left)) at (s .pre .1), s .pre .2)
 
 returns-2 : tie.Need-returns-2
 returns-2 c =

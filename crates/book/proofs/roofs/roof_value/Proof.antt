@@ -3,7 +3,6 @@ use mathlib.Core.Path.{_≡_, refl, sym, ap, _∙_, subst, subst₂}
 use mathlib.Core.List.{List}
 use Prim.Native.Nat.{ℕ, _^_, _≤_, _<_}
 use native.Mathlib.Omega.{arith}
-use borrow.Author.Tests.{eq-eqb, ne-eqb}
 use lib.IntN.{ℤ, natAbs}
 use lib.Signed.{mag}
 use mir.Syntax.{w16, w32}
@@ -14,21 +13,16 @@ use Rattle.book.specs.Row.{Row, hundredths, rowNumbered}
 use Rattle.book.specs.Line.{Way, onStraight, valueAt}
 use Rattle.book.specs.Spot.{spotOf}
 use Rattle.book.specs.NoHalf.{NoHalf}
-use Rattle.book.specs.Roofs.{roofTable, roofWay}
+use Rattle.book.specs.Roofs.{roofTable, lastNumber, width, roofWay}
 use Rattle.book.proofs.Tables.{Listed}
-use Rattle.book.proofs.Roofed.{lastNumber, way-is, way-few, rows-listed, rows-small, roof-no-half}
+use Rattle.book.proofs.Roofed.{way-is, way-few, rows-listed, rows-small, roof-no-half}
 use Rattle.book.proofs.roofs.roof_value.Statement.{statement}
 use Rattle.book.proofs.roofs.roof_value.Tie as tie
 
 -- a row of the table by its number
-in-table : {r : Row} (kind n col : ℕ) → n ≡ r .number → Listed (roofTable kind) (lastNumber kind) r → col < 4
-    → (0 < n) × (kind ≡ 1 → n ≤ 22) × ((kind ≡ 1 → ⊥) → n ≤ 10) × (col < 4)
-in-table kind n col e l h = (
-  omega (arith, l .from),
-  λ k. omega (arith, rw (eq-eqb kind 1 k) at (l .to)),
-  λ k. omega (arith, rw (ne-eqb kind 1 k) at (l .to)),
-  h,
-)
+in-table : {r : Row} (kind n col : ℕ) → n ≡ r .number → Listed (roofTable kind) (lastNumber kind) r → col < width kind
+    → (0 < n) × (n ≤ lastNumber kind) × (col < width kind)
+in-table kind n col e l h = (omega (arith, l .from), omega (arith, l .to), h)
 
 -- a cell of it, as the call of `line_at` has it
 read : {r : Row} (table : List Row) (k n col : ℕ) {v : ℤ} → mag v < 2 ^ 15 → v ≡ hundredths (rowNumbered n table) col
