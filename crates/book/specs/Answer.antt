@@ -35,4 +35,5 @@ valuesOf (Refused v) = []
 -- the alternatives of a place on a roof of a kind, none above k in size: two only in zone F of a flat roof
 pub data Alternatives (k kind place : ℕ) : List ℤ → Type 0 where
   one : {v : ℤ} → natAbs v ≤ k → Alternatives k kind place (v ∷ [])
-  two : {v w : ℤ} → natAbs v ≤ k → natAbs w ≤ k → place ≡ F → flatRoof kind ≡ true → Alternatives k kind place (v ∷ w ∷ [])
+  two : {v w : ℤ} → natAbs v ≤ k → natAbs w ≤ k → place ≡ F → flatRoof kind ≡ true
+      → Alternatives k kind place (v ∷ w ∷ [])

@@ -66,7 +66,7 @@ pub no-half-on-a-gable : NoHalfOnAGable
 no-half-on-a-gable = gable-slopes
 
 pub half-on-a-flat-roof : HalfOnAFlatRoof
-unfolding divisorUpTo commonDivisor outsideOf askedOf givenFault buildingFault outOfForm outOfRange outOfWalls outOfRoof
-    tooLong beyond zoneOn localOn knows roofOf coefficientOf flatColumn roofColumn twoSigns roofWay wayIn onStraight
-    halfUp roundAway leftOver
+unfolding divisorUpTo commonDivisor outsideOf askedOf givenFault buildingFault outOfForm outOfRange outOfWalls
+    outOfRoof tooLong beyond zoneOn localOn knows roofOf coefficientOf flatColumn roofColumn twoSigns roofWay wayIn
+    onStraight halfUp roundAway leftOver
 half-on-a-flat-roof = (refl, refl)

@@ -105,9 +105,10 @@ p and q = (p, q)
 
 pub printed-hold : Every Holds printed
 unfolding divisorUpTo commonDivisor outsideOf askedOf givenFault buildingFault outOfForm outOfRange outOfWalls
-    outOfRoof tooLong beyond zoneOn localOn knows roofOf coefficientOf wallColumn gableColumn flatColumn roofColumn twoSigns wallRow blockOf
-    roofWay wayIn onStraight halfUp roundAway roundDown leftOver reading linesIn linesFrom split fieldsOf fieldFrom
-    numeral unsigned negative digitsInForm allDigits valueAfter value readLines walk lineFault inForm hasForm
+    outOfRoof tooLong beyond zoneOn localOn knows roofOf coefficientOf wallColumn gableColumn flatColumn roofColumn
+    twoSigns wallRow blockOf roofWay wayIn onStraight halfUp roundAway roundDown leftOver reading linesIn linesFrom
+    split fieldsOf fieldFrom numeral unsigned negative digitsInForm allDigits valueAfter value readLines walk
+    lineFault inForm hasForm
 printed-hold =
     refl and refl and refl and refl  -- P1 to P4
     and refl and refl and refl and refl and refl  -- P5 to P7

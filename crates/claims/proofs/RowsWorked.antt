@@ -35,7 +35,7 @@ worked =
 
 pub worked-hold : Every Holds worked
 unfolding outsideOf askedOf givenFault buildingFault outOfForm outOfRange outOfWalls outOfRoof tooLong beyond zoneOn
-    localOn knows roofOf coefficientOf wallColumn gableColumn flatColumn roofColumn twoSigns wallRow blockOf roofWay wayIn divisorUpTo
-    commonDivisor onStraight halfUp roundAway
+    localOn knows roofOf coefficientOf wallColumn gableColumn flatColumn roofColumn twoSigns wallRow blockOf roofWay
+    wayIn divisorUpTo commonDivisor onStraight halfUp roundAway
 worked-hold =
     refl and refl and refl and refl and refl and refl and refl and refl and refl and refl and refl and tt

@@ -45,10 +45,9 @@ lines =
 
 pub sample : totalsText (reading (bytes sheet)) ≡ bytes lines
 unfolding divisorUpTo commonDivisor halfUp roundAway digitsWithin digits decimal allDigits valueAfter value
-    digitsInForm unsigned negative numeral fieldFrom split fieldsOf linesFrom linesIn wayIn onStraight wallRow
-    blockOf outOfRoof roofOf roofWay givenFault buildingFault outOfForm outOfRange outOfWalls tooLong zoneOn localOn
-    knows
-    wallColumn gableColumn flatColumn roofColumn twoSigns coefficientOf outsideOf askedOf beyond hasForm inForm lineFault walk readLines
-    reading better best numbers each choices total cases caseTotal worst padded shown sixExtremes spaced extremeText
-    axisText sixText reportText
+    digitsInForm unsigned negative numeral fieldFrom split fieldsOf linesFrom linesIn wayIn onStraight wallRow blockOf
+    outOfRoof roofOf roofWay givenFault buildingFault outOfForm outOfRange outOfWalls tooLong zoneOn localOn knows
+    wallColumn gableColumn flatColumn roofColumn twoSigns coefficientOf outsideOf askedOf beyond hasForm inForm
+    lineFault walk readLines reading better best numbers each choices total cases caseTotal worst padded shown
+    sixExtremes spaced extremeText axisText sixText reportText
 sample = refl
