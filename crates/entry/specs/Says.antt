@@ -1,13 +1,15 @@
 -- What a field says, as a number, a letter or a mark; and what the fields of a line say, as an entry.
 use Prim.Native.Nat.{ℕ}
-use mathlib.Core.Bool.{Bool, true, false, cond}
+use mathlib.Core.Bool.{Bool, true, false, cond, not}
 use mathlib.Core.List.{List}
 use lib.ListN.{getD}
 use lib.IntN.{ℤ, pos, negℤ}
 use Rattle.field.specs.declared.Field.{Field}
 use Rattle.field.specs.declared.Field.the-variants.{Bad, Plus, Minus, Letter, Dash}
 use Rattle.building.specs.declared.Building.{Building}
+use Rattle.building.specs.Test.{is}
 use Rattle.entry.specs.declared.Wind.{Wind}
+use Rattle.entry.specs.declared.Step.{Step}
 use Rattle.entry.specs.declared.Face.{Face}
 
 -- a mark that stands for both directions
@@ -66,12 +68,38 @@ windOf fs = record { direction = number (at fs 0); speed = number (at fs 1) }
 abbrev pub internalOf : List Field → ℤ
 internalOf fs = number (at fs 0)
 
-abbrev pub faceOf : List Field → Face
-faceOf fs =
+-- ---- the year, and what goes by it
+
+-- a sheet of any year but the first has a profile, and a height on each face line
+abbrev pub hasHeights : ℤ → Bool
+hasHeights year = not (is (pos 1) year)
+
+abbrev pub yearOf : List Field → ℤ
+yearOf fs = number (at fs 0)
+
+abbrev pub stepOf : List Field → Step
+stepOf fs = record { height = number (at fs 0); factor = number (at fs 1) }
+
+-- where faces have heights, the areas stand one field further on
+abbrev pub faceOf : Bool → List Field → Face
+faceOf heights fs =
     record {
       zone = letter (at fs 0);
       mark = mark (at fs 1);
-      x = number (at fs 2);
-      y = number (at fs 3);
-      z = number (at fs 4);
+      height = cond heights (number (at fs 2)) (pos 0);
+      x = number (at fs (cond heights 3 2));
+      y = number (at fs (cond heights 4 3));
+      z = number (at fs (cond heights 5 4));
+    }
+
+-- a face as a sheet carries it, with heights or without
+abbrev pub carriedFace : Bool → Face → Face
+carriedFace heights f =
+    record {
+      zone = f .zone;
+      mark = f .mark;
+      height = cond heights (f .height) (pos 0);
+      x = f .x;
+      y = f .y;
+      z = f .z;
     }

@@ -8,10 +8,17 @@ pub struct Wind {
     pub speed: i64,
 }
 
-// A face: its zone's letter, the direction that it is marked for, and its projected areas in dm².
+// A step of the profile: a height in cm, and the factor of the wind's speed there in thousandths.
+pub struct Step {
+    pub height: i64,
+    pub factor: i64,
+}
+
+// A face: its zone's letter, the direction that it is marked for, its height in cm, and its projected areas in dm².
 pub struct Face {
     pub zone: u8,
     pub mark: i64,
+    pub height: i64,
     pub x: i64,
     pub y: i64,
     pub z: i64,

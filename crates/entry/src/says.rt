@@ -1,6 +1,7 @@
 // What a field says, as a number, a letter or a mark; and what a line says, as an entry.
 use crate::BOTH;
 use crate::Face;
+use crate::Step;
 use crate::Wind;
 use building::Building;
 use field::Field;
@@ -8,7 +9,7 @@ use lines::Line;
 ghost use mathlib.Core.Path.{_≡_};
 ghost use Rattle.lines.specs.Held.{held};
 ghost use Rattle.entry.specs.Says.{number, size, letter, isDash, mark, at, buildingOf, windOf, internalOf};
-ghost use Rattle.entry.specs.Says.{faceOf};
+ghost use Rattle.entry.specs.Says.{hasHeights, yearOf, stepOf, faceOf, carriedFace};
 
 pub fn number_of(f: Field) -> i64
     ensures { λ r. ⌜ r ≡ number f ⌝ }
@@ -116,14 +117,63 @@ pub fn internal_of(x: Line) -> i64
     number_at(x, 0)
 }
 
-pub fn face_of(x: Line) -> Face
-    ensures { λ r. ⌜ r ≡ faceOf (held x) ⌝ }
+pub fn year_of(x: Line) -> i64
+    ensures { λ r. ⌜ r ≡ yearOf (held x) ⌝ }
 {
+    number_at(x, 0)
+}
+
+pub fn step_of(x: Line) -> Step
+    ensures { λ r. ⌜ r ≡ stepOf (held x) ⌝ }
+{
+    Step {
+        height: number_at(x, 0),
+        factor: number_at(x, 1),
+    }
+}
+
+pub fn face_of(heights: bool, x: Line) -> Face
+    ensures { λ r. ⌜ r ≡ faceOf heights (held x) ⌝ }
+{
+    if heights {
+        return Face {
+            zone: letter_at(x, 0),
+            mark: mark_at(x, 1),
+            height: number_at(x, 2),
+            x: number_at(x, 3),
+            y: number_at(x, 4),
+            z: number_at(x, 5),
+        };
+    }
     Face {
         zone: letter_at(x, 0),
         mark: mark_at(x, 1),
+        height: 0,
         x: number_at(x, 2),
         y: number_at(x, 3),
         z: number_at(x, 4),
     }
+}
+
+// ---- the year
+
+// Every year but the first has a profile, and a height for each face.
+pub fn has_heights(year: i64) -> bool
+    ensures { λ r. ⌜ r ≡ hasHeights year ⌝ }
+{
+    if year == 1 {
+        return false;
+    }
+    true
+}
+
+// A face as a sheet carries it, with heights or without.
+pub fn carried_face(heights: bool, f: Face) -> Face
+    ensures { λ r. ⌜ r ≡ carriedFace heights f ⌝ }
+{
+    let mut g = f;
+    if !heights {
+        g.height = 0;
+    }
+    g
 }

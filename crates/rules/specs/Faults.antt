@@ -1,14 +1,21 @@
 -- The faults of an entry by its values, the lowest number first. Those of a building are in crate `building`.
 use mathlib.Core.List.{List, [], _∷_}
-use mathlib.Core.Bool.{not, _||_}
+use mathlib.Core.Bool.{Bool, not, _&&_, _||_}
 use lib.IntN.{ℤ, pos, negℤ}
+use lib.Signed.{ltZ}
 use Rattle.building.specs.declared.Building.{Building}
 use Rattle.building.specs.Test.{among, is, beyond}
 use Rattle.building.specs.Fault.{Fault, fault}
 use Rattle.building.specs.Places.{A, H, zoneOn, knows}
 use Rattle.entry.specs.declared.Wind.{Wind}
+use Rattle.entry.specs.declared.Step.{Step}
 use Rattle.entry.specs.declared.Face.{Face}
-use Rattle.entry.specs.Says.{both}
+use Rattle.entry.specs.Says.{both, hasHeights}
+use Rattle.rules.specs.declared.Before.{Before}
+
+-- no year but 2 is written
+abbrev pub yearFaults : ℤ → List Fault
+yearFaults year = fault 3 (not (is (pos 2) year)) ∷ []
 
 abbrev pub windFaults : Building → Wind → List Fault
 windFaults g w =
@@ -19,16 +26,34 @@ windFaults g w =
 abbrev pub internalFaults : ℤ → List Fault
 internalFaults i = fault 3 (beyond (negℤ (pos 100)) (pos 100) i) ∷ []
 
+abbrev pub heightFault : ℤ → Fault
+heightFault z = fault 3 (beyond (pos 0) (pos 30000) z)
+
+-- a height that is not above the highest before it; a factor
+abbrev pub stepFaults : Before → Step → List Fault
+stepFaults b s =
+    heightFault (s .height)
+    ∷ fault 3 (not (ltZ (b .highest) (s .height)))
+    ∷ fault 3 (beyond (pos 1) (pos 1000) (s .factor))
+    ∷ []
+
 abbrev pub areaFault : ℤ → Fault
 areaFault z = fault 3 (beyond (negℤ (pos 100000)) (pos 100000) z)
 
--- no zone's letter; a mark neither for both directions nor for one; the areas; a zone that is not on the building
-abbrev pub faceFaults : Building → Face → List Fault
-faceFaults g f =
+-- a height that lies outside the profile, where there is one
+abbrev pub offProfile : Before → ℤ → Bool
+offProfile b z = hasHeights (b .year) && beyond (b .lowest) (b .highest) z
+
+-- no zone's letter; a mark neither for both directions nor for one; the height and the areas; a zone that is not on
+-- the building; a height outside the profile
+abbrev pub faceFaults : Before → Face → List Fault
+faceFaults b f =
     fault 1 (not (among A H (f .zone)))
-    ∷ fault 3 (not (is both (f .mark) || knows (g .kind) (f .mark)))
+    ∷ fault 3 (not (is both (f .mark) || knows (b .building .kind) (f .mark)))
+    ∷ heightFault (f .height)
     ∷ areaFault (f .x)
     ∷ areaFault (f .y)
     ∷ areaFault (f .z)
-    ∷ fault 6 (not (zoneOn (g .kind) (f .zone)))
+    ∷ fault 6 (not (zoneOn (b .building .kind) (f .zone)))
+    ∷ fault 8 (offProfile b (f .height))
     ∷ []

@@ -1,7 +1,7 @@
 -- The sections of the sheet as data, and the fault of one line.
 use Prim.Native.Nat.{ℕ}
 use mathlib.Core.List.{List, [], _∷_}
-use mathlib.Core.Bool.{not, cond}
+use mathlib.Core.Bool.{Bool, true, false, not, cond}
 use lib.Dec.{eqb}
 use lib.IntN.{ℤ, pos}
 use lib.ListN.{getD}
@@ -13,12 +13,12 @@ use Rattle.rules.specs.declared.Before.{Before}
 use Rattle.rules.specs.declared.FieldForm.{FieldForm}
 use Rattle.rules.specs.declared.FieldForm.the-variants as form
 use Rattle.rules.specs.declared.Section.{Section}
-use Rattle.rules.specs.declared.Section.the-variants.{B, W, I, F}
+use Rattle.rules.specs.declared.Section.the-variants.{«V», B, W, I, P, F}
 use Rattle.rules.specs.declared.Kind.{Kind}
 use Rattle.rules.specs.declared.Kind.the-variants.{Count, Entry}
-use Rattle.entry.specs.Says.{number, letter, at, buildingOf, windOf, internalOf, faceOf}
+use Rattle.entry.specs.Says.{number, letter, at, hasHeights, yearOf, buildingOf, windOf, internalOf, stepOf, faceOf}
 use Rattle.rules.specs.Form.{inForm, numberForms}
-use Rattle.rules.specs.Faults.{windFaults, internalFaults, faceFaults}
+use Rattle.rules.specs.Faults.{yearFaults, windFaults, internalFaults, stepFaults, faceFaults}
 
 -- a section: its letter, and its least and greatest count
 pub record About : Type 0 where
@@ -27,28 +27,34 @@ pub record About : Type 0 where
   pub most : ℕ
 
 abbrev pub about : Section → About
+about «V» = record { letter = 86; least = 1; most = 1 }
 about B = record { letter = 66; least = 1; most = 1 }
 about W = record { letter = 87; least = 1; most = 8 }
 about I = record { letter = 73; least = 1; most = 4 }
+about P = record { letter = 80; least = 1; most = 16 }
 about F = record { letter = 70; least = 1; most = 24 }
 
--- the sections of a sheet, in order
-abbrev pub sections : List Section
-sections = B ∷ W ∷ I ∷ F ∷ []
+-- the sections of a sheet, in order: of one with heights, and of one without
+abbrev pub sections : Bool → List Section
+sections true = «V» ∷ B ∷ W ∷ I ∷ P ∷ F ∷ []
+sections false = B ∷ W ∷ I ∷ F ∷ []
 
 -- the one behind the first i
-abbrev pub sectionAt : ℕ → Section
-sectionAt i = getD sections i B
+abbrev pub sectionAt : Bool → ℕ → Section
+sectionAt heights i = getD (sections heights) i «V»
 
 -- ---- the form of a line
 
--- letter and count; h a b density kind x; direction, speed; one coefficient; zone, mark and the areas on x, y, z
-abbrev pub forms : Kind → List FieldForm
-forms (Count s) = form.Capital ∷ form.Count ∷ []
-forms (Entry B) = numberForms 6
-forms (Entry W) = numberForms 2
-forms (Entry I) = numberForms 1
-forms (Entry F) = form.Capital ∷ form.Mark ∷ numberForms 3
+-- letter and count; the year; h a b density kind x; direction, speed; one coefficient; height, factor; zone, mark, the
+-- height where faces have one, and the areas on x, y, z
+abbrev pub forms : Bool → Kind → List FieldForm
+forms heights (Count s) = form.Capital ∷ form.Count ∷ []
+forms heights (Entry «V») = numberForms 1
+forms heights (Entry B) = numberForms 6
+forms heights (Entry W) = numberForms 2
+forms heights (Entry I) = numberForms 1
+forms heights (Entry P) = numberForms 2
+forms heights (Entry F) = form.Capital ∷ form.Mark ∷ numberForms (cond heights 4 3)
 
 -- ---- the faults of a line in form
 
@@ -62,11 +68,17 @@ countFaults s l n =
 -- by what the lines before it say
 abbrev pub faultsOf : Kind → Before → List Field → List Fault
 faultsOf (Count s) b fs = countFaults s (letter (at fs 0)) (number (at fs 1))
+faultsOf (Entry «V») b fs = yearFaults (yearOf fs)
 faultsOf (Entry B) b fs = faults (buildingOf fs)
 faultsOf (Entry W) b fs = windFaults (b .building) (windOf fs)
 faultsOf (Entry I) b fs = internalFaults (internalOf fs)
-faultsOf (Entry F) b fs = faceFaults (b .building) (faceOf fs)
+faultsOf (Entry P) b fs = stepFaults b (stepOf fs)
+faultsOf (Entry F) b fs = faceFaults b (faceOf (hasHeights (b .year)) fs)
+
+-- the form that a line must have, by what the lines before it say
+abbrev pub formsBy : Before → Kind → List FieldForm
+formsBy b k = forms (hasHeights (b .year)) k
 
 -- the lowest fault of a line, 0 where there is none: one out of form has 1
 unfoldable pub lineFault : Kind → Before → List Field → ℕ
-lineFault k b fs = cond (inForm (forms k) fs) (first (faultsOf k b fs)) 1
+lineFault k b fs = cond (inForm (formsBy b k) fs) (first (faultsOf k b fs)) 1

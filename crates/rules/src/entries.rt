@@ -1,4 +1,5 @@
 // The lowest fault of an entry, or of a count, by its values: of a line that is in form, and of a record.
+use crate::Before;
 use crate::Section;
 use crate::shape;
 use building::Building;
@@ -6,7 +7,9 @@ use building::kinds::knows;
 use building::limits::beyond;
 use entry::BOTH;
 use entry::Face;
+use entry::Step;
 use entry::Wind;
+use entry::says::has_heights;
 ghost use mathlib.Core.Path.{_≡_};
 ghost use mathlib.Core.Bool.{cond, _||_};
 ghost use lib.IntN.{pos, negℤ};
@@ -14,7 +17,8 @@ ghost use Rattle.building.specs.Fault.{first};
 ghost use Rattle.building.specs.Places as places;
 ghost use Rattle.building.specs.Test as test;
 ghost use Rattle.entry.specs.Says.{both};
-ghost use Rattle.rules.specs.Faults.{windFaults, internalFaults, areaFault, faceFaults};
+ghost use Rattle.rules.specs.Faults.{yearFaults, windFaults, internalFaults, heightFault, stepFaults};
+ghost use Rattle.rules.specs.Faults.{areaFault, offProfile, faceFaults};
 ghost use Rattle.rules.specs.Sections.{countFaults};
 
 // Fault n where it is found, and else the next that is.
@@ -38,6 +42,12 @@ pub fn count_fault(s: Section, letter: u8, n: i64) -> u32
     )
 }
 
+pub fn year_fault(year: i64) -> u32
+    ensures { λ r. ⌜ r ≡ first (yearFaults year) ⌝ }
+{
+    fault(3, year != 2, 0)
+}
+
 pub fn wind_fault(g: Building, w: Wind) -> u32
     ensures { λ r. ⌜ r ≡ first (windFaults g w) ⌝ }
 {
@@ -52,6 +62,20 @@ pub fn internal_fault(i: i64) -> u32
     ensures { λ r. ⌜ r ≡ first (internalFaults i) ⌝ }
 {
     fault(3, beyond(-100, 100, i), 0)
+}
+
+fn height_fault(z: i64, next: u32) -> u32
+    ensures { λ r. ⌜ r ≡ cond (heightFault z .found) 3 next ⌝ }
+{
+    fault(3, beyond(0, 30000, z), next)
+}
+
+pub fn step_fault(b: Before, s: Step) -> u32
+    ensures { λ r. ⌜ r ≡ first (stepFaults b s) ⌝ }
+{
+    let factor = fault(3, beyond(1, 1000, s.factor), 0);
+    let rise = fault(3, !(b.highest < s.height), factor);
+    height_fault(s.height, rise)
 }
 
 // A letter from A to H.
@@ -80,10 +104,22 @@ fn area_fault(z: i64, next: u32) -> u32
     fault(3, beyond(-100000, 100000, z), next)
 }
 
-pub fn face_fault(g: Building, f: Face) -> u32
-    ensures { λ r. ⌜ r ≡ first (faceFaults g f) ⌝ }
+fn off_profile(b: Before, z: i64) -> bool
+    ensures { λ r. ⌜ r ≡ offProfile b z ⌝ }
 {
-    let place = fault(6, !building::zone_on(g.kind, f.zone), 0);
+    if has_heights(b.year) {
+        return beyond(b.lowest, b.highest, z);
+    }
+    false
+}
+
+pub fn face_fault(b: Before, f: Face) -> u32
+    ensures { λ r. ⌜ r ≡ first (faceFaults b f) ⌝ }
+{
+    let g = b.building;
+    let height = fault(8, off_profile(b, f.height), 0);
+    let place = fault(6, !building::zone_on(g.kind, f.zone), height);
     let areas = area_fault(f.x, area_fault(f.y, area_fault(f.z, place)));
-    fault(1, !is_zone(f.zone), fault(3, !is_marked(g, f.mark), areas))
+    let mark = fault(3, !is_marked(g, f.mark), height_fault(f.height, areas));
+    fault(1, !is_zone(f.zone), mark)
 }

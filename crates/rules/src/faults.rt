@@ -27,17 +27,19 @@ fn count_fault(s: Section, x: Line) -> u32
 pub fn line_fault(k: Kind, b: Before, x: Line) -> u32
     ensures { λ r. ⌜ r ≡ lineFault k b (held x) ⌝ }
 {
-    if !in_form(k, x) {
+    let heights = says::has_heights(b.year);
+    if !in_form(heights, k, x) {
         return 1;
     }
-    let g = b.building;
     match k {
         Kind::Count(s) => count_fault(s, x),
         Kind::Entry(s) => match s {
+            Section::V => entries::year_fault(says::year_of(x)),
             Section::B => building::building_fault(says::building_of(x)),
-            Section::W => entries::wind_fault(g, says::wind_of(x)),
+            Section::W => entries::wind_fault(b.building, says::wind_of(x)),
             Section::I => entries::internal_fault(says::internal_of(x)),
-            Section::F => entries::face_fault(g, says::face_of(x)),
+            Section::P => entries::step_fault(b, says::step_of(x)),
+            Section::F => entries::face_fault(b, says::face_of(heights, x)),
         },
     }
 }

@@ -10,6 +10,7 @@ use lines::Line;
 use lines::field_at;
 use lines::held_count;
 ghost use mathlib.Core.Path.{_≡_};
+ghost use mathlib.Core.Bool.{Bool};
 ghost use lib.ListN.{length, getD};
 ghost use Rattle.lines.specs.Held.{held};
 ghost use Rattle.rules.specs.Form.{isLetter, isNumber, isShort, hasForm, inForm};
@@ -70,23 +71,30 @@ fn has_form(w: FieldForm, f: Field) -> bool
 }
 
 // How many fields a line has.
-fn count_of(k: Kind) -> usize
-    ensures { λ r. ⌜ r ≡ length (forms k) ⌝ }
+fn count_of(heights: bool, k: Kind) -> usize
+    ensures { λ r. ⌜ r ≡ length (forms heights k) ⌝ }
 {
     match k {
         Kind::Count(_) => 2,
         Kind::Entry(s) => match s {
+            Section::V => 1,
             Section::B => 6,
             Section::W => 2,
             Section::I => 1,
-            Section::F => 5,
+            Section::P => 2,
+            Section::F => {
+                if heights {
+                    return 6;
+                }
+                5
+            }
         },
     }
 }
 
 // What field i of a line must be.
 fn form_at(k: Kind, i: usize) -> FieldForm
-    ensures { λ r. ⌜ r ≡ getD (forms k) i FieldForm.Number ⌝ }
+    ensures { λ r. ⌜ ((heights : Bool) → r ≡ getD (forms heights k) i FieldForm.Number) ⌝ }
 {
     match k {
         Kind::Count(_) => {
@@ -99,9 +107,11 @@ fn form_at(k: Kind, i: usize) -> FieldForm
             FieldForm::Number
         }
         Kind::Entry(s) => match s {
+            Section::V => FieldForm::Number,
             Section::B => FieldForm::Number,
             Section::W => FieldForm::Number,
             Section::I => FieldForm::Number,
+            Section::P => FieldForm::Number,
             Section::F => {
                 if i == 0 {
                     return FieldForm::Capital;
@@ -115,10 +125,10 @@ fn form_at(k: Kind, i: usize) -> FieldForm
     }
 }
 
-pub(crate) fn in_form(k: Kind, x: Line) -> bool
-    ensures { λ r. ⌜ r ≡ inForm (forms k) (held x) ⌝ }
+pub(crate) fn in_form(heights: bool, k: Kind, x: Line) -> bool
+    ensures { λ r. ⌜ r ≡ inForm (forms heights k) (held x) ⌝ }
 {
-    let n = count_of(k);
+    let n = count_of(heights, k);
     if held_count(x) != n {
         return false;
     }

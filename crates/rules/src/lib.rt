@@ -8,9 +8,11 @@ pub mod shape;
 
 // A section of the sheet, by its letter.
 pub enum Section {
+    V,
     B,
     W,
     I,
+    P,
     F,
 }
 
@@ -20,9 +22,13 @@ pub enum Kind {
     Entry(Section),
 }
 
-// What the lines before one say that it is judged by.
+// What the lines before one say that it is judged by: the year, the building, and the lowest and the highest height of
+// the profile, 0 and -1 where it has none yet.
 pub struct Before {
+    pub year: i64,
     pub building: Building,
+    pub lowest: i64,
+    pub highest: i64,
 }
 
 // What one field of a line must be.

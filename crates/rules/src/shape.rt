@@ -5,11 +5,42 @@ use lines::Line;
 use lines::Slot;
 ghost use mathlib.Core.Path.{_≡_};
 ghost use mathlib.Core.List.{[], _∷_};
+ghost use lib.ListN.{length};
 ghost use Rattle.lines.specs.Held.{heldLine};
-ghost use Rattle.rules.specs.Sections.{about};
+ghost use Rattle.rules.specs.Sections.{about, sections, sectionAt};
 
-// The sections of a sheet, in order.
-pub const SECTIONS: [Section; 4] = [Section::B, Section::W, Section::I, Section::F];
+// The sections of a sheet in order: of one without heights, and of one with them.
+const PLAIN: [Section; 4] = [Section::B, Section::W, Section::I, Section::F];
+const TALL: [Section; 6] = [
+    Section::V,
+    Section::B,
+    Section::W,
+    Section::I,
+    Section::P,
+    Section::F,
+];
+
+pub fn section_count(heights: bool) -> usize
+    ensures { λ r. ⌜ r ≡ length (sections heights) ⌝ }
+{
+    if heights {
+        return TALL.len();
+    }
+    PLAIN.len()
+}
+
+// The section behind the first i.
+pub fn section_at(heights: bool, i: usize) -> Section
+    ensures { λ r. ⌜ r ≡ sectionAt heights i ⌝ }
+{
+    if i >= section_count(heights) {
+        return Section::V;
+    }
+    if heights {
+        return TALL[i];
+    }
+    PLAIN[i]
+}
 
 // The letter of a section, and its least and greatest count.
 pub struct Limits {
@@ -32,9 +63,11 @@ pub fn limits_of(s: Section) -> Limits
     ensures { λ r. ⌜ (r .letter ≡ about s .letter) × (r .least ≡ about s .least) × (r .most ≡ about s .most) ⌝ }
 {
     match s {
+        Section::V => counted(b'V', 1, 1),
         Section::B => counted(b'B', 1, 1),
         Section::W => counted(b'W', 1, 8),
         Section::I => counted(b'I', 1, 4),
+        Section::P => counted(b'P', 1, 16),
         Section::F => counted(b'F', 1, 24),
     }
 }

@@ -6,7 +6,7 @@ use Rattle.whole.proofs.Size.{said}
 use Rattle.building.specs.Places.{zoneOn, knows}
 use Rattle.building.specs.Test.{is}
 use Rattle.entry.specs.Says.{both}
-use Rattle.rules.specs.Faults.{areaFault}
+use Rattle.rules.specs.Faults.{heightFault, areaFault, offProfile}
 use Rattle.rules.proofs.Rising.{found-or, said-or}
 use borrow.Author.Needs.{needs}
 use Rattle.rules.proofs.entries.face_fault.Statement.{statement}
@@ -14,34 +14,42 @@ use Rattle.rules.proofs.entries.face_fault.Tie as tie
 
 returns : tie.Need-returns
 returns c =
-    let m = c .before .before in
-    let l = m .before .before in
-    let x = l .before in
+    let l = c .before in
+    let m = l .before in
+    let h = m .before in
+    let k = h .before .before in
+    let x = k .before .before in
     let y = x .before .before in
     let z = y .before .before in
     let p = z .before .before in
     let o = p .before in
-    let s = o .before .before in
-    let g = s .args .g in
+    let w = o .before .before in
+    let v = w .before in
+    let s = v .before .before .before in
+    let g = s .args .b .building in
     let f = s .args .f in
-    let q = z .before .struct-told2 .given .1 in
-    let kind = o .before .struct-told .given .1 .1 .1 .1 .0 .1 in
+    let q = v .before .struct-told .given .1 in
+    let kind = o .before .struct-told2 .given .1 .1 .1 .1 .0 .1 in
+    let off = said (offProfile (s .args .b)) (f .height) (v .off-profile .ensures) (q .1 .0 .1) in
     let on = said (λ (k : ℤ). zoneOn k (f .zone)) (g .kind) (o .zone-on .ensures) kind in
-    let marked = said (λ (z : ℤ). is both z || knows (g .kind) z) (f .mark) (m .is-marked .ensures) (q .0 .1) in
+    let marked = said (λ (z : ℤ). is both z || knows (g .kind) z) (f .mark) (k .is-marked .ensures) (q .0 .1) in
     found-or 1 (ap not (l .is-zone .ensures))
     (found-or 3 (ap not marked)
-    (said-or areaFault 3 (f .x) (q .1 .0 .1)
-    (said-or areaFault 3 (f .y) (q .1 .1 .0 .1)
-    (said-or areaFault 3 (f .z) (q .1 .1 .1 .0 .1) (found-or 6 (ap not on) refl (p .fault .ensures))
+    (said-or heightFault 3 (f .height) (q .1 .0 .1)
+    (said-or areaFault 3 (f .x) (q .1 .1 .0 .1)
+    (said-or areaFault 3 (f .y) (q .1 .1 .1 .0 .1)
+    (said-or areaFault 3 (f .z) (q .1 .1 .1 .1 .0 .1)
+    (found-or 6 (ap not on) (found-or 8 off refl (w .fault .ensures)) (p .fault2 .ensures))
     (z .area-fault .ensures))
     (y .area-fault2 .ensures))
     (x .area-fault3 .ensures))
-    (c .before .fault2 .ensures))
-    (c .fault3 .ensures)
+    (h .height-fault .ensures))
+    (m .fault3 .ensures))
+    (c .fault4 .ensures)
 
 pub face-fault-spec : {M : Type 1} → statement M
 face-fault-spec =
     tie.close
     (tie.spec (λ c κs. search needs) (λ c κs. search needs) (λ c κs. search needs) (λ c κs. search needs)
     (λ c κs. search needs) (λ c κs. search needs) (λ c κs. search needs) (λ c κs. search needs) (λ c κs. search needs)
-    returns)
+    (λ c κs. search needs) (λ c κs. search needs) (λ c κs. search needs) returns)

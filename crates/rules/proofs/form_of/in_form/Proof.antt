@@ -17,17 +17,17 @@ use Rattle.rules.proofs.form_of.in_form.Statement.{statement}
 use Rattle.rules.proofs.form_of.in_form.Tie as tie
 
 abbrev Inv-loop : tie.InvT-loop
-Inv-loop k x n i₀ i = (i ≤ n) × (inForm (drop i (forms k)) (drop i (held x)) ≡ inForm (forms k) (held x))
+Inv-loop h k x n i₀ i = (i ≤ n) × (inForm (drop i (forms h k)) (drop i (held x)) ≡ inForm (forms h k) (held x))
 
 abbrev μ-loop : tie.MeasureT-loop
-μ-loop k x n i₀ i = n - i
+μ-loop h k x n i₀ i = n - i
 
 returns : tie.Need-returns Inv-loop μ-loop
 returns c =
     let h = c .before in
     let a = h .before .before .args in
     sym
-    (uneven-out (forms (a .k)) (held (a .x))
+    (uneven-out (forms (a .heights) (a .k)) (held (a .x))
     (λ e. c .if1 .taken (h .held-count .ensures ∙ e ∙ sym (h .before .count-of .ensures))))
 
 -- as many fields as forms
@@ -35,7 +35,7 @@ module _ (c : tie.Else1 Inv-loop μ-loop) where
   abbrev start : tie.Start Inv-loop μ-loop
   start = c .before .before .before
 
-  forms-there : c .before .before .count-of .result ≡ length (forms (start .args .k))
+  forms-there : c .before .before .count-of .result ≡ length (forms (start .args .heights) (start .args .k))
   forms-there = c .before .before .count-of .ensures
 
   fields-there : c .before .before .count-of .result ≡ length (held (start .args .x))
@@ -52,17 +52,19 @@ module _ (c : tie.After-has-form Inv-loop μ-loop) where
   -- the fields behind it
   abbrev rest : Bool
   rest =
-      inForm (drop (suc (loop .loop .i)) (forms (args .args .k))) (drop (suc (loop .loop .i)) (held (args .args .x)))
+      inForm (drop (suc (loop .loop .i)) (forms (args .args .heights) (args .args .k)))
+      (drop (suc (loop .loop .i)) (held (args .args .x)))
 
-  on : (t : Bool) → c .has-form .result ≡ t → inForm (forms (args .args .k)) (held (args .args .x)) ≡ t && rest
+  on : (t : Bool) → c .has-form .result ≡ t
+      → inForm (forms (args .args .heights) (args .args .k)) (held (args .args .x)) ≡ t && rest
   on t e =
       let a = args .args in
       sym (loop .loop .inv .1)
-      ∙ form-on (forms (a .k)) (held (a .x)) (loop .loop .i) (omega (arith, forms-there (loop .before)))
+      ∙ form-on (forms (a .heights) (a .k)) (held (a .x)) (loop .loop .i) (omega (arith, forms-there (loop .before)))
       (omega (arith, fields-there (loop .before)))
       ∙ ap (λ (t : Bool). t && rest)
       (sym (c .has-form .ensures
-      ∙ ap₂ hasForm (c .before .before .form-at .ensures) (c .before .field-at .ensures)) ∙ e)
+      ∙ ap₂ hasForm (c .before .before .form-at .ensures (a .heights)) (c .before .field-at .ensures)) ∙ e)
 
 returns-2 : tie.Need-returns-2 Inv-loop μ-loop
 returns-2 c = sym (on (c .before) false (not-true _ (c .if2 .taken)))
@@ -76,7 +78,7 @@ returns-3 c =
     let l = c .before in
     let a = start (l .before) .args in
     let i = l .loop .i in
-    let no-form = drop-of-length-le (forms (a .k)) {i = i} (omega (arith, forms-there (l .before))) in
+    let no-form = drop-of-length-le (forms (a .heights) (a .k)) {i = i} (omega (arith, forms-there (l .before))) in
     let no-field = drop-of-length-le (held (a .x)) {i = i} (omega (arith, fields-there (l .before))) in
     sym (sym (l .loop .inv .1) ∙ rw (no-form, no-field))
 
