@@ -13,7 +13,7 @@ use Rattle.job.specs.declared.Job.{Job}
 use Rattle.job.specs.Carried.{Carried, nothing, before, carried}
 use Rattle.job.specs.Lines.{linesOf}
 use Rattle.rules.specs.Sections.{lineFault}
-use Rattle.job.specs.Walk.{calls, learn, Reading, Refused, verdict, walk, sheet, readLines, judged}
+use Rattle.job.specs.Walk.{calls, learn, Reading, Refused, verdict, walk, opening, sheet, readLines, judged}
 use Rattle.job.specs.FirstFault.{HasFault, FaultAt, FirstFault, NoFault, Answers, in-order, faulty}
 use Rattle.job.proofs.Lowest.{fault-lowest, fault-has}
 
@@ -68,12 +68,12 @@ walk-answers (k ∷ ks) c line (x ∷ xs) =
     (λ m y h f. omega (arith, fault-lowest k (before c) x f .1))))
 
 -- the answer to lines is their first fault
-pub lines-answer : (xs : List (List Field)) → Answers sheet nothing xs 1 (readLines xs)
+pub lines-answer : (xs : List (List Field)) → Answers (sheet (opening xs)) nothing xs 1 (readLines xs)
 unfolding readLines
-lines-answer xs = walk-answers sheet nothing 1 xs
+lines-answer xs = walk-answers (sheet (opening xs)) nothing 1 xs
 
 -- and so for a record, whose lines are those of its sheet
-pub record-answers : (j : Job) → Answers sheet nothing (linesOf (carried j)) 1 (judged j)
+pub record-answers : (j : Job) → let xs = linesOf (carried j) in Answers (sheet (opening xs)) nothing xs 1 (judged j)
 unfolding judged
 record-answers j = lines-answer (linesOf (carried j))
 

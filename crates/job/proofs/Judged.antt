@@ -2,35 +2,44 @@
 use Prim.Native.Nat.{ℕ, zero, suc, _+_, _*_, _≤_, _<_}
 use mathlib.Core.Path.{_≡_, refl, ap, ap₂, _∙_, sym, subst}
 use mathlib.Core.List.{List, [], _∷_, _++_, map, append-nil}
+use mathlib.Core.Bool.{Bool, true, false, cond}
 use native.Mathlib.Numerals.{add-one}
 use native.Mathlib.Omega.{arith}
-use lib.Dec.{eqb}
-use lib.ListN.{length, take, drop}
+use lib.Dec.{eqb, ltb}
+use lib.ListN.{length, take, drop, drop-of-length-le}
 use lib.Seq.{take-suc, drop-cons}
-use borrow.Author.Tests.{eqb-true, eqb-false}
+use borrow.Author.Tests.{eqb-true, eqb-false, ltb-true, ltb-false}
 use Rattle.whole.specs.Lists.{Every}
 use Rattle.whole.proofs.Tests.{by-test}
 use Rattle.verdict.specs.declared.Verdict.{Verdict}
 use Rattle.verdict.specs.Verdict.{accepted, Refuses}
 use Rattle.field.specs.declared.Field.{Field}
 use Rattle.rules.specs.declared.Section.{Section}
-use Rattle.rules.specs.declared.Section.the-variants.{B, W, I, F}
+use Rattle.rules.specs.declared.Section.the-variants.{«V», B, W, I, P, F}
 use Rattle.rules.specs.declared.Kind.{Kind}
 use Rattle.rules.specs.declared.Kind.the-variants.{Count, Entry}
-use Rattle.rules.specs.Sections.{sections, sectionAt, forms, lineFault}
+use Rattle.rules.specs.declared.Before.{Before}
+use Rattle.building.specs.declared.Building.{Building}
+use Rattle.building.specs.Fault.{first}
+use Rattle.rules.specs.Faults.{windFaults}
+use Rattle.rules.specs.Form.{inForm, numberForms}
+use Rattle.rules.specs.Sections.{sections, sectionAt, forms, formsBy, lineFault}
 use Rattle.rules.proofs.Form.{AllFormed}
-use Rattle.entry.specs.Says.{windOf, internalOf, faceOf}
-use Rattle.entry_written.specs.Fields.{windFields, internalFields, faceFields}
+use Rattle.entry.specs.Says.{hasHeights, windOf, internalOf, stepOf, faceOf}
+use Rattle.entry_written.specs.Fields.{windFields, internalFields, stepFields, faceFields}
 use Rattle.job.specs.declared.Job.{Job}
-use Rattle.job.specs.Carried.{Carried, before, carried, carriedIn}
-use Rattle.job.specs.Lines.{entriesOf, sectionOf, sectionsOf, lineBehind, linesOf}
-use Rattle.job.specs.Walk.{entries, calls, learn, Reading, verdict, walk, readLines, judged}
+use Rattle.job.specs.Carried.{Carried, nothing, withYear, withBuilding, withWinds, withInternals, withProfile}
+use Rattle.job.specs.Carried.{withFaces, lowestOf, highestOf, before, carried, carriedIn}
+use Rattle.job.specs.Judging.{Alike, JudgesAs}
+use Rattle.job.specs.Lines.{entriesOf, sectionOf, sectionsOf, lineBehind, sheetOf, linesOf}
+use Rattle.job.specs.Walk.{entries, calls, learn, Reading, verdict, walk, opening, sheet, readLines, judged}
 use Rattle.job.proofs.FirstFault.{walk-answers}
 use Rattle.job.proofs.Walk.{walk-on, walk-refused, EntriesInOrder, entries-formed}
 use Rattle.job.proofs.Sections.{Counted, countLine, section-in-order}
 use Rattle.job.proofs.Sheet.{gained, section-passed}
-use Rattle.job.proofs.Lines.{building-back, wind-back, internal-back, face-back}
-use Rattle.job.proofs.RoundTrip.{all-back}
+use Rattle.job.proofs.Lines.{year-back, building-back, wind-back, internal-back, step-back}
+use Rattle.job.proofs.Years.{OfItsYear, carried-year, faces-kept}
+use Rattle.job.proofs.RoundTrip.{all-back, faces-back}
 use Rattle.job.proofs.Verdicts.{accepted-by}
 use Rattle.job.proofs.Alone.{alone, most-24}
 
@@ -87,77 +96,148 @@ behind-one : (es : Section → List (List Field)) (ss : List Section) (s : Secti
 behind-one es [] s = omega arith
 behind-one es (t ∷ ss) s = omega (arith, behind-one es ss s)
 
-section-carried : (c : Carried) (i : ℕ) → i < length sections
-    → Every (AllFormed (forms (Entry (sectionAt i)))) (entriesOf c (sectionAt i))
-    → gained (sectionAt i) (entriesOf c (sectionAt i)) (carriedIn (take i sections) c) ≡ carriedIn
-    (take (suc i) sections) c
-section-carried c zero h a =
-    λ k. record { building = building-back (c .building) (a .0) k; winds = []; internals = []; faces = [] }
-section-carried c (suc zero) h a =
-    λ k. record {
-      building = c .building;
-      winds = all-back W windFields windOf wind-back (c .winds) a k;
-      internals = [];
-      faces = [];
-    }
-section-carried c (suc (suc zero)) h a =
-    λ k. record {
-      building = c .building;
-      winds = c .winds;
-      internals = all-back I internalFields internalOf internal-back (c .internals) a k;
-      faces = [];
-    }
-section-carried c (suc (suc (suc zero))) h a =
-    λ k. record {
-      building = c .building;
-      winds = c .winds;
-      internals = c .internals;
-      faces = all-back F faceFields faceOf face-back (c .faces) a k;
-    }
-section-carried c (suc (suc (suc (suc i)))) h a = absurd (omega arith)
+module _ (c : Carried) (y : OfItsYear c) where
+  winds-back : Every (AllFormed (numberForms 2)) (map windFields (c .winds))
+      → map windOf (map windFields (c .winds)) ≡ c .winds
+  winds-back a = all-back (numberForms 2) windFields windOf wind-back (c .winds) a
 
--- what the sections before one carry judges its entries as all does that is carried
-pub carried-judges : (c : Carried) (i : ℕ) → i < length sections → (x : List Field)
-    → lineFault (Entry (sectionAt i)) (before (carriedIn (take i sections) c)) x ≡ lineFault (Entry (sectionAt i))
-    (before c) x
-unfolding lineFault
-carried-judges c zero h x = refl
-carried-judges c (suc zero) h x = refl
-carried-judges c (suc (suc zero)) h x = refl
-carried-judges c (suc (suc (suc zero))) h x = refl
-carried-judges c (suc (suc (suc (suc i)))) h x = absurd (omega arith)
+  internals-back : Every (AllFormed (numberForms 1)) (map internalFields (c .internals))
+      → map internalOf (map internalFields (c .internals)) ≡ c .internals
+  internals-back a = all-back (numberForms 1) internalFields internalOf internal-back (c .internals) a
+
+  section-carried : (h : Bool) → hasHeights (c .year) ≡ h → (i : ℕ) → i < length (sections h)
+      → Every (AllFormed (formsBy (before (carriedIn (take i (sections h)) c)) (Entry (sectionAt h i))))
+      (entriesOf c (sectionAt h i))
+      → gained (sectionAt h i) (entriesOf c (sectionAt h i)) (carriedIn (take i (sections h)) c) ≡ carriedIn
+      (take (suc i) (sections h)) c
+  section-carried true e zero h a = λ k. withYear (year-back (c .year) (a .0) k) nothing
+  section-carried true e (suc zero) h a =
+      λ k. withYear (c .year) (withBuilding (building-back (c .building) (a .0) k) nothing)
+  section-carried true e (suc (suc zero)) h a =
+      λ k. withYear (c .year) (withBuilding (c .building) (withWinds (winds-back a k) nothing))
+  section-carried true e (suc (suc (suc zero))) h a =
+      λ k. withYear (c .year)
+      (withBuilding (c .building) (withWinds (c .winds) (withInternals (internals-back a k) nothing)))
+  section-carried true e (suc (suc (suc (suc zero)))) h a =
+      λ k. withYear (c .year) (withBuilding (c .building) (withWinds (c .winds) (withInternals (c .internals)
+      (withProfile (all-back (numberForms 2) stepFields stepOf step-back (c .profile) a k) nothing))))
+  section-carried true e (suc (suc (suc (suc (suc zero))))) h a =
+      λ k. withYear (c .year) (withBuilding (c .building) (withWinds (c .winds) (withInternals (c .internals)
+      (withProfile (c .profile) (withFaces (said k) nothing)))))
+    where
+      said : map (faceOf (hasHeights (c .year))) (map (faceFields (hasHeights (c .year))) (c .faces)) ≡ c .faces
+      said =
+          faces-back (hasHeights (c .year)) (c .faces) a
+          ∙ faces-kept (hasHeights (c .year)) (c .faces) (λ q. y q .heights)
+  section-carried true e (suc (suc (suc (suc (suc (suc i)))))) h a = absurd (omega arith)
+  section-carried false e zero h a = λ k. withBuilding (building-back (c .building) (a .0) k) nothing
+  section-carried false e (suc zero) h a = λ k. withBuilding (c .building) (withWinds (winds-back a k) nothing)
+  section-carried false e (suc (suc zero)) h a =
+      λ k. withBuilding (c .building) (withWinds (c .winds) (withInternals (internals-back a k) nothing))
+  section-carried false e (suc (suc (suc zero))) h a =
+      λ k. withBuilding (c .building) (withWinds (c .winds) (withInternals (c .internals) (withFaces (said k) nothing)))
+    where
+      formed : Every (AllFormed (forms false (Entry F))) (map (faceFields false) (c .faces))
+      formed = rw e at a
+
+      said : map (faceOf false) (map (faceFields (hasHeights (c .year))) (c .faces)) ≡ c .faces
+      said = rw e (faces-back false (c .faces) formed ∙ faces-kept false (c .faces) (λ q. y e .heights))
+  section-carried false e (suc (suc (suc (suc i)))) h a = absurd (omega arith)
 
 -- ---- the sections of a record
 
 module _ (j : Job) where
-  abbrev es : Section → List (List Field)
+  abbrev pub es : Section → List (List Field)
   es = entriesOf (carried j)
 
-  abbrev sofar : ℕ → Carried
-  sofar i = carriedIn (take i sections) (carried j)
+  abbrev pub heights : Bool
+  heights = hasHeights (j .year)
+
+  abbrev pub ss : List Section
+  ss = sections heights
+
+  abbrev pub sofar : ℕ → Carried
+  sofar i = carriedIn (take i ss) (carried j)
+
+  -- its lines open with V exactly if it has heights
+  opens : opening (linesOf (carried j)) ≡ heights
+  unfolding linesOf carried
+  opens = go heights
+    where
+      go : (h : Bool) → opening (sheetOf h (entriesOf (carried j))) ≡ h
+      go true = refl
+      go false = refl
+
+  pub year-is : hasHeights (carried j .year) ≡ heights
+  unfolding carried
+  year-is = refl
+
+  -- what the sections before one carry judges its entries as b does, which has all but perhaps the profile
+  module _ (b : Before) (by-year : b .year ≡ j .year) (by-building : b .building ≡ j .building)
+      (by-all : length (es P) ≤ 16 → b ≡ before (carried j)) where
+    winds-alike : (d : Carried) → d .building ≡ carried j .building → Alike W b d
+    unfolding lineFault carried
+    winds-alike d e x =
+        ap (λ (g : Building). cond (inForm (numberForms 2) x) (first (windFaults g (windOf x))) 1)
+        (e ∙ sym by-building)
+
+    pub judges-as : (h : Bool) → hasHeights (carried j .year) ≡ h → (i : ℕ) → i < length (sections h)
+        → (4 < i → length (es P) ≤ 16)
+        → JudgesAs (sectionAt h i) b (carriedIn (take i (sections h)) (carried j))
+    unfolding lineFault
+    judges-as true e zero h few = λ x. refl
+    judges-as true e (suc zero) h few = λ x. refl
+    judges-as true e (suc (suc zero)) h few = winds-alike (carriedIn (take 2 (sections true)) (carried j)) refl
+    judges-as true e (suc (suc (suc zero))) h few = λ x. refl
+    judges-as true e (suc (suc (suc (suc zero)))) h few = refl
+    judges-as true e (suc (suc (suc (suc (suc zero))))) h few =
+        λ x. ap (λ (d : Before). lineFault (Entry F) d x) (sym (by-all (few (omega arith))))
+    judges-as true e (suc (suc (suc (suc (suc (suc i)))))) h few = absurd (omega arith)
+    judges-as false e zero h few = λ x. refl
+    judges-as false e (suc zero) h few = winds-alike (carriedIn (take 1 (sections false)) (carried j)) refl
+    judges-as false e (suc (suc zero)) h few = λ x. refl
+    judges-as false e (suc (suc (suc zero))) h few =
+        let o = carried-year j e in
+        let none : length (es P) ≤ 16 = rw (o .profile) (omega arith) in
+        λ x. ap (λ (d : Before). lineFault (Entry F) d x)
+        ((λ i. record {
+          year = sym (o .year) i;
+          building = carried j .building;
+          lowest = lowestOf (sym (o .profile) i);
+          highest = highestOf (sym (o .profile) i);
+        }) ∙ sym (by-all none))
+    judges-as false e (suc (suc (suc (suc i)))) h few = absurd (omega arith)
 
   -- the walk has come to the section behind the first i, whose count stands on this line
   pub record Reached (i line : ℕ) : Type 0 where
-    pub stands : line ≡ lineBehind es (take i sections)
-    pub rest : walk (map Count (drop i sections)) (sofar i) line (sectionsOf es (drop i sections)) ≡ judged j
+    pub stands : line ≡ lineBehind es (take i ss)
+    pub rest : walk (map Count (drop i ss)) (sofar i) line (sectionsOf es (drop i ss)) ≡ judged j
     -- no section has more than 25 lines
     pub lines : line ≤ 25 * i + 1
+    -- behind the profile it is within its room
+    pub steps : 4 < i → length (es P) ≤ 16
 
   pub reached-first : Reached 0 1
-  unfolding judged readLines linesOf
-  reached-first = record { stands = refl; rest = refl; lines = omega arith }
+  unfolding judged readLines linesOf carried
+  reached-first =
+      record {
+        stands = refl;
+        rest = ap (λ (h : Bool). walk (sheet h) nothing 1 (linesOf (carried j))) (sym opens);
+        lines = omega arith;
+        steps = λ h. absurd (omega arith);
+      }
 
   -- v is its verdict by itself
-  module _ {i line : ℕ} (r : Reached i line) (few : i < length sections) {v : Verdict}
-      (e : v ≡ alone (sectionAt i) (sofar i) line (es (sectionAt i))) where
+  module _ {i line : ℕ} (r : Reached i line) (few : i < length ss) {v : Verdict}
+      (e : v ≡ alone (sectionAt heights i) (sofar i) line (es (sectionAt heights i))) where
     abbrev s : Section
-    s = sectionAt i
+    s = sectionAt heights i
 
     abbrev later : List Section
-    later = drop (suc i) sections
+    later = drop (suc i) ss
 
     here : walk (map Count (s ∷ later)) (sofar i) line (sectionsOf es (s ∷ later)) ≡ judged j
-    here = rw (drop-cons sections i B few) at (r .rest)
+    here = rw (drop-cons ss i «V» few) at (r .rest)
 
     pub stops : Refuses v → v ≡ verdict (judged j)
     stops z =
@@ -173,6 +253,17 @@ module _ (j : Job) where
       pub few-entries : n ≤ 24
       few-entries = omega (arith, in-order .0 .high, most-24 s)
 
+      -- the fifth section of a sheet with heights is the profile
+      few-steps : 4 < suc i → length (es P) ≤ 16
+      few-steps h =
+          by-test (ltb 4 i) (λ t. r .steps (ltb-true 4 i t))
+          (λ t. fifth heights (omega (arith, ltb-false 4 i t)) few (in-order .0))
+        where
+          fifth : (t : Bool) → i ≡ 4 → i < length (sections t)
+              → Counted (sectionAt t i) (length (es (sectionAt t i))) → length (es P) ≤ 16
+          fifth true e l w = (rw e at w) .high
+          fifth false e l w = absurd (omega (arith, e))
+
       pub goes-on : Reached (i + 1) (line + (1 + n))
       goes-on =
           let formed = entries-formed s (es s) (sofar i) (in-order .1) in
@@ -180,16 +271,18 @@ module _ (j : Job) where
           subst (λ (h : ℕ). Reached h (line + (1 + n))) (sym (add-one i)) (record {
             stands =
                 sym l ∙ ap (λ (h : ℕ). h + 1 + length (es s)) (r .stands)
-                ∙ sym (ap (lineBehind es) (take-suc sections i B few) ∙ behind-one es (take i sections) s);
+                ∙ sym (ap (lineBehind es) (take-suc ss i «V» few) ∙ behind-one es (take i ss) s);
             rest =
                 ap₂ (λ (c : Carried) (h : ℕ). walk (map Count later) c h (sectionsOf es later))
-                (sym (section-carried (carried j) i few formed)) (sym l)
+                (sym (section-carried (carried j) (carried-year j) heights year-is i few formed)) (sym l)
                 ∙ sym (section-passed es s later (sofar i) line (in-order .0) (in-order .1))
                 ∙ here;
             lines = omega (arith, r .lines, few-entries);
+            steps = few-steps;
           })
 
-  pub ends : {i line : ℕ} → Reached i line → i ≡ length sections → accepted ≡ verdict (judged j)
+  pub ends : {i line : ℕ} → Reached i line → i ≡ length ss → accepted ≡ verdict (judged j)
   unfolding walk
-  ends {line = line} r e =
-      ap verdict (subst (λ (h : ℕ). Reached h line) e r .rest)
+  ends {i} {line} r e =
+      ap verdict
+      (rw (drop-of-length-le ss {i = i} (omega arith)) at (r .rest))

@@ -6,6 +6,7 @@ pub mod Walk
 pub mod Sections
 pub mod Sheet
 pub mod Lines
+pub mod Years
 pub mod RoundTrip
 pub mod InForm
 pub mod InOrder

@@ -2,7 +2,7 @@
 -- what a sheet carries.
 use Prim.Native.Nat.{ℕ, zero, suc, _≤_}
 use mathlib.Core.Path.{_≡_, refl, sym, _∙_}
-use mathlib.Core.Bool.{true, false}
+use mathlib.Core.Bool.{Bool, true, false}
 use mathlib.Core.List.{List}
 use native.Mathlib.Omega.{arith}
 use lib.IntN.{ℤ, pos, negsuc, negℤ, natAbs}
@@ -17,14 +17,16 @@ use Rattle.building.specs.Test.{is, tooLong}
 use Rattle.building.proofs.Machine.{is-same}
 use Rattle.rules.specs.declared.FieldForm.{FieldForm}
 use Rattle.rules.specs.declared.FieldForm.the-variants.{Number, Mark}
-use Rattle.rules.specs.declared.Section.the-variants.{B, W, I, F}
+use Rattle.rules.specs.declared.Section.the-variants.{F}
 use Rattle.rules.specs.declared.Kind.the-variants.{Entry}
 use Rattle.entry.specs.declared.Wind.{Wind}
+use Rattle.entry.specs.declared.Step.{Step}
 use Rattle.entry.specs.declared.Face.{Face}
-use Rattle.entry.specs.Says.{number, mark, both, buildingOf, windOf, internalOf, faceOf}
+use Rattle.entry.specs.Says.{number, mark, both, yearOf, buildingOf, windOf, internalOf, stepOf, faceOf, carriedFace}
+use Rattle.rules.specs.Form.{numberForms}
 use Rattle.rules.specs.Sections.{forms}
-use Rattle.entry_written.specs.Fields.{signed, numberField, markField, buildingFields, windFields, internalFields}
-use Rattle.entry_written.specs.Fields.{faceFields}
+use Rattle.entry_written.specs.Fields.{signed, numberField, markField, yearFields, buildingFields, windFields}
+use Rattle.entry_written.specs.Fields.{internalFields, stepFields, faceFields}
 use Rattle.rules.proofs.Form as form
 use Rattle.rules.proofs.Form.{Formed, AllFormed, none, more}
 
@@ -87,24 +89,34 @@ mark-back z h =
 
 -- ---- an entry in form, written again
 
-pub building-again : {x : List Field} → AllFormed (forms (Entry B)) x → buildingFields (buildingOf x) ≡ x
+pub year-again : {x : List Field} → AllFormed (numberForms 1) x → yearFields (yearOf x) ≡ x
+year-again (more y none) = cc (number-again y)
+
+pub building-again : {x : List Field} → AllFormed (numberForms 6) x → buildingFields (buildingOf x) ≡ x
 building-again (more h (more a (more b (more d (more k (more y none)))))) =
     cc (number-again h, number-again a, number-again b, number-again d, number-again k, number-again y)
 
-pub wind-again : {x : List Field} → AllFormed (forms (Entry W)) x → windFields (windOf x) ≡ x
+pub wind-again : {x : List Field} → AllFormed (numberForms 2) x → windFields (windOf x) ≡ x
 wind-again (more d (more v none)) = cc (number-again d, number-again v)
 
-pub internal-again : {x : List Field} → AllFormed (forms (Entry I)) x → internalFields (internalOf x) ≡ x
+pub internal-again : {x : List Field} → AllFormed (numberForms 1) x → internalFields (internalOf x) ≡ x
 internal-again (more i none) = cc (number-again i)
 
-pub face-again : {x : List Field} → AllFormed (forms (Entry F)) x → faceFields (faceOf x) ≡ x
-face-again (more form.letter (more m (more a (more b (more d none))))) =
+pub step-again : {x : List Field} → AllFormed (numberForms 2) x → stepFields (stepOf x) ≡ x
+step-again (more h (more f none)) = cc (number-again h, number-again f)
+
+pub face-again : (h : Bool) {x : List Field} → AllFormed (forms h (Entry F)) x → faceFields h (faceOf h x) ≡ x
+face-again true (more form.letter (more m (more h (more a (more b (more d none)))))) =
+    cc (mark-again m, number-again h, number-again a, number-again b, number-again d)
+face-again false (more form.letter (more m (more a (more b (more d none))))) =
     cc (mark-again m, number-again a, number-again b, number-again d)
 
 -- ---- what the fields of a value say
 
-pub building-back : (g : Building) → AllFormed (forms (Entry B)) (buildingFields g)
-    → buildingOf (buildingFields g) ≡ g
+pub year-back : (y : ℤ) → AllFormed (numberForms 1) (yearFields y) → yearOf (yearFields y) ≡ y
+year-back y (more s none) = number-back y s
+
+pub building-back : (g : Building) → AllFormed (numberForms 6) (buildingFields g) → buildingOf (buildingFields g) ≡ g
 building-back g (more h (more a (more b (more d (more k (more y none)))))) =
     λ i. record {
       h = number-back (g .h) h i;
@@ -115,18 +127,34 @@ building-back g (more h (more a (more b (more d (more k (more y none)))))) =
       x = number-back (g .x) y i;
     }
 
-pub wind-back : (w : Wind) → AllFormed (forms (Entry W)) (windFields w) → windOf (windFields w) ≡ w
+pub wind-back : (w : Wind) → AllFormed (numberForms 2) (windFields w) → windOf (windFields w) ≡ w
 wind-back w (more d (more v none)) =
     λ i. record { direction = number-back (w .direction) d i; speed = number-back (w .speed) v i }
 
-pub internal-back : (z : ℤ) → AllFormed (forms (Entry I)) (internalFields z) → internalOf (internalFields z) ≡ z
+pub internal-back : (z : ℤ) → AllFormed (numberForms 1) (internalFields z) → internalOf (internalFields z) ≡ z
 internal-back z (more s none) = number-back z s
 
-pub face-back : (f : Face) → AllFormed (forms (Entry F)) (faceFields f) → faceOf (faceFields f) ≡ f
-face-back f (more l (more m (more a (more b (more d none))))) =
+pub step-back : (s : Step) → AllFormed (numberForms 2) (stepFields s) → stepOf (stepFields s) ≡ s
+step-back s (more h (more f none)) =
+    λ i. record { height = number-back (s .height) h i; factor = number-back (s .factor) f i }
+
+-- a face without its height, where the sheet has none
+pub face-back : (h : Bool) (f : Face) → AllFormed (forms h (Entry F)) (faceFields h f)
+    → faceOf h (faceFields h f) ≡ carriedFace h f
+face-back true f (more l (more m (more h (more a (more b (more d none)))))) =
     λ i. record {
       zone = f .zone;
       mark = mark-back (f .mark) m i;
+      height = number-back (f .height) h i;
+      x = number-back (f .x) a i;
+      y = number-back (f .y) b i;
+      z = number-back (f .z) d i;
+    }
+face-back false f (more l (more m (more a (more b (more d none))))) =
+    λ i. record {
+      zone = f .zone;
+      mark = mark-back (f .mark) m i;
+      height = pos 0;
       x = number-back (f .x) a i;
       y = number-back (f .y) b i;
       z = number-back (f .z) d i;

@@ -8,7 +8,7 @@ use Rattle.field.specs.declared.Field.{Field}
 use Rattle.rules.specs.declared.Before.{Before}
 use Rattle.rules.specs.declared.Kind.{Kind}
 use Rattle.rules.specs.Form.{inForm}
-use Rattle.rules.specs.Sections.{forms, faultsOf, lineFault}
+use Rattle.rules.specs.Sections.{formsBy, faultsOf, lineFault}
 use Rattle.rules.proofs.Rising.{first-least, first-found}
 use Rattle.rules.proofs.Line.{faults-rise, fault-out, fault-in}
 use Rattle.job.specs.FirstFault.{HasFault, out-of-form, found}
@@ -25,7 +25,7 @@ module _ (k : Kind) (b : Before) (fs : List Field) where
   -- and it has that one
   pub fault-has : 0 < lineFault k b fs → HasFault (lineFault k b fs) b fs k
   fault-has z =
-      by-test (inForm (forms k) fs)
+      by-test (inForm (formsBy b k) fs)
       (λ e.
       let q = fault-in k b fs e in
       let y = first-found (faultsOf k b fs) (omega arith) in

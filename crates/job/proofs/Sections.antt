@@ -23,7 +23,7 @@ use Rattle.rules.specs.declared.Kind.the-variants.{Count, Entry}
 use Rattle.job.specs.Carried.{Carried, before}
 use Rattle.entry.specs.Says as say
 use Rattle.entry.specs.Says.{number, at}
-use Rattle.rules.specs.Sections.{about, forms, lineFault}
+use Rattle.rules.specs.Sections.{about, formsBy, lineFault}
 use Rattle.job.specs.Lines.{sectionOf}
 use Rattle.job.specs.Walk.{entries, Accepted, Refused, walk}
 use Rattle.job.specs.InOrder.{Within}
@@ -59,22 +59,22 @@ pub record CountLine (s : Section) (x : List Field) : Type 0 where
   pub is : x ≡ countLine s count
   pub counted : Counted s count
 
-count-of : (s : Section) {x : List Field} → AllFormed (forms (Count s)) x
+count-of : (s : Section) (b : Before) {x : List Field} → AllFormed (formsBy b (Count s)) x
     → not (eqb (say.letter (at x 0)) (about s .letter)) ≡ false
     → beyond (pos (about s .least)) (pos (about s .most)) (number (at x 1)) ≡ false → CountLine s x
-count-of s (more (letter {b = b}) (more (count {m = n}) none)) e h =
+count-of s b (more (letter {b = l}) (more (count {m = n}) none)) e h =
     let t = within (about s .least) (about s .most) (pos n) h in
     record {
       count = n;
-      is = ap (λ (y : ℕ). Letter y ∷ Plus n ∷ []) (eqb-true b (about s .letter) (not-false _ e));
+      is = ap (λ (y : ℕ). Letter y ∷ Plus n ∷ []) (eqb-true l (about s .letter) (not-false _ e));
       counted = record { low = t .from; high = t .to };
     }
-count-of s (more (letter {b = b}) (more (count-below {m = zero} p) none)) e h = absurd (omega arith)
-count-of s (more (letter {b = b}) (more (count-below {m = suc n} p) none)) e h =
+count-of s b (more (letter {b = l}) (more (count-below {m = zero} p) none)) e h = absurd (omega arith)
+count-of s b (more (letter {b = l}) (more (count-below {m = suc n} p) none)) e h =
     absurd (let q : _≡_ {A = ℕ} 0 1 = cc (within (about s .least) (about s .most) (negsuc n) h .plain) in omega arith)
 
 pub count-says : (s : Section) (b : Before) (x : List Field) → lineFault (Count s) b x ≡ 0 → CountLine s x
-count-says s b x z = let o = in-order (Count s) b x z in count-of s (o .formed) (o .none .0) (o .none .1 .0)
+count-says s b x z = let o = in-order (Count s) b x z in count-of s b (o .formed) (o .none .0) (o .none .1 .0)
 
 pub count-counted : (s : Section) (b : Before) (n : ℕ) → lineFault (Count s) b (countLine s n) ≡ 0 → Counted s n
 count-counted s b n z =

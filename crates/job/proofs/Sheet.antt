@@ -3,53 +3,35 @@
 use Prim.Native.Nat.{ℕ, zero, suc, _+_}
 use mathlib.Core.Path.{_≡_, refl, ap, _∙_, sym, subst}
 use mathlib.Core.List.{List, [], _∷_, _++_, map, append-assoc, append-nil}
+use mathlib.Core.Bool.{Bool, true, false, cond}
 use native.Mathlib.Omega.{arith}
+use lib.Dec.{T}
+use lib.IntN.{pos}
 use lib.ListN.{length, getD, take}
 use Rattle.whole.specs.Lists.{Every}
 use Rattle.whole.proofs.Lists.{every-by, only-one}
 use Rattle.field.specs.declared.Field.{Field}
 use Rattle.rules.specs.declared.Section.{Section}
-use Rattle.rules.specs.declared.Section.the-variants.{B, W, I, F}
+use Rattle.rules.specs.declared.Section.the-variants.{«V», B, W, I, P, F}
 use Rattle.rules.specs.declared.Kind.the-variants.{Count, Entry}
 use Rattle.rules.specs.Sections.{sections, lineFault}
-use Rattle.entry.specs.Says.{buildingOf, windOf, internalOf, faceOf}
-use Rattle.job.specs.Carried.{Carried, nothing, before}
+use Rattle.entry.specs.Says.{hasHeights, yearOf, buildingOf, windOf, internalOf, stepOf, faceOf}
+use Rattle.job.specs.Carried.{Carried, nothing, withYear, withBuilding, withWinds, withInternals, withProfile}
+use Rattle.job.specs.Carried.{withFaces, before}
 use Rattle.job.specs.Lines.{sectionOf, sectionsOf, sheetOf}
-use Rattle.job.specs.Walk.{learn, Accepted, walk, readLines}
+use Rattle.job.specs.Walk.{learn, Accepted, walk, opening, readLines}
 use Rattle.job.proofs.Sections.{Counted, section-walk, section-in-order, section-begun}
-use Rattle.job.proofs.Walk.{accepted-end, learnAll, EntriesInOrder, entries-every, every-entry}
+use Rattle.job.proofs.Walk.{accepted-end, learnAll, EntriesInOrder, Apart, entries-every, every-entry}
 
 -- ---- what a section adds to what was read before it
 
 abbrev pub gained : Section → List (List Field) → Carried → Carried
-gained B xs c =
-    record {
-      building = buildingOf (getD xs 0 []);
-      winds = c .winds;
-      internals = c .internals;
-      faces = c .faces;
-    }
-gained W xs c =
-    record {
-      building = c .building;
-      winds = c .winds ++ map windOf xs;
-      internals = c .internals;
-      faces = c .faces;
-    }
-gained I xs c =
-    record {
-      building = c .building;
-      winds = c .winds;
-      internals = c .internals ++ map internalOf xs;
-      faces = c .faces;
-    }
-gained F xs c =
-    record {
-      building = c .building;
-      winds = c .winds;
-      internals = c .internals;
-      faces = c .faces ++ map faceOf xs;
-    }
+gained «V» xs c = withYear (yearOf (getD xs 0 [])) c
+gained B xs c = withBuilding (buildingOf (getD xs 0 [])) c
+gained W xs c = withWinds (c .winds ++ map windOf xs) c
+gained I xs c = withInternals (c .internals ++ map internalOf xs) c
+gained P xs c = withProfile (c .profile ++ map stepOf xs) c
+gained F xs c = withFaces (c .faces ++ map (faceOf (hasHeights (c .year))) xs) c
 
 -- entries are learned one after the other, at the end of the list that they make
 learn-list : {A : Type 0} (s : Section) (of : List Field → A) (put : List A → Carried)
@@ -61,29 +43,35 @@ learn-list s of put step l (x ∷ xs) =
 
 pub section-learned : (s : Section) (xs : List (List Field)) (c : Carried) → Counted s (length xs)
     → learnAll s xs c ≡ gained s xs c
+section-learned «V» xs c w =
+    ap (λ (ys : List (List Field)). learnAll «V» ys c) (only-one xs [] (omega (arith, w .low, w .high)))
 section-learned B xs c w =
     ap (λ (ys : List (List Field)). learnAll B ys c) (only-one xs [] (omega (arith, w .low, w .high)))
-section-learned W xs c w =
-    learn-list W windOf
-    (λ l. record { building = c .building; winds = l; internals = c .internals; faces = c .faces }) (λ l x. refl)
-    (c .winds) xs
-section-learned I xs c w =
-    learn-list I internalOf
-    (λ l. record { building = c .building; winds = c .winds; internals = l; faces = c .faces }) (λ l x. refl)
-    (c .internals) xs
+section-learned W xs c w = learn-list W windOf (λ l. withWinds l c) (λ l x. refl) (c .winds) xs
+section-learned I xs c w = learn-list I internalOf (λ l. withInternals l c) (λ l x. refl) (c .internals) xs
+section-learned P xs c w = learn-list P stepOf (λ l. withProfile l c) (λ l x. refl) (c .profile) xs
 section-learned F xs c w =
-    learn-list F faceOf
-    (λ l. record { building = c .building; winds = c .winds; internals = c .internals; faces = l }) (λ l x. refl)
-    (c .faces) xs
+    learn-list F (faceOf (hasHeights (c .year))) (λ l. withFaces l c) (λ l x. refl) (c .faces) xs
 
 -- ---- sections, one after the other
 
--- how many sections stand before one
-abbrev earlier : Section → ℕ
-earlier B = 0
-earlier W = 1
-earlier I = 2
-earlier F = 3
+-- the sections of a sheet: V and P only where it has heights
+abbrev pub Called : Bool → Section → Type 0
+Called h «V» = T h
+Called h B = Unit
+Called h W = Unit
+Called h I = Unit
+Called h P = T h
+Called h F = Unit
+
+-- how many stand before one
+abbrev earlier : Bool → Section → ℕ
+earlier h «V» = 0
+earlier h B = cond h 1 0
+earlier h W = cond h 2 1
+earlier h I = cond h 3 2
+earlier h P = 4
+earlier h F = cond h 5 3
 
 module _ (es : Section → List (List Field)) where
   abbrev gainedAll : List Section → Carried → Carried
@@ -127,72 +115,124 @@ module _ (es : Section → List (List Field)) where
   -- ---- the sections of a sheet
 
   -- what the entries say
-  abbrev pub saidBy : Carried
-  saidBy = record {
-    building = buildingOf (getD (es B) 0 []);
-    winds = map windOf (es W);
-    internals = map internalOf (es I);
-    faces = map faceOf (es F);
-  }
+  abbrev pub saidBy : Bool → Carried
+  saidBy h =
+      let year = cond h (yearOf (getD (es «V») 0 [])) (pos 1) in
+      record {
+        year = year;
+        building = buildingOf (getD (es B) 0 []);
+        winds = map windOf (es W);
+        internals = map internalOf (es I);
+        profile = cond h (map stepOf (es P)) [];
+        faces = map (faceOf (hasHeights year)) (es F);
+      }
 
   -- what those before a section say
-  abbrev readBefore : Section → Carried
-  readBefore s = gainedAll (take (earlier s) sections) nothing
+  abbrev pub readBefore : Bool → Section → Carried
+  readBefore h s = gainedAll (take (earlier h s) (sections h)) nothing
 
-  pub record SheetInOrder : Type 0 where
-    pub counted : (s : Section) → Counted s (length (es s))
-    pub entries : (s : Section) → EntriesInOrder s (readBefore s) (es s)
+  pub record SheetInOrder (h : Bool) : Type 0 where
+    pub counted : (s : Section) → Called h s → Counted s (length (es s))
+    pub entries : (s : Section) → Called h s → EntriesInOrder s (readBefore h s) (es s)
 
-  pub sheet-accepted : SheetInOrder → readLines (sheetOf es) ≡ Accepted saidBy
+  pub sheet-accepted : (h : Bool) → SheetInOrder h → readLines (sheetOf h es) ≡ Accepted (saidBy h)
   unfolding readLines
-  sheet-accepted o =
-      sections-accepted sections nothing 1 (
-        o .counted B,
-        o .entries B,
-        (o .counted W, o .entries W, (o .counted I, o .entries I, (o .counted F, o .entries F, tt))),
+  sheet-accepted true o =
+      sections-accepted (sections true) nothing 1 (
+        o .counted «V» tt,
+        o .entries «V» tt,
+        (
+          o .counted B tt,
+          o .entries B tt,
+          (
+            o .counted W tt,
+            o .entries W tt,
+            (
+              o .counted I tt,
+              o .entries I tt,
+              (o .counted P tt, o .entries P tt, (o .counted F tt, o .entries F tt, tt)),
+            ),
+          ),
+        ),
+      )
+  sheet-accepted false o =
+      sections-accepted (sections false) nothing 1 (
+        o .counted B tt,
+        o .entries B tt,
+        (
+          o .counted W tt,
+          o .entries W tt,
+          (o .counted I tt, o .entries I tt, (o .counted F tt, o .entries F tt, tt)),
+        ),
       )
 
-  pub sheet-in-order : (e : Carried) → readLines (sheetOf es) ≡ Accepted e → SheetInOrder
+  counted-in : (h : Bool) → SectionsInOrder (sections h) nothing → (s : Section) → Called h s
+      → Counted s (length (es s))
+  counted-in true o «V» k = o .0
+  counted-in true o B k = o .2 .0
+  counted-in true o W k = o .2 .2 .0
+  counted-in true o I k = o .2 .2 .2 .0
+  counted-in true o P k = o .2 .2 .2 .2 .0
+  counted-in true o F k = o .2 .2 .2 .2 .2 .0
+  counted-in false o «V» k = absurd k
+  counted-in false o B k = o .0
+  counted-in false o W k = o .2 .0
+  counted-in false o I k = o .2 .2 .0
+  counted-in false o P k = absurd k
+  counted-in false o F k = o .2 .2 .2 .0
+
+  entries-in : (h : Bool) → SectionsInOrder (sections h) nothing → (s : Section) → Called h s
+      → EntriesInOrder s (readBefore h s) (es s)
+  entries-in true o «V» k = o .1
+  entries-in true o B k = o .2 .1
+  entries-in true o W k = o .2 .2 .1
+  entries-in true o I k = o .2 .2 .2 .1
+  entries-in true o P k = o .2 .2 .2 .2 .1
+  entries-in true o F k = o .2 .2 .2 .2 .2 .1
+  entries-in false o «V» k = absurd k
+  entries-in false o B k = o .1
+  entries-in false o W k = o .2 .1
+  entries-in false o I k = o .2 .2 .1
+  entries-in false o P k = absurd k
+  entries-in false o F k = o .2 .2 .2 .1
+
+  -- a sheet opens with V exactly if it has heights
+  opens : (h : Bool) → opening (sheetOf h es) ≡ h
+  opens true = refl
+  opens false = refl
+
+  pub sheet-in-order : (h : Bool) (e : Carried) → readLines (sheetOf h es) ≡ Accepted e → SheetInOrder h
   unfolding readLines
-  sheet-in-order e a = record { counted = counted-in o; entries = entries-in o }
-    where
-      o : SectionsInOrder sections nothing
-      o = sections-in-order sections nothing e 1 a
-
-      counted-in : SectionsInOrder sections nothing → (s : Section) → Counted s (length (es s))
-      counted-in o B = o .0
-      counted-in o W = o .2 .0
-      counted-in o I = o .2 .2 .0
-      counted-in o F = o .2 .2 .2 .0
-
-      entries-in : SectionsInOrder sections nothing → (s : Section) → EntriesInOrder s (readBefore s) (es s)
-      entries-in o B = o .1
-      entries-in o W = o .2 .1
-      entries-in o I = o .2 .2 .1
-      entries-in o F = o .2 .2 .2 .1
+  sheet-in-order h e a =
+      let o = sections-in-order (sections h) nothing e 1 (rw (opens h) at a) in
+      record { counted = counted-in h o; entries = entries-in h o }
 
   -- the sections behind tell one nothing, and the building's line is judged by itself
-  behind-tell : (s : Section) (x : List Field)
-      → lineFault (Entry s) (before (readBefore s)) x ≡ lineFault (Entry s) (before saidBy) x
+  behind-tell : (h : Bool) (s : Section) → Called h s → Apart s → (x : List Field)
+      → lineFault (Entry s) (before (readBefore h s)) x ≡ lineFault (Entry s) (before (saidBy h)) x
   unfolding lineFault
-  behind-tell B x = refl
-  behind-tell W x = refl
-  behind-tell I x = refl
-  behind-tell F x = refl
+  behind-tell h «V» k a x = refl
+  behind-tell h B k a x = refl
+  behind-tell true W k a x = refl
+  behind-tell false W k a x = refl
+  behind-tell h I k a x = refl
+  behind-tell h P k a x = absurd a
+  behind-tell true F k a x = refl
+  behind-tell false F k a x = refl
 
   -- so each entry is in order by all that is said
-  abbrev pub AllInOrder : Section → Type 0
-  AllInOrder s = Every (λ x. lineFault (Entry s) (before saidBy) x ≡ 0) (es s)
+  abbrev pub AllInOrder : Bool → Section → Type 0
+  AllInOrder h s = Every (λ x. lineFault (Entry s) (before (saidBy h)) x ≡ 0) (es s)
 
-  pub in-order-all : SheetInOrder → (s : Section) → AllInOrder s
-  in-order-all o s =
-      every-by (λ x e. sym (behind-tell s x) ∙ e) (es s) (entries-every s (es s) (readBefore s) (o .entries s))
+  pub in-order-all : {h : Bool} → SheetInOrder h → (s : Section) → Called h s → Apart s → AllInOrder h s
+  in-order-all {h} o s k a =
+      every-by (λ x e. sym (behind-tell h s k a x) ∙ e) (es s)
+      (entries-every s a (es s) (readBefore h s) (o .entries s k))
 
-  pub all-in-order : ((s : Section) → Counted s (length (es s))) → ((s : Section) → AllInOrder s) → SheetInOrder
-  all-in-order w h = record { counted = w; entries = at }
-    where
-      at : (s : Section) → EntriesInOrder s (readBefore s) (es s)
-      at s = every-entry s (es s) (readBefore s) (every-by (λ x e. behind-tell s x ∙ e) (es s) (h s))
+  pub all-in-order : (h : Bool) (s : Section) → Called h s → Apart s → AllInOrder h s
+      → EntriesInOrder s (readBefore h s) (es s)
+  all-in-order h s k a all =
+      every-entry s a (es s) (readBefore h s) (every-by (λ x e. behind-tell h s k a x ∙ e) (es s) all)
 
 -- ---- lines that are accepted are some sections
 
@@ -215,26 +255,34 @@ sections-there (s ∷ ss) c e line xs a =
     (first (t .front) f, t .is ∙ ap (λ (l : List (List Field)). sectionOf s (t .front) ++ l) q)
 
 sheet-there : (xs : List (List Field)) (e : Carried) → readLines xs ≡ Accepted e
-    → (es : Section → List (List Field)) × (xs ≡ sheetOf es)
+    → (es : Section → List (List Field)) × (xs ≡ sheetOf (opening xs) es)
 unfolding readLines
-sheet-there xs e a = let (f, q) = sections-there sections nothing e 1 xs a in (λ s. f (earlier s), q)
+sheet-there xs e a =
+    let (f, q) = sections-there (sections (opening xs)) nothing e 1 xs a in
+    (λ s. f (earlier (opening xs) s), q ∙ by-section (opening xs) f)
+  where
+    by-section : (h : Bool) (f : ℕ → List (List Field)) → numbered f (sections h) ≡ sheetOf h (λ s. f (earlier h s))
+    by-section true f = refl
+    by-section false f = refl
 
 -- in order, and read as what their entries say
 pub record AcceptedSheet (xs : List (List Field)) (c : Carried) : Type 0 where
+  pub heights : Bool
   pub entries : Section → List (List Field)
-  pub is : xs ≡ sheetOf entries
-  pub in-order : SheetInOrder entries
-  pub said : c ≡ saidBy entries
+  pub is : xs ≡ sheetOf heights entries
+  pub in-order : SheetInOrder entries heights
+  pub said : c ≡ saidBy entries heights
 
 accepted-same : {c d : Carried} → Accepted c ≡ Accepted d → c ≡ d
 accepted-same e = cc
 
-pub sheet-said : (es : Section → List (List Field)) (c : Carried) → readLines (sheetOf es) ≡ Accepted c
-    → c ≡ saidBy es
-sheet-said es c a = accepted-same (sym a ∙ sheet-accepted es (sheet-in-order es c a))
+pub sheet-said : (es : Section → List (List Field)) (h : Bool) (c : Carried) → readLines (sheetOf h es) ≡ Accepted c
+    → c ≡ saidBy es h
+sheet-said es h c a = accepted-same (sym a ∙ sheet-accepted es h (sheet-in-order es h c a))
 
 pub accepted-sheet : (xs : List (List Field)) (c : Carried) → readLines xs ≡ Accepted c → AcceptedSheet xs c
 accepted-sheet xs c a =
     let (es, e) = sheet-there xs c a in
+    let h = opening xs in
     let b = subst (λ (l : List (List Field)). readLines l ≡ Accepted c) e a in
-    record { entries = es; is = e; in-order = sheet-in-order es c b; said = sheet-said es c b }
+    record { heights = h; entries = es; is = e; in-order = sheet-in-order es h c b; said = sheet-said es h c b }

@@ -13,11 +13,11 @@ use Rattle.whole.proofs.Tests.{by-test}
 use Rattle.verdict.specs.Verdict.{refusal}
 use Rattle.field.specs.declared.Field.{Field}
 use Rattle.rules.specs.declared.Section.{Section}
-use Rattle.rules.specs.declared.Section.the-variants.{B, W, I, F}
+use Rattle.rules.specs.declared.Section.the-variants.{«V», B, W, I, P, F}
 use Rattle.rules.specs.declared.Kind.{Kind}
 use Rattle.rules.specs.declared.Kind.the-variants.{Entry}
 use Rattle.job.specs.Carried.{Carried, before}
-use Rattle.rules.specs.Sections.{forms, lineFault}
+use Rattle.rules.specs.Sections.{formsBy, lineFault}
 use Rattle.rules.proofs.Form.{AllFormed}
 use Rattle.rules.proofs.Line.{in-order}
 use Rattle.job.specs.Walk.{entries, calls, learn, Accepted, Refused, walk}
@@ -114,42 +114,64 @@ module _ (s : Section) where
   entries-next (x ∷ xs) zero c n h z = (z, tt)
   entries-next (x ∷ xs) (suc i) c n h z = (h .0, entries-next xs i (learn (Entry s) x c) (omega arith) (h .1) z)
 
+-- the form of an entry goes by nothing that others of its section say
+form-kept : (s : Section) (y : List Field) (c : Carried)
+    → formsBy (before (learn (Entry s) y c)) (Entry s) ≡ formsBy (before c) (Entry s)
+form-kept «V» y c = refl
+form-kept B y c = refl
+form-kept W y c = refl
+form-kept I y c = refl
+form-kept P y c = refl
+form-kept F y c = refl
+
 -- entries in order are in form
 pub entries-formed : (s : Section) (xs : List (List Field)) (c : Carried) → EntriesInOrder s c xs
-    → Every (AllFormed (forms (Entry s))) xs
+    → Every (AllFormed (formsBy (before c) (Entry s))) xs
 entries-formed s [] c h = tt
-entries-formed s (x ∷ xs) c h =
-    (in-order (Entry s) (before c) x (h .0) .formed, entries-formed s xs (learn (Entry s) x c) (h .1))
+entries-formed s (x ∷ xs) c h = (
+  in-order (Entry s) (before c) x (h .0) .formed,
+  rw (form-kept s x c) at (entries-formed s xs (learn (Entry s) x c) (h .1)),
+)
 
 -- ---- what the entries of a section tell each other
 
--- nothing: a building's line is judged by itself, and the others by the building
-entry-tells : (s : Section) (y : List Field) (c : Carried) (x : List Field)
+-- nothing, but in a profile, where heights rise
+abbrev pub Apart : Section → Type 0
+Apart «V» = Unit
+Apart B = Unit
+Apart W = Unit
+Apart I = Unit
+Apart P = ⊥
+Apart F = Unit
+
+entry-tells : (s : Section) → Apart s → (y : List Field) (c : Carried) (x : List Field)
     → lineFault (Entry s) (before (learn (Entry s) y c)) x ≡ lineFault (Entry s) (before c) x
 unfolding lineFault
-entry-tells B y c x = refl
-entry-tells W y c x = refl
-entry-tells I y c x = refl
-entry-tells F y c x = refl
+entry-tells «V» a y c x = refl
+entry-tells B a y c x = refl
+entry-tells W a y c x = refl
+entry-tells I a y c x = refl
+entry-tells P a y c x = absurd a
+entry-tells F a y c x = refl
 
-module _ (s : Section) where
+module _ (s : Section) (a : Apart s) where
   pub entries-tell : (ys : List (List Field)) (c : Carried) (x : List Field)
       → lineFault (Entry s) (before (learnAll s ys c)) x ≡ lineFault (Entry s) (before c) x
   entries-tell [] c x = refl
-  entries-tell (y ∷ ys) c x = entries-tell ys (learn (Entry s) y c) x ∙ entry-tells s y c x
+  entries-tell (y ∷ ys) c x = entries-tell ys (learn (Entry s) y c) x ∙ entry-tells s a y c x
 
   -- so each of them is in order by what was read before all
   pub entries-every : (xs : List (List Field)) (c : Carried) → EntriesInOrder s c xs
       → Every (λ x. lineFault (Entry s) (before c) x ≡ 0) xs
   entries-every [] c h = tt
   entries-every (x ∷ xs) c h =
-      (h .0, every-by (λ y e. sym (entry-tells s x c y) ∙ e) xs (entries-every xs (learn (Entry s) x c) (h .1)))
+      (h .0, every-by (λ y e. sym (entry-tells s a x c y) ∙ e) xs (entries-every xs (learn (Entry s) x c) (h .1)))
 
   pub every-entry : (xs : List (List Field)) (c : Carried) → Every (λ x. lineFault (Entry s) (before c) x ≡ 0) xs
       → EntriesInOrder s c xs
   every-entry [] c h = tt
   every-entry (x ∷ xs) c h =
-      (h .0, every-entry xs (learn (Entry s) x c) (every-by (λ y e. entry-tells s x c y ∙ e) xs (h .1)))
+      (h .0, every-entry xs (learn (Entry s) x c) (every-by (λ y e. entry-tells s a x c y ∙ e) xs (h .1)))
 
 -- the first n lines, and the rest
 pub record Split (n : ℕ) (xs : List (List Field)) : Type 0 where

@@ -16,20 +16,21 @@ use Rattle.building.specs.Fault.{first}
 use Rattle.building.specs.Building.{faults, outOfForm, buildingFault, givenFault}
 use Rattle.rules.specs.declared.Before.{Before}
 use Rattle.rules.specs.declared.FieldForm.the-variants.{Capital, Number, Mark}
-use Rattle.rules.specs.declared.Section.the-variants.{B, W, I, F}
+use Rattle.rules.specs.declared.Section.the-variants.{«V», B, W, I, P, F}
 use Rattle.rules.specs.declared.Kind.{Kind}
 use Rattle.rules.specs.declared.Kind.the-variants.{Entry}
 use Rattle.entry.specs.declared.Wind.{Wind}
+use Rattle.entry.specs.declared.Step.{Step}
 use Rattle.entry.specs.declared.Face.{Face}
-use Rattle.entry.specs.Says.{both}
-use Rattle.rules.specs.Form.{isNumber, hasForm, inForm}
-use Rattle.rules.specs.Faults.{windFaults, internalFaults, faceFaults}
-use Rattle.rules.specs.Sections.{forms, faultsOf, lineFault}
-use Rattle.entry_written.specs.Fields.{signed, numberField, markField, buildingFields, windFields, internalFields}
-use Rattle.entry_written.specs.Fields.{faceFields}
+use Rattle.entry.specs.Says.{both, hasHeights, carriedFace}
+use Rattle.rules.specs.Form.{isNumber, hasForm, inForm, numberForms}
+use Rattle.rules.specs.Faults.{yearFaults, windFaults, internalFaults, stepFaults, faceFaults}
+use Rattle.rules.specs.Sections.{forms, formsBy, faultsOf, lineFault}
+use Rattle.entry_written.specs.Fields.{signed, numberField, markField, yearFields, buildingFields, windFields}
+use Rattle.entry_written.specs.Fields.{internalFields, stepFields, faceFields}
 use Rattle.rules.proofs.Form.{in-formed}
 use Rattle.rules.proofs.Line.{fault-out, fault-in}
-use Rattle.job.proofs.Lines.{signed-back, building-back, wind-back, internal-back, face-back}
+use Rattle.job.proofs.Lines.{signed-back, year-back, building-back, wind-back, internal-back, step-back, face-back}
 
 -- ---- the form of a value's field
 
@@ -61,7 +62,7 @@ letter-form b = refl
 
 -- ---- the fault of a value's line
 
-abbrev any : List Bool → Bool
+abbrev pub any : List Bool → Bool
 any [] = false
 any (t ∷ ts) = t || any ts
 
@@ -75,8 +76,8 @@ none-any (true ∷ ts) = refl
 none-any (false ∷ ts) = none-any ts
 
 -- it is in form where none of its numbers is too long, and its entry then has number n
-given-by : (k : Kind) (b : Before) (fs : List Field) (ts : List Bool) (n : ℕ) → inForm (forms k) fs ≡ none ts
-    → (inForm (forms k) fs ≡ true → first (faultsOf k b fs) ≡ n) → lineFault k b fs ≡ cond (any ts) 1 n
+given-by : (k : Kind) (b : Before) (fs : List Field) (ts : List Bool) (n : ℕ) → inForm (formsBy b k) fs ≡ none ts
+    → (inForm (formsBy b k) fs ≡ true → first (faultsOf k b fs) ≡ n) → lineFault k b fs ≡ cond (any ts) 1 n
 given-by k b fs ts n e h =
     by-test (any ts) (λ q. fault-out k b fs (e ∙ none-any ts ∙ ap not q) ∙ rw q)
     (λ q. let y = e ∙ none-any ts ∙ ap not q in fault-in k b fs y ∙ h y ∙ rw q)
@@ -95,7 +96,7 @@ building-given g b =
       number-form (g .x),
     ))
     (λ e.
-    ap (λ (h : Building). first (faults h)) (building-back g (in-formed (forms (Entry B)) (buildingFields g) e))))
+    ap (λ (h : Building). first (faults h)) (building-back g (in-formed (numberForms 6) (buildingFields g) e))))
   where
     long : List Bool
     long =
@@ -104,6 +105,12 @@ building-given g b =
 
 -- so has each entry
 module _ (b : Before) where
+  pub year-given : (y : ℤ) → lineFault (Entry «V») b (yearFields y) ≡ cond (tooLong y || false) 1 (first (yearFaults y))
+  unfolding inForm
+  year-given y =
+      given-by (Entry «V») b (yearFields y) (tooLong y ∷ []) (first (yearFaults y)) (rw (number-form y))
+      (λ e. ap (λ (z : ℤ). first (yearFaults z)) (year-back y (in-formed (numberForms 1) (yearFields y) e)))
+
   pub wind-given : (w : Wind)
       → lineFault (Entry W) b (windFields w) ≡ cond (tooLong (w .direction) || (tooLong (w .speed) || false)) 1
       (first (windFaults (b .building) w))
@@ -113,7 +120,7 @@ module _ (b : Before) where
       (first (windFaults (b .building) w))
       (rw (number-form (w .direction), number-form (w .speed)))
       (λ e. ap (λ (v : Wind). first (windFaults (b .building) v))
-      (wind-back w (in-formed (forms (Entry W)) (windFields w) e)))
+      (wind-back w (in-formed (numberForms 2) (windFields w) e)))
 
   pub internal-given : (i : ℤ)
       → lineFault (Entry I) b (internalFields i) ≡ cond (tooLong i || false) 1 (first (internalFaults i))
@@ -121,21 +128,51 @@ module _ (b : Before) where
   internal-given i =
       given-by (Entry I) b (internalFields i) (tooLong i ∷ []) (first (internalFaults i)) (rw (number-form i))
       (λ e.
-      ap (λ (z : ℤ). first (internalFaults z)) (internal-back i (in-formed (forms (Entry I)) (internalFields i) e)))
+      ap (λ (z : ℤ). first (internalFaults z)) (internal-back i (in-formed (numberForms 1) (internalFields i) e)))
 
-  pub face-given : (f : Face) → lineFault (Entry F) b (faceFields f)
-      ≡ cond (markTooLong (f .mark) || (tooLong (f .x) || (tooLong (f .y) || (tooLong (f .z) || false)))) 1
-      (first (faceFaults (b .building) f))
+  pub step-given : (s : Step)
+      → lineFault (Entry P) b (stepFields s) ≡ cond (tooLong (s .height) || (tooLong (s .factor) || false)) 1
+      (first (stepFaults (b .highest) s))
   unfolding inForm
-  face-given f =
-      given-by (Entry F) b (faceFields f)
-      (markTooLong (f .mark) ∷ tooLong (f .x) ∷ tooLong (f .y) ∷ tooLong (f .z) ∷ [])
-      (first (faceFaults (b .building) f))
-      (rw (letter-form (f .zone), mark-form (f .mark), number-form (f .x), number-form (f .y), number-form (f .z)))
-      (λ e. ap (λ (h : Face). first (faceFaults (b .building) h))
-      (face-back f (in-formed (forms (Entry F)) (faceFields f) e)))
+  step-given s =
+      given-by (Entry P) b (stepFields s) (tooLong (s .height) ∷ tooLong (s .factor) ∷ [])
+      (first (stepFaults (b .highest) s))
+      (rw (number-form (s .height), number-form (s .factor)))
+      (λ e. ap (λ (t : Step). first (stepFaults (b .highest) t))
+      (step-back s (in-formed (numberForms 2) (stepFields s) e)))
+
+-- the numbers of a face that are written: 0 is never too long
+abbrev pub long : Face → List Bool
+long f = markTooLong (f .mark) ∷ tooLong (f .height) ∷ tooLong (f .x) ∷ tooLong (f .y) ∷ tooLong (f .z) ∷ []
+
+face-formed : (h : Bool) (f : Face) → inForm (forms h (Entry F)) (faceFields h f) ≡ none (long (carriedFace h f))
+unfolding inForm tooLong
+face-formed true f =
+    rw (
+      letter-form (f .zone),
+      mark-form (f .mark),
+      number-form (f .height),
+      number-form (f .x),
+      number-form (f .y),
+      number-form (f .z),
+    )
+face-formed false f =
+    rw (letter-form (f .zone), mark-form (f .mark), number-form (f .x), number-form (f .y), number-form (f .z))
+
+module _ (b : Before) (f : Face) where
+  abbrev h : Bool
+  h = hasHeights (b .year)
+
+  pub face-given : lineFault (Entry F) b (faceFields h f) ≡ cond (any (long (carriedFace h f))) 1
+      (first (faceFaults b (carriedFace h f)))
+  face-given =
+      given-by (Entry F) b (faceFields h f) (long (carriedFace h f)) (first (faceFaults b (carriedFace h f)))
+      (face-formed h f)
+      (λ e. ap (λ (g : Face). first (faceFaults b g)) (face-back h f (in-formed (forms h (Entry F)) (faceFields h f) e)))
 
 -- what the code finds, by what it goes by
-pub long-by : {t₁ t₂ t₃ t₄ u₁ u₂ u₃ u₄ : Bool} {n m r : ℕ} → t₁ ≡ u₁ → t₂ ≡ u₂ → t₃ ≡ u₃ → t₄ ≡ u₄ → n ≡ m
-    → r ≡ cond (t₁ || (t₂ || (t₃ || (t₄ || false)))) 1 n → r ≡ cond (u₁ || (u₂ || (u₃ || (u₄ || false)))) 1 m
-long-by p q s t k e = e ∙ (λ i. cond (p i || (q i || (s i || (t i || false)))) 1 (k i))
+pub long-by : {t₁ t₂ t₃ t₄ t₅ u₁ u₂ u₃ u₄ u₅ : Bool} {n m r : ℕ} → t₁ ≡ u₁ → t₂ ≡ u₂ → t₃ ≡ u₃ → t₄ ≡ u₄ → t₅ ≡ u₅
+    → n ≡ m
+    → r ≡ cond (t₁ || (t₂ || (t₃ || (t₄ || (t₅ || false))))) 1 n
+    → r ≡ cond (u₁ || (u₂ || (u₃ || (u₄ || (u₅ || false))))) 1 m
+long-by e₁ e₂ e₃ e₄ e₅ q e = e ∙ (λ i. cond (e₁ i || (e₂ i || (e₃ i || (e₄ i || (e₅ i || false))))) 1 (q i))

@@ -9,15 +9,15 @@ use Rattle.building.specs.Fault.{Fault}
 use Rattle.rules.specs.declared.Before.{Before}
 use Rattle.rules.specs.declared.Kind.{Kind}
 use Rattle.rules.specs.Form.{inForm}
-use Rattle.rules.specs.Sections.{forms, faultsOf}
+use Rattle.rules.specs.Sections.{formsBy, faultsOf}
 use Rattle.job.specs.Carried.{Carried, before}
 use Rattle.job.specs.Walk.{calls, learn, Reading, Accepted, Refused}
 
 -- a line has fault n by what was read before it: it is out of form and n is 1, or it is in form and one of its faults
 -- of that number is found
 pub data HasFault (n : ℕ) (b : Before) (fs : List Field) (k : Kind) : Type 0 where
-  out-of-form : n ≡ 1 → inForm (forms k) fs ≡ false → HasFault n b fs k
-  found : inForm (forms k) fs ≡ true → (f : Fault) → List·Memᴰ f (faultsOf k b fs) → f .found ≡ true → f .number ≡ n
+  out-of-form : n ≡ 1 → inForm (formsBy b k) fs ≡ false → HasFault n b fs k
+  found : inForm (formsBy b k) fs ≡ true → (f : Fault) → List·Memᴰ f (faultsOf k b fs) → f .found ≡ true → f .number ≡ n
       → HasFault n b fs k
 
 -- line i, counted from 0, has fault n, where each line before it is taken for what was called for: a line missing or

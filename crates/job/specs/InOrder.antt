@@ -1,19 +1,21 @@
 -- What an accepted sheet carries: every number in its range, every count within its limits, every face on the
--- building.
+-- building and, from year 2 on, within the profile.
 use Prim.Native.Nat.{ℕ, _≤_}
 use mathlib.Core.Path.{_≡_}
 use mathlib.Core.Logic.{_⊎_}
 use mathlib.Core.Bool.{true}
+use mathlib.Core.List.{List, [], _∷_}
 use lib.ListN.{length}
-use lib.IntN.{ℤ, pos, natAbs}
-use lib.Signed.{_≤ℤ_}
+use lib.IntN.{ℤ, pos, negℤ, natAbs}
+use lib.Signed.{_≤ℤ_, _<ℤ_}
 use Rattle.whole.specs.Lists.{Every}
 use Rattle.building.specs.declared.Building.{Building}
 use Rattle.building.specs.Building.{buildingFault}
 use Rattle.building.specs.Places.{A, H, zoneOn, knows}
 use Rattle.entry.specs.declared.Wind.{Wind}
+use Rattle.entry.specs.declared.Step.{Step}
 use Rattle.entry.specs.declared.Face.{Face}
-use Rattle.job.specs.Carried.{Carried}
+use Rattle.job.specs.Carried.{Carried, lowestOf, highestOf}
 use Rattle.entry.specs.Says.{both}
 
 -- n lies from the first number to the second, both included
@@ -39,6 +41,41 @@ pub record FaceInOrder (g : Building) (f : Face) : Type 0 where
   pub y : natAbs (f .y) ≤ 100000
   pub z : natAbs (f .z) ≤ 100000
 
+-- ---- the form of its year
+
+-- z lies from the first number to the second, both included
+pub record Between (least greatest z : ℤ) : Type 0 where
+  pub low : least ≤ℤ z
+  pub high : z ≤ℤ greatest
+
+pub record StepInOrder (s : Step) : Type 0 where
+  pub height : Between (pos 0) (pos 30000) (s .height)
+  pub factor : Between (pos 1) (pos 1000) (s .factor)
+
+-- from the lowest step of a profile to its highest
+pub record HeightInOrder (profile : List Step) (z : ℤ) : Type 0 where
+  pub range : Between (pos 0) (pos 30000) z
+  pub within : Between (lowestOf profile) (highestOf profile) z
+
+-- each height is above the one before it, and the first above z
+abbrev pub Rising : ℤ → List Step → Type 0
+Rising z [] = Unit
+Rising z (s ∷ ss) = (z <ℤ s .height) × Rising (s .height) ss
+
+-- year 1 carries no profile and no heights
+pub record OfYear1 (c : Carried) : Type 0 where
+  pub year : c .year ≡ pos 1
+  pub profile : c .profile ≡ []
+  pub heights : Every (λ f. f .height ≡ pos 0) (c .faces)
+
+-- a later year carries a profile, and a height within it for each face
+pub record OfLaterYear (c : Carried) : Type 0 where
+  pub year : c .year ≡ pos 2
+  pub counted : Within 1 16 (length (c .profile))
+  pub profile : Every StepInOrder (c .profile)
+  pub rising : Rising (negℤ (pos 1)) (c .profile)
+  pub heights : Every (λ f. HeightInOrder (c .profile) (f .height)) (c .faces)
+
 pub record InOrder (c : Carried) : Type 0 where
   pub building : buildingFault (c .building) ≡ 0
   pub winds-counted : Within 1 8 (length (c .winds))
@@ -47,3 +84,4 @@ pub record InOrder (c : Carried) : Type 0 where
   pub internals : Every InternalInOrder (c .internals)
   pub faces-counted : Within 1 24 (length (c .faces))
   pub faces : Every (FaceInOrder (c .building)) (c .faces)
+  pub form : OfYear1 c ⊎ OfLaterYear c

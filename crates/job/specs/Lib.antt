@@ -5,3 +5,4 @@ pub mod Lines
 pub mod Walk
 pub mod FirstFault
 pub mod InOrder
+pub mod Judging

@@ -1,21 +1,25 @@
--- The lines of fields of what a sheet carries: sections B, W, I, F in that order, each after its count.
+-- The lines of fields of what a sheet carries: its sections in order, each after its count.
 use mathlib.Core.List.{List, [], _∷_, _++_, map}
 use Prim.Native.Nat.{ℕ, _+_}
 use lib.ListN.{length}
+use mathlib.Core.Bool.{Bool}
 use Rattle.field.specs.declared.Field.{Field}
 use Rattle.field.specs.declared.Field.the-variants.{Plus, Letter}
 use Rattle.rules.specs.declared.Section.{Section}
-use Rattle.rules.specs.declared.Section.the-variants.{B, W, I, F}
+use Rattle.rules.specs.declared.Section.the-variants.{«V», B, W, I, P, F}
 use Rattle.job.specs.Carried.{Carried}
-use Rattle.entry_written.specs.Fields.{buildingFields, windFields, internalFields, faceFields}
+use Rattle.entry.specs.Says.{hasHeights}
+use Rattle.entry_written.specs.Fields.{yearFields, buildingFields, windFields, internalFields, stepFields, faceFields}
 use Rattle.rules.specs.Sections.{about, sections}
 
 -- the entries of each section as fields
 abbrev pub entriesOf : Carried → Section → List (List Field)
+entriesOf c «V» = yearFields (c .year) ∷ []
 entriesOf c B = buildingFields (c .building) ∷ []
 entriesOf c W = map windFields (c .winds)
 entriesOf c I = map internalFields (c .internals)
-entriesOf c F = map faceFields (c .faces)
+entriesOf c P = map stepFields (c .profile)
+entriesOf c F = map (faceFields (hasHeights (c .year))) (c .faces)
 
 -- a section: its letter and the number of its entries, then the entries
 abbrev pub sectionOf : Section → List (List Field) → List (List Field)
@@ -31,9 +35,9 @@ abbrev pub lineBehind : (Section → List (List Field)) → List Section → ℕ
 lineBehind es [] = 1
 lineBehind es (s ∷ ss) = 1 + length (es s) + lineBehind es ss
 
--- the lines of a sheet with these entries in its sections
-abbrev pub sheetOf : (Section → List (List Field)) → List (List Field)
-sheetOf es = sectionsOf es sections
+-- the lines of a sheet, with heights or without, with these entries in its sections
+abbrev pub sheetOf : Bool → (Section → List (List Field)) → List (List Field)
+sheetOf heights es = sectionsOf es (sections heights)
 
 unfoldable pub linesOf : Carried → List (List Field)
-linesOf c = sheetOf (entriesOf c)
+linesOf c = sheetOf (hasHeights (c .year)) (entriesOf c)

@@ -3,7 +3,10 @@
 use building::limits::too_long;
 use entry::BOTH;
 use entry::Face;
+use entry::Step;
 use entry::Wind;
+use entry::says::carried_face;
+use entry::says::has_heights;
 use field::Field;
 use rules::Before;
 use rules::Kind;
@@ -14,9 +17,10 @@ ghost use mathlib.Core.Path.{_≡_};
 ghost use mathlib.Core.Bool.{false, cond, not, _&&_, _||_};
 ghost use mathlib.Core.List.{[], _∷_};
 ghost use Rattle.building.specs.Test.{is, tooLong};
-ghost use Rattle.entry.specs.Says.{both};
+ghost use lib.IntN.{ℤ};
+ghost use Rattle.entry.specs.Says.{both, hasHeights};
 ghost use Rattle.rules.specs.Sections.{about, lineFault};
-ghost use Rattle.entry_written.specs.Fields.{windFields, internalFields, faceFields};
+ghost use Rattle.entry_written.specs.Fields.{yearFields, windFields, internalFields, stepFields, faceFields};
 
 pub(crate) fn count_fault(s: Section, n: u32) -> u32
     ensures { λ r. ⌜ ((b : Before)
@@ -27,8 +31,8 @@ pub(crate) fn count_fault(s: Section, n: u32) -> u32
 }
 
 // 1 where one of these tests finds a number that is too long, and else n.
-fn in_form(a: bool, b: bool, c: bool, d: bool, n: u32) -> u32
-    ensures { λ r. ⌜ r ≡ cond (a || (b || (c || (d || false)))) 1 n ⌝ }
+fn in_form(a: bool, b: bool, c: bool, d: bool, e: bool, n: u32) -> u32
+    ensures { λ r. ⌜ r ≡ cond (a || (b || (c || (d || (e || false))))) 1 n ⌝ }
 {
     if a {
         return 1;
@@ -42,7 +46,17 @@ fn in_form(a: bool, b: bool, c: bool, d: bool, n: u32) -> u32
     if d {
         return 1;
     }
+    if e {
+        return 1;
+    }
     n
+}
+
+pub(crate) fn year_fault(year: i64) -> u32
+    ensures { λ r. ⌜ ((b : Before) → r ≡ lineFault (Kind.Entry Section.«V») b (yearFields year)) ⌝ }
+{
+    let long = too_long(year);
+    in_form(long, false, false, false, false, entries::year_fault(year))
 }
 
 pub(crate) fn wind_fault(b: Before, w: Wind) -> u32
@@ -53,6 +67,7 @@ pub(crate) fn wind_fault(b: Before, w: Wind) -> u32
         too_long(w.speed),
         false,
         false,
+        false,
         entries::wind_fault(b.building, w),
     )
 }
@@ -60,7 +75,23 @@ pub(crate) fn wind_fault(b: Before, w: Wind) -> u32
 pub(crate) fn internal_fault(i: i64) -> u32
     ensures { λ r. ⌜ ((b : Before) → r ≡ lineFault (Kind.Entry Section.I) b (internalFields i)) ⌝ }
 {
-    in_form(too_long(i), false, false, false, entries::internal_fault(i))
+    let long = too_long(i);
+    in_form(long, false, false, false, false, entries::internal_fault(i))
+}
+
+// A step behind one of this height.
+pub(crate) fn step_fault(highest: i64, s: Step) -> u32
+    ensures { λ r. ⌜ ((b : Before) → highest ≡ b .highest
+        → r ≡ lineFault (Kind.Entry Section.P) b (stepFields s)) ⌝ }
+{
+    in_form(
+        too_long(s.height),
+        too_long(s.factor),
+        false,
+        false,
+        false,
+        entries::step_fault(highest, s),
+    )
 }
 
 // The mark for both directions is written as a dash.
@@ -73,14 +104,17 @@ fn mark_too_long(m: i64) -> bool
     too_long(m)
 }
 
-pub(crate) fn face_fault(b: Before, f: Face) -> u32
-    ensures { λ r. ⌜ r ≡ lineFault (Kind.Entry Section.F) b (faceFields f) ⌝ }
+// A height that the sheet does not carry counts for nothing.
+pub(crate) fn face_fault(b: Before, face: Face) -> u32
+    ensures { λ r. ⌜ r ≡ lineFault (Kind.Entry Section.F) b (faceFields (hasHeights (b .year)) face) ⌝ }
 {
+    let f = carried_face(has_heights(b.year), face);
     in_form(
         mark_too_long(f.mark),
+        too_long(f.height),
         too_long(f.x),
         too_long(f.y),
         too_long(f.z),
-        entries::face_fault(b.building, f),
+        entries::face_fault(b, f),
     )
 }

@@ -2,30 +2,29 @@
 use crate::Job;
 use crate::entry_count;
 use crate::given;
+use crate::heights::before_faces;
+use crate::heights::highest_of;
+use entry::says::has_heights;
 use rules::Before;
 use rules::Kind;
 use rules::Section;
-use rules::shape::SECTIONS;
+use rules::shape::section_at;
+use rules::shape::section_count;
 use verdict::Verdict;
 ghost use mathlib.Core.Path.{_≡_};
 ghost use mathlib.Core.List.{[], _∷_};
-ghost use Prim.Native.Nat.{_+_, _*_, _≤_, _<_};
-ghost use lib.ListN.{length, take};
-ghost use Rattle.rules.specs.Sections.{sections, sectionAt};
-ghost use Rattle.job.specs.Carried.{carried, carriedIn};
+ghost use Prim.Native.Nat.{_≤_};
+ghost use Rattle.job.specs.Carried.{Carried, carried};
+ghost use Rattle.job.specs.Judging.{JudgesAs};
 ghost use Rattle.job.specs.Lines.{sectionOf, entriesOf};
 ghost use Rattle.job.specs.Walk.{verdict, walk, judged};
 
-// The section behind the first `at` by itself, whose count stands on this line: no section has more than 25 lines.
-fn judge_section(j: Job, at: usize, line: u32) -> Verdict
-    requires { ⌜ (at < length sections) × (line ≤ 25 * at + 1) ⌝ }
-    ensures { λ r. ⌜ r ≡ verdict
-        (walk (Kind.Count (sectionAt at) ∷ []) (carriedIn (take at sections) (carried j)) line
-        (sectionOf (sectionAt at) (entriesOf (carried j) (sectionAt at)))) ⌝ }
+// One section by itself, whose count stands on this line, judged by what the sections before it say.
+fn judge_section(j: Job, s: Section, b: Before, line: u32) -> Verdict
+    requires { ⌜ (b .year ≡ j .year) × (b .building ≡ j .building) × (line ≤ 151) ⌝ }
+    ensures { λ r. ⌜ ((c : Carried) → JudgesAs s b c
+        → r ≡ verdict (walk (Kind.Count s ∷ []) c line (sectionOf s (entriesOf (carried j) s)))) ⌝ }
 {
-    let s = SECTIONS[at];
-    let g = j.building;
-    let b = Before { building: g };
     let n = entry_count(j, s);
     let number = given::count_fault(s, n);
     if number != 0 {
@@ -33,12 +32,14 @@ fn judge_section(j: Job, at: usize, line: u32) -> Verdict
     }
     let winds = j.winds;
     let internals = j.internals;
+    let profile = j.profile;
     let faces = j.faces;
     let mut i: u32 = 0;
     while i < n {
         let k = i as usize;
         let number = match s {
-            Section::B => building::given_fault(g),
+            Section::V => given::year_fault(b.year),
+            Section::B => building::given_fault(b.building),
             Section::W => {
                 let w = winds.entry[k];
                 given::wind_fault(b, w)
@@ -46,6 +47,10 @@ fn judge_section(j: Job, at: usize, line: u32) -> Verdict
             Section::I => {
                 let c = internals.entry[k];
                 given::internal_fault(c)
+            }
+            Section::P => {
+                let t = profile.entry[k];
+                given::step_fault(highest_of(profile, i), t)
             }
             Section::F => {
                 let f = faces.entry[k];
@@ -67,13 +72,16 @@ fn judge_section(j: Job, at: usize, line: u32) -> Verdict
 pub fn judge(j: Job) -> Verdict
     ensures { λ r. ⌜ r ≡ verdict (judged j) ⌝ }
 {
+    let heights = has_heights(j.year);
+    let b = before_faces(j);
     let mut line: u32 = 1;
-    for i in 0..SECTIONS.len() {
-        let v = judge_section(j, i, line);
+    for i in 0..section_count(heights) {
+        let s = section_at(heights, i);
+        let v = judge_section(j, s, b, line);
         if v.number != 0 {
             return v;
         }
-        line += 1 + entry_count(j, SECTIONS[i]);
+        line += 1 + entry_count(j, s);
     }
     Verdict { number: 0, line: 0 }
 }

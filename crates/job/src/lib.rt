@@ -1,7 +1,9 @@
-// The job: a building with its winds, internal coefficients and faces, as a record by value.
+// The job: a year, and a building with its winds, internal coefficients, profile and faces, as a record by value.
 use building::Building;
 use entry::Face;
+use entry::Step;
 use entry::Wind;
+use entry::says::has_heights;
 use rules::Section;
 ghost use mathlib.Core.Path.{_≡_};
 ghost use lib.ListN.{length};
@@ -9,6 +11,7 @@ ghost use Rattle.job.specs.Carried.{carried};
 ghost use Rattle.job.specs.Lines.{entriesOf};
 
 mod given;
+mod heights;
 pub mod judge;
 
 // The first entries count, as many as the count says.
@@ -22,15 +25,23 @@ pub struct Internals {
     pub entry: [i64; 4],
 }
 
+pub struct Profile {
+    pub count: u32,
+    pub entry: [Step; 16],
+}
+
 pub struct Faces {
     pub count: u32,
     pub entry: [Face; 24],
 }
 
+// A sheet of year 1 carries no profile and no heights: whatever they hold here counts for nothing.
 pub struct Job {
+    pub year: i64,
     pub building: Building,
     pub winds: Winds,
     pub internals: Internals,
+    pub profile: Profile,
     pub faces: Faces,
 }
 
@@ -39,9 +50,16 @@ pub fn entry_count(j: Job, s: Section) -> u32
     ensures { λ r. ⌜ r ≡ length (entriesOf (carried j) s) ⌝ }
 {
     match s {
+        Section::V => 1,
         Section::B => 1,
         Section::W => j.winds.count,
         Section::I => j.internals.count,
+        Section::P => {
+            if has_heights(j.year) {
+                return j.profile.count;
+            }
+            0
+        }
         Section::F => j.faces.count,
     }
 }

@@ -30,10 +30,10 @@ abbrev pub heightFault : ℤ → Fault
 heightFault z = fault 3 (beyond (pos 0) (pos 30000) z)
 
 -- a height that is not above the highest before it; a factor
-abbrev pub stepFaults : Before → Step → List Fault
-stepFaults b s =
+abbrev pub stepFaults : ℤ → Step → List Fault
+stepFaults highest s =
     heightFault (s .height)
-    ∷ fault 3 (not (ltZ (b .highest) (s .height)))
+    ∷ fault 3 (not (ltZ highest (s .height)))
     ∷ fault 3 (beyond (pos 1) (pos 1000) (s .factor))
     ∷ []
 

@@ -72,7 +72,7 @@ faultsOf (Entry «V») b fs = yearFaults (yearOf fs)
 faultsOf (Entry B) b fs = faults (buildingOf fs)
 faultsOf (Entry W) b fs = windFaults (b .building) (windOf fs)
 faultsOf (Entry I) b fs = internalFaults (internalOf fs)
-faultsOf (Entry P) b fs = stepFaults b (stepOf fs)
+faultsOf (Entry P) b fs = stepFaults (b .highest) (stepOf fs)
 faultsOf (Entry F) b fs = faceFaults b (faceOf (hasHeights (b .year)) fs)
 
 -- the form that a line must have, by what the lines before it say

@@ -70,11 +70,12 @@ fn height_fault(z: i64, next: u32) -> u32
     fault(3, beyond(0, 30000, z), next)
 }
 
-pub fn step_fault(b: Before, s: Step) -> u32
-    ensures { λ r. ⌜ r ≡ first (stepFaults b s) ⌝ }
+// A step behind one of this height.
+pub fn step_fault(highest: i64, s: Step) -> u32
+    ensures { λ r. ⌜ r ≡ first (stepFaults highest s) ⌝ }
 {
     let factor = fault(3, beyond(1, 1000, s.factor), 0);
-    let rise = fault(3, !(b.highest < s.height), factor);
+    let rise = fault(3, !(highest < s.height), factor);
     height_fault(s.height, rise)
 }
 

@@ -38,7 +38,7 @@ pub fn line_fault(k: Kind, b: Before, x: Line) -> u32
             Section::B => building::building_fault(says::building_of(x)),
             Section::W => entries::wind_fault(b.building, says::wind_of(x)),
             Section::I => entries::internal_fault(says::internal_of(x)),
-            Section::P => entries::step_fault(b, says::step_of(x)),
+            Section::P => entries::step_fault(b.highest, says::step_of(x)),
             Section::F => entries::face_fault(b, says::face_of(heights, x)),
         },
     }

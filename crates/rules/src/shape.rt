@@ -11,6 +11,7 @@ ghost use Rattle.rules.specs.Sections.{about, sections, sectionAt};
 
 // The sections of a sheet in order: of one without heights, and of one with them.
 const PLAIN: [Section; 4] = [Section::B, Section::W, Section::I, Section::F];
+
 const TALL: [Section; 6] = [
     Section::V,
     Section::B,

@@ -14,6 +14,11 @@ pub every-by : {A : Type 0} {P Q : A → Type 0} → ((x : A) → P x → Q x) �
 every-by f [] h = tt
 every-by f (x ∷ l) h = (f x (h .0), every-by f l (h .1))
 
+pub every-both : {A : Type 0} {P Q R : A → Type 0} → ((x : A) → P x → Q x → R x) → (l : List A) → Every P l → Every Q l
+    → Every R l
+every-both f [] h k = tt
+every-both f (x ∷ l) h k = (f x (h .0) (k .0), every-both f l (h .1) (k .1))
+
 pub every-map : {A C : Type 0} (P : C → Type 0) (f : A → C) (l : List A) → Every P (map f l) → Every (λ x. P (f x)) l
 every-map P f [] h = tt
 every-map P f (x ∷ l) h = (h .0, every-map P f l (h .1))
@@ -53,6 +58,11 @@ getD-map f (x ∷ l) (suc i) d e h = getD-map f l i d e (omega arith)
 pub map-back : {A C : Type 0} (f : A → C) (g : C → A) (l : List A) → Every (λ x. g (f x) ≡ x) l → map g (map f l) ≡ l
 map-back f g [] h = refl
 map-back f g (x ∷ l) h = rw (h .0, map-back f g l (h .1))
+
+pub map-take : {A C : Type 0} (f : A → C) (i : ℕ) (l : List A) → take i (map f l) ≡ map f (take i l)
+map-take f zero l = refl
+map-take f (suc i) [] = refl
+map-take f (suc i) (x ∷ l) = ap (λ (r : List _). f x ∷ r) (map-take f i l)
 
 pub map-drop : {A C : Type 0} (f : A → C) (i : ℕ) (l : List A) → map f (drop i l) ≡ drop i (map f l)
 map-drop f zero l = refl

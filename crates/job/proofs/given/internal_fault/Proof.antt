@@ -15,12 +15,12 @@ returns : tie.Need-returns
 returns c b =
     let n = c .before in
     let s = n .before .before in
-    let i = s .args .i in
+    let z = s .args .i in
     let q = s .fits .i .sfits in
     let no = refl {a = false} in
-    long-by (said tooLong i (n .before .too-long .ensures) q) no no no
-    (said (λ (z : ℤ). first (internalFaults z)) i (n .internal-fault .ensures) q) (c .in-form .ensures)
-    ∙ sym (internal-given b i)
+    long-by (said tooLong z (n .before .too-long .ensures) q) no no no no
+    (said (λ (y : ℤ). first (internalFaults y)) z (n .internal-fault .ensures) q) (c .in-form .ensures)
+    ∙ sym (internal-given b z)
 
 pub internal-fault-spec : {M : Type 1} → statement M
 internal-fault-spec =

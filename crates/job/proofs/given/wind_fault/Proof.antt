@@ -17,7 +17,7 @@ returns c =
     let q = v .before .struct-told2 .given in
     let no = refl {a = false} in
     long-by (said tooLong (a .w .direction) (d .too-long .ensures) (q .0 .1))
-    (said tooLong (a .w .speed) (v .too-long2 .ensures) (q .1 .0 .1)) no no (n .wind-fault .ensures)
+    (said tooLong (a .w .speed) (v .too-long2 .ensures) (q .1 .0 .1)) no no no (n .wind-fault .ensures)
     (c .in-form .ensures)
     ∙ sym (wind-given (a .b) (a .w))
 

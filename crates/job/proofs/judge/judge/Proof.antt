@@ -1,69 +1,138 @@
 -- `judge` meets its contract: what comes of the sections from i on is what comes of the whole sheet.
-use Prim.Native.Nat.{_≤_, _<_, _-_}
-use mathlib.Core.Path.{_≡_}
+use Prim.Native.Nat.{ℕ, _≤_, _<_, _-_}
+use mathlib.Core.Path.{_≡_, refl, sym, ap, _∙_, subst}
+use mathlib.Core.Bool.{Bool, true, false}
 use native.Mathlib.Omega.{arith}
 use lib.ListN.{length}
-use Rattle.rules.specs.Sections.{sections}
-use Rattle.job.proofs.Judged.{Reached, reached-first, stops, few-entries, goes-on, ends}
+use Rattle.whole.proofs.Size.{said}
+use Rattle.entry.specs.Says.{hasHeights}
+use Rattle.rules.specs.declared.Before.{Before}
+use Rattle.rules.specs.declared.Section.{Section}
+use Rattle.rules.specs.Sections.{sections, sectionAt}
+use Rattle.verdict.specs.declared.Verdict.{Verdict}
+use Rattle.job.specs.declared.Job.{Job}
+use Rattle.job.specs.Judging.{JudgesAs}
+use Rattle.job.proofs.Alone.{alone}
+use Rattle.job.proofs.Judged.{es, heights, ss, sofar, year-is, Reached, reached-first, judges-as, stops}
+use Rattle.job.proofs.Judged.{few-entries, goes-on, ends}
 use borrow.Author.Needs.{needs}
 use Rattle.job.proofs.judge.judge.Statement.{statement}
 use Rattle.job.proofs.judge.judge.Tie as tie
 
 abbrev Inv-loop : tie.InvT-loop
-Inv-loop j line₀ i₀ line i = (i ≤ length sections) × Reached j i line
+Inv-loop j heights b line₀ i₀ end line i = (i ≤ end) × Reached j i line
 
 abbrev μ-loop : tie.MeasureT-loop
-μ-loop j line₀ i₀ line i = length sections - i
+μ-loop j heights b line₀ i₀ end line i = end - i
 
 loop-holds : tie.Need-loop-holds Inv-loop μ-loop
-loop-holds c = (omega arith, reached-first (c .args .j))
+loop-holds c = (omega arith, reached-first (c .before .before .before .before .args .j))
 
--- section i is there
-few : (c : tie.In-loop Inv-loop μ-loop) → c .before .loop .i < length sections
-few c = omega (arith, c .loop-test .taken)
+few-sections : (h : Bool) → length (sections h) ≤ 6
+few-sections true = omega arith
+few-sections false = omega arith
+
+-- section i
+module _ (c : tie.After-section-at Inv-loop μ-loop) where
+  abbrev turn : tie.At-loop Inv-loop μ-loop
+  turn = c .before .before
+
+  abbrev begun : tie.After-before-faces Inv-loop μ-loop
+  begun = turn .before .before
+
+  abbrev year-told : tie.After-struct-told Inv-loop μ-loop
+  year-told = begun .before .before
+
+  abbrev job : Job
+  job = year-told .before .args .j
+
+  abbrev i : ℕ
+  i = turn .loop .i
+
+  heights-are : begun .before .has-heights .result ≡ heights job
+  heights-are = said hasHeights (job .year) (begun .before .has-heights .ensures) (year-told .struct-told .given .0 .1)
+
+  section-is : c .section-at .result ≡ sectionAt (heights job) i
+  section-is = c .section-at .ensures ∙ ap (λ (h : Bool). sectionAt h i) heights-are
+
+  few : i < length (ss job)
+  few =
+      let all = turn .before .section-count .ensures ∙ ap (λ (h : Bool). length (sections h)) heights-are in
+      omega (arith, all, c .before .loop-test .taken)
+
+  judges : JudgesAs (c .section-at .result) (begun .before-faces .result) (sofar job i)
+  judges =
+      let b = begun .before-faces in
+      subst (λ (s : Section). JudgesAs s (b .result) (sofar job i)) (sym section-is)
+      (judges-as job (b .result) (b .ensures .0) (b .ensures .1) (b .ensures .2) (heights job) (year-is job) i few
+      (turn .loop .inv .1 .steps))
+
+  low : turn .loop .line ≤ 151
+  low = omega (arith, few, few-sections (heights job), turn .loop .inv .1 .lines)
+
+-- its verdict by itself
+module _ (c : tie.After-judge-section Inv-loop μ-loop) where
+  abbrev here : tie.After-section-at Inv-loop μ-loop
+  here = c .before
+
+  abbrev s : Section
+  s = sectionAt (heights (job here)) (i here)
+
+  verdict-is : c .judge-section .result ≡ alone s (sofar (job here) (i here)) (turn here .loop .line) (es (job here) s)
+  verdict-is =
+      subst (λ (s : Section).
+      c .judge-section .result ≡ alone s (sofar (job here) (i here)) (turn here .loop .line) (es (job here) s))
+      (section-is here) (c .judge-section .ensures (sofar (job here) (i here)) (judges here))
 
 judge-section-requires : tie.Need-judge-section-requires Inv-loop μ-loop
-judge-section-requires c κs = (few c, c .before .loop .inv .1 .lines)
+judge-section-requires c κs =
+    let b = begun c .before-faces in
+    (b .ensures .0, b .ensures .1, low c)
 
 returns : tie.Need-returns Inv-loop μ-loop
 returns c =
     let v = c .before .before in
-    let l = v .before in
-    stops _ (l .before .loop .inv .1) (few l) (v .judge-section .ensures) (c .if1 .taken)
+    stops (job (v .before)) (turn (v .before) .loop .inv .1) (few (v .before)) (verdict-is v) (c .if1 .taken)
 
 -- behind a section that is in order
 module _ (c : tie.After-entry-count Inv-loop μ-loop) where
   abbrev passed : tie.Else1 Inv-loop μ-loop
-  passed = c .before .before
+  passed = c .before
 
   abbrev verdict-of : tie.After-judge-section Inv-loop μ-loop
   verdict-of = passed .before .before
 
-  abbrev turn : tie.In-loop Inv-loop μ-loop
-  turn = verdict-of .before
+  abbrev at : tie.After-section-at Inv-loop μ-loop
+  at = verdict-of .before
+
+  many : c .entry-count .result ≡ length (es (job at) (sectionAt (heights (job at)) (i at)))
+  many = c .entry-count .ensures ∙ ap (λ (s : Section). length (es (job at) s)) (section-is at)
 
   short : c .entry-count .result ≤ 24
   short =
-      few-entries _ (turn .before .loop .inv .1) (few turn) (verdict-of .judge-section .ensures)
-      (passed .if1 .left) (c .entry-count .ensures)
+      few-entries (job at) (turn at .loop .inv .1) (few at) (verdict-is verdict-of) (passed .if1 .left) many
 
 loop-again : tie.Need-loop-again Inv-loop μ-loop
 loop-again c =
-    let t = turn c in (
+    let a = at c in (
       omega arith,
-      goes-on _ (t .before .loop .inv .1) (few t) (verdict-of c .judge-section .ensures)
-          (passed c .if1 .left) (c .entry-count .ensures),
+      goes-on (job a) (turn a .loop .inv .1) (few a) (verdict-is (verdict-of c)) (passed c .if1 .left) (many c),
     )
 
 returns-2 : tie.Need-returns-2 Inv-loop μ-loop
 returns-2 c =
     let l = c .before in
-    let i : l .loop .i ≡ length sections = omega arith in
-    ends _ (l .loop .inv .1) i
+    let y = l .before .before .before in
+    let j = y .before .before .args .j in
+    let e = said hasHeights (j .year) (y .has-heights .ensures) (y .before .struct-told .given .0 .1) in
+    let all = l .before .section-count .ensures ∙ ap (λ (h : Bool). length (sections h)) e in
+    let i : l .loop .i ≡ length (ss j) = omega (arith, all, l .loop .inv .0, c .loop-test .left) in
+    ends j (l .loop .inv .1) i
 
 pub judge-spec : {M : Type 1} → statement M
 judge-spec =
     tie.close
-    (tie.spec Inv-loop μ-loop loop-holds judge-section-requires returns (λ c. search needs) (λ c κs. search needs)
-    (λ c. omega (arith, short c)) (λ c. omega (arith, short c)) (λ c. search needs) (λ c. search needs) loop-again
+    (tie.spec Inv-loop μ-loop (λ c κs. search needs) (λ c κs. search needs) (λ c κs. search needs) loop-holds
+    (λ c κs. search needs) judge-section-requires returns (λ c κs. search needs)
+    (λ c. omega (arith, short c)) (λ c. omega (arith, short c, low (at c))) (λ c. search needs) (λ c. search needs) loop-again
     returns-2)

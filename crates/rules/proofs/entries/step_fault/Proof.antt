@@ -15,15 +15,14 @@ use Rattle.rules.proofs.entries.step_fault.Tie as tie
 returns : tie.Need-returns
 returns c =
     let r = c .before .before in
-    let h = r .before in
-    let b = h .before .before in
-    let f = b .before .before in
-    let a = f .before .before .before .args in
-    let q = h .struct-told3 .given in
-    let top = b .struct-told2 .given .1 .1 .1 .0 .1 in
-    said-or heightFault 3 (a .s .height) (q .0 .1)
-    (found-or 3 (ap not (ap₂ ltZ (returned w64 (a .b .highest) top .same) (returned w64 (a .s .height) (q .0 .1) .same)))
-    (found-or 3 (said (beyond (pos 1) (pos 1000)) (a .s .factor) (f .before .beyond .ensures) (q .1 .0 .1)) refl
+    let f = r .before .before .before in
+    let s = f .before .before .before in
+    let q = f .before .before .struct-told .given in
+    let z = s .args .s .height in
+    said-or heightFault 3 z (q .0 .1)
+    (found-or 3 (ap not (ap₂ ltZ (returned w64 (s .args .highest) (s .fits .highest .sfits) .same)
+    (returned w64 z (q .0 .1) .same)))
+    (found-or 3 (said (beyond (pos 1) (pos 1000)) (s .args .s .factor) (f .before .beyond .ensures) (q .1 .0 .1)) refl
     (f .fault .ensures))
     (r .fault2 .ensures))
     (c .height-fault .ensures)

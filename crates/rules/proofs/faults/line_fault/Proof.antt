@@ -9,7 +9,6 @@ use Rattle.lines.specs.Held.{held}
 use Rattle.building.specs.Fault.{first}
 use Rattle.building.specs.Building.{buildingFault}
 use Rattle.entry.specs.declared.Wind.{Wind}
-use Rattle.entry.specs.declared.Step.{Step}
 use Rattle.entry.specs.declared.Face.{Face}
 use Rattle.entry.specs.Says.{hasHeights, faceOf}
 use Rattle.rules.specs.declared.Section.{Section}
@@ -102,9 +101,11 @@ returns-6 c =
 
 returns-7 : tie.Need-returns-7
 returns-7 c =
-    let t = c .before .before in
-    let b = args (t .before .before) .args .b in
-    c .step-fault .ensures ∙ ap (λ (s : Step). first (stepFaults b s)) (c .before .step-of .ensures)
+    let o = c .before .before in
+    let t = o .before in
+    let z = args (t .before .before) .args .b .highest in
+    let high = returned w64 z (c .before .struct-told2 .given .1 .1 .1 .0 .1) .same in
+    c .step-fault .ensures ∙ (λ i. first (stepFaults (high i) (o .step-of .ensures i)))
     ∙ as-entry (t .before .before) P (t .enum-told5 .given .1)
 
 returns-8 : tie.Need-returns-8

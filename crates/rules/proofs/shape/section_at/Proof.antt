@@ -14,7 +14,7 @@ returns c =
     sym (List·getD-eq-default (sections (a .heights)) «V» (omega (arith, c .before .section-count .ensures)))
 
 array-copy-out-result : tie.Need-array-copy-out-result
-array-copy-out-result c = 
+array-copy-out-result c =
     let a = c .before .before .before .args in
     omega (arith, (rw (c .if2 .taken) at (c .before .before .section-count .ensures)))
 
