@@ -23,7 +23,7 @@ use Rattle.rules.specs.declared.Before.{Before}
 use Rattle.entry.specs.declared.Step.{Step}
 use Rattle.entry.specs.declared.Face.{Face}
 use Rattle.entry.specs.Says.{hasHeights, carriedFace}
-use Rattle.rules.specs.Sections.{about, lineFault}
+use Rattle.rules.specs.Sections.{about, sections, lineFault}
 use Rattle.entry_written.specs.Fields.{yearFields, buildingFields, windFields, internalFields, stepFields, faceFields}
 use Rattle.job.specs.Lines.{entriesOf, sectionOf}
 use Rattle.job.specs.Walk.{verdict, walk}
@@ -188,3 +188,7 @@ most-24 W = omega arith
 most-24 I = omega arith
 most-24 P = omega arith
 most-24 F = omega arith
+
+pub few-sections : (h : Bool) → length (sections h) ≤ 6
+few-sections true = omega arith
+few-sections false = omega arith

@@ -19,11 +19,9 @@ use Rattle.building.specs.declared.Building.{Building}
 use Rattle.building.specs.Roof.{Roof, roof, roofs, roofOf}
 use Rattle.building.specs.Building.{buildingFault}
 use Rattle.building.proofs.Accepted.{good-fields, in-order}
-use Rattle.rules.specs.declared.Section.the-variants.{B}
-use Rattle.rules.specs.declared.Kind.the-variants.{Entry}
 use Rattle.entry.specs.Says.{number, buildingOf}
 use Rattle.rules.specs.declared.FieldForm.the-variants.{Number}
-use Rattle.rules.specs.Sections.{forms}
+use Rattle.rules.specs.Form.{numberForms}
 use Rattle.rules.proofs.Form.{Formed, plus, minus, AllFormed, none, more}
 use Rattle.sheet.proofs.Bytes.{fieldBytes}
 
@@ -73,7 +71,7 @@ x-most g z =
 
 -- ---- the line
 
-pub building-bytes : {fs : List Field} → AllFormed (forms (Entry B)) fs → buildingFault (buildingOf fs) ≡ 0
+pub building-bytes : {fs : List Field} → AllFormed (numberForms 6) fs → buildingFault (buildingOf fs) ≡ 0
     → fieldBytes fs ≤ 30
 building-bytes {fs} (more h (more a (more b (more density (more kind (more x none)))))) z =
     let n = good-fields (buildingOf fs) z in

@@ -1,15 +1,15 @@
 -- The longest line in order of each kind, and the longest that still can come of the lines called for.
-use Prim.Native.Nat.{ℕ, zero, suc, _+_, _*_, _/_, _≤_}
-use mathlib.Core.Path.{_≡_, refl}
+use Prim.Native.Nat.{ℕ, zero, suc, _+_, _*_, _/_, _^_, _≤_, _<_}
+use mathlib.Core.Path.{_≡_, refl, sym, ap, _∙_}
 use mathlib.Core.Logic.{_⊎_, inl, inr}
-use mathlib.Core.Bool.{true}
+use mathlib.Core.Bool.{Bool, true, false}
 use mathlib.Core.List.{List, [], _∷_, _++_}
 use native.Mathlib.Nat.{mul-le-mul-right, suc-mul}
 use native.Mathlib.Omega.{arith}
 use lib.Dec.{ltb}
-use lib.IntN.{ℤ, pos}
+use lib.IntN.{ℤ, pos, natAbs}
 use lib.ListN.{length}
-use borrow.Author.Tests.{ltb-true, ltb-false}
+use borrow.Author.Tests.{ltb-true, ltb-false, not-false}
 use Rattle.whole.proofs.Tests.{by-test}
 use Rattle.field.specs.declared.Field.{Field}
 use Rattle.whole.specs.Digits.{digitsWithin, digits}
@@ -19,25 +19,28 @@ use Rattle.building.specs.declared.Building.{Building}
 use Rattle.building.specs.Building.{faults, buildingFault}
 use Rattle.building.specs.Places.{knows}
 use Rattle.building.proofs.Accepted.{within}
+use Rattle.building.proofs.Machine.{is-same}
 use Rattle.building.proofs.Places.{known-within}
 use Rattle.building.proofs.Ranges.{is-within}
 use Rattle.rules.specs.declared.Before.{Before}
 use Rattle.rules.specs.declared.FieldForm.the-variants.{Number, Mark}
 use Rattle.rules.specs.declared.Section.{Section}
-use Rattle.rules.specs.declared.Section.the-variants.{B, W, I, F}
+use Rattle.rules.specs.declared.Section.the-variants.{«V», B, W, I, P, F}
 use Rattle.rules.specs.declared.Kind.{Kind}
 use Rattle.rules.specs.declared.Kind.the-variants.{Count, Entry}
-use Rattle.entry.specs.Says.{number, size, mark, both, at, buildingOf, windOf, internalOf, faceOf}
+use Rattle.entry.specs.Says.{number, size, mark, both, at, hasHeights, yearOf, buildingOf, windOf, internalOf, stepOf}
+use Rattle.entry.specs.Says.{faceOf}
+use Rattle.rules.specs.Form.{numberForms}
 use Rattle.rules.specs.Sections.{about, forms, lineFault}
 use Rattle.job.specs.Walk.{entries, calls, sheet}
-use Rattle.job.specs.InOrder.{WindInOrder, InternalInOrder, FaceInOrder}
+use Rattle.job.specs.InOrder.{Between, WindInOrder, InternalInOrder, FaceInOrder, StepInOrder}
 use Rattle.rules.proofs.Form as form
 use Rattle.rules.proofs.Form.{Formed, letter, plus, minus, dash, AllFormed, none, more}
 use Rattle.rules.proofs.Rising.{found-none}
 use Rattle.rules.proofs.Line.{in-order}
 use Rattle.job.proofs.Lines.{all-not-bad}
 use Rattle.job.proofs.Sections.{CountLine, count-says}
-use Rattle.job.proofs.InOrder.{wind-line, internal-line, face-line}
+use Rattle.job.proofs.InOrder.{wind-line, internal-line, step-line, face-line, height-line}
 use Rattle.sheet.proofs.Bytes.{fieldBytes, line-bytes}
 use Rattle.sheet.proofs.Building.{short, signed, building-bytes}
 
@@ -54,26 +57,42 @@ digits-mono = by-tens (λ n. (m : ℕ) → m ≤ n → length (digits m) ≤ len
 -- the longest line in order, with its spaces and its LF
 unfoldable pub longestLine : Kind → ℕ
 longestLine (Count s) = 3 + length (digits (about s .most))
+longestLine (Entry «V») = 2
 longestLine (Entry B) = 30
 longestLine (Entry W) = 8
 longestLine (Entry I) = 5
-longestLine (Entry F) = 29
+longestLine (Entry P) = 11
+longestLine (Entry F) = 35
+
+-- a number in a range has no sign
+in-range : {f : Field} (k least most : ℕ) → Formed Number f → Between (pos least) (pos most) (number f) → most < 10 ^ suc k
+    → length (fieldText f) ≤ suc k
+in-range {f} k least most h o few =
+    let w = within least most (number f) (is-within (pos least) (pos most) (number f) (o .low) (o .high)) in
+    short k h (w .plain) (omega (arith, w .to))
+
+-- one digit
+year-bytes : {x : List Field} → AllFormed (numberForms 1) x → yearOf x ≡ pos 2 → fieldBytes x ≤ 2
+year-bytes {x} (more y none) e =
+    let n = ap natAbs e in
+    omega (arith, short 0 y (ap (λ (z : ℤ). pos (natAbs z)) e ∙ sym e) (omega arith))
 
 -- a direction has no sign and at most 2 digits
 known-short : {f : Field} (kind : ℤ) → Formed Number f → knows kind (number f) ≡ true → length (fieldText f) ≤ 2
 known-short kind h e = let w = known-within kind _ e in short 1 h (w .plain) (omega (arith, w .to))
 
 -- speed: 4 digits
-wind-bytes : (g : Building) {x : List Field} → AllFormed (forms (Entry W)) x → WindInOrder g (windOf x)
+wind-bytes : (g : Building) {x : List Field} → AllFormed (numberForms 2) x → WindInOrder g (windOf x)
     → fieldBytes x ≤ 8
 wind-bytes g {x} (more d (more v none)) o =
-    let w =
-    within 1 1000 (windOf x .speed)
-    (is-within (pos 1) (pos 1000) (windOf x .speed) (o .least-speed) (o .greatest-speed)) in
-    omega (arith, known-short (g .kind) d (o .direction), short 3 v (w .plain) (omega (arith, w .to)))
+    omega (
+      arith,
+      known-short (g .kind) d (o .direction),
+      in-range 3 1 1000 v (record { low = o .least-speed; high = o .greatest-speed }) (omega arith),
+    )
 
 -- a sign and 3 digits
-internal-bytes : {x : List Field} → AllFormed (forms (Entry I)) x → InternalInOrder (internalOf x) → fieldBytes x ≤ 5
+internal-bytes : {x : List Field} → AllFormed (numberForms 1) x → InternalInOrder (internalOf x) → fieldBytes x ≤ 5
 internal-bytes (more i none) o = omega (arith, signed 2 i (omega arith))
 
 mark-short : {f : Field} (kind : ℤ) → Formed Mark f → (mark f ≡ both) ⊎ (knows kind (mark f) ≡ true)
@@ -85,10 +104,24 @@ mark-short kind (form.mark (minus {m = zero} p h)) e = absurd (omega arith)
 mark-short kind (form.mark (minus {m = suc m} p h)) (inl e) = absurd (let q : _≡_ {A = ℕ} 0 1 = cc in omega arith)
 mark-short kind (form.mark (minus {m = suc m} p h)) (inr e) = known-short kind (minus {m = suc m} p h) e
 
--- each area: a sign and 6 digits
-face-bytes : (g : Building) {x : List Field} → AllFormed (forms (Entry F)) x → FaceInOrder g (faceOf x)
-    → fieldBytes x ≤ 29
-face-bytes g (more letter (more m (more a (more b (more d none))))) o =
+-- 5 and 4 digits
+step-bytes : {x : List Field} → AllFormed (numberForms 2) x → StepInOrder (stepOf x) → fieldBytes x ≤ 11
+step-bytes (more h (more f none)) o =
+    omega (arith, in-range 4 0 30000 h (o .height) (omega arith), in-range 3 1 1000 f (o .factor) (omega arith))
+
+-- a height: 5 digits; each area: a sign and 6 digits
+face-bytes : (h : Bool) (g : Building) {x : List Field} → AllFormed (forms h (Entry F)) x → FaceInOrder g (faceOf h x)
+    → Between (pos 0) (pos 30000) (faceOf h x .height) → fieldBytes x ≤ 35
+face-bytes true g (more letter (more m (more h (more a (more b (more d none)))))) o r =
+    omega (
+      arith,
+      mark-short (g .kind) m (o .mark),
+      in-range 4 0 30000 h r (omega arith),
+      signed 5 a (omega (arith, o .x)),
+      signed 5 b (omega (arith, o .y)),
+      signed 5 d (omega (arith, o .z)),
+    )
+face-bytes false g (more letter (more m (more a (more b (more d none))))) o r =
     omega (
       arith,
       mark-short (g .kind) m (o .mark),
@@ -103,11 +136,17 @@ count-bytes s x t = rw (t .is) (omega (arith, digits-mono (about s .most) (t .co
 in-order-bytes : (k : Kind) (b : Before) (x : List Field) → lineFault k b x ≡ 0 → fieldBytes x ≤ longestLine k
 unfolding longestLine buildingFault
 in-order-bytes (Count s) b x z = count-bytes s x (count-says s b x z)
+in-order-bytes (Entry «V») b x z =
+    let o = in-order (Entry «V») b x z in
+    year-bytes (o .formed) (is-same (pos 2) (yearOf x) (not-false _ (o .none .0)))
 in-order-bytes (Entry B) b x z =
     let o = in-order (Entry B) b x z in building-bytes (o .formed) (found-none (faults (buildingOf x)) (o .none))
 in-order-bytes (Entry W) b x z = wind-bytes (b .building) (in-order (Entry W) b x z .formed) (wind-line b x z)
 in-order-bytes (Entry I) b x z = internal-bytes (in-order (Entry I) b x z .formed) (internal-line b x z)
-in-order-bytes (Entry F) b x z = face-bytes (b .building) (in-order (Entry F) b x z .formed) (face-line b x z)
+in-order-bytes (Entry P) b x z = step-bytes (in-order (Entry P) b x z .formed) (step-line b x z .0)
+in-order-bytes (Entry F) b x z =
+    face-bytes (hasHeights (b .year)) (b .building) (in-order (Entry F) b x z .formed) (face-line b x z)
+    (height-line b x z)
 
 pub in-order-short : (k : Kind) (b : Before) (l : List ℕ) → lineFault k b (fieldsOf l) ≡ 0
     → length l + 1 ≤ longestLine k
@@ -122,10 +161,18 @@ longest [] = 0
 longest (Count s ∷ ks) = longestLine (Count s) + about s .most * longestLine (Entry s) + longest ks
 longest (Entry s ∷ ks) = longestLine (Entry s) + longest ks
 
--- 4 + 30 for B, 4 + 8 · 8 for W, 4 + 4 · 5 for I, 5 + 24 · 29 for F
-pub longest-sheet-is : longest sheet ≡ 827
+-- 4 + 2 for V, 4 + 30 for B, 4 + 8 · 8 for W, 4 + 4 · 5 for I, 5 + 16 · 11 for P, 5 + 24 · 35 for F
+longest-tall : longest (sheet true) ≡ 1158
 unfolding longest longestLine digits digitsWithin
-longest-sheet-is = refl
+longest-tall = refl
+
+longest-plain : longest (sheet false) ≡ 971
+unfolding longest longestLine digits digitsWithin
+longest-plain = refl
+
+pub longest-sheet-is : (h : Bool) → longest (sheet h) ≤ 1158
+longest-sheet-is true = omega (arith, longest-tall)
+longest-sheet-is false = omega (arith, longest-plain)
 
 longest-entries : (s : Section) (n : ℕ) (ks : List Kind)
     → longest (entries s n ++ ks) ≡ n * longestLine (Entry s) + longest ks

@@ -1,8 +1,8 @@
--- An accepted sheet has at most 827 bytes, and a part of a text that holds as much and a longest line in form decides
+-- An accepted sheet has at most 1158 bytes, and a part of a text that holds as much and a longest line in form decides
 -- the answer for the whole.
 use Prim.Native.Nat.{ℕ, zero, suc, _+_, _-_, _≤_, _<_}
 use mathlib.Core.Path.{_≡_, refl, ap, _∙_, sym}
-use mathlib.Core.Bool.{false}
+use mathlib.Core.Bool.{Bool, false}
 use mathlib.Core.List.{List, [], _∷_, _++_}
 use native.Mathlib.Omega.{arith}
 use lib.Dec.{ltb, eqb}
@@ -21,7 +21,7 @@ use Rattle.rules.specs.declared.Before.{Before}
 use Rattle.rules.specs.declared.Kind.{Kind}
 use Rattle.job.specs.Carried.{Carried, nothing, before}
 use Rattle.rules.specs.Sections.{lineFault}
-use Rattle.job.specs.Walk.{calls, learn, Accepted, Refused, walk, sheet, readLines}
+use Rattle.job.specs.Walk.{calls, learn, Accepted, Refused, walk, opening, sheet, readLines}
 use Rattle.job.proofs.Walk.{walk-on, walk-refused, accepted-line, accepted-no-more}
 use Rattle.sheet.specs.Sheet.{reading}
 use Rattle.sheet.proofs.OutOfForm.{line-long, bad-first}
@@ -48,7 +48,7 @@ by-lines (x ∷ s) =
     by-test (eqb x 10) (λ e. rw (eqb-true x 10 e) (ended [] s refl (by-lines s))) (λ e. longer x e (by-lines s))
 
 -- a first line that no kind takes
-no-line : (ks : List Kind) (c : Carried) (n : ℕ) (x : List Field) (xs : List (List Field))
+pub no-line : (ks : List Kind) (c : Carried) (n : ℕ) (x : List Field) (xs : List (List Field))
     → ((k : Kind) (b : Before) → lineFault k b x ≡ 1) → walk ks c n (x ∷ xs) ≡ Refused (refusal 1 n)
 unfolding walk
 no-line [] c n x xs h = refl
@@ -83,9 +83,11 @@ walk-short (ended l t f b) (k ∷ ks) c e n a =
     )
 
 -- no accepted sheet is longer
-pub longest-sheet : (s : List ℕ) (c : Carried) → reading s ≡ Accepted c → length s ≤ 827
+pub longest-sheet : (s : List ℕ) (c : Carried) → reading s ≡ Accepted c → length s ≤ 1158
 unfolding reading readLines
-longest-sheet s c a = omega (arith, walk-short (by-lines s) sheet nothing c 1 a, longest-sheet-is)
+longest-sheet s c a =
+    let h = opening (linesIn s) in
+    omega (arith, walk-short (by-lines s) (sheet h) nothing c 1 a, longest-sheet-is h)
 
 -- ---- a part decides
 
@@ -151,7 +153,29 @@ walk-part (ended l t f b) (k ∷ ks) c n m h =
     (λ z. walk-part b (calls k (fieldsOf l) ++ ks) (learn k (fieldsOf l) c) (n + 1) (m - suc (length l))
     (omega (arith, in-order-short k (before c) l z, longest-on k ks (before c) (fieldsOf l) z))))
 
--- the first 881 bytes, 827 and 54 more, decide
-pub part-decides : (s : List ℕ) (n : ℕ) → 881 ≤ n → reading (take n s) ≡ reading s
-unfolding reading readLines
-part-decides s n h = walk-part (by-lines s) sheet nothing 1 n (omega (arith, longest-sheet-is))
+-- so for a whole sheet: its first line opens the part as well, or no sheet has that line
+sheet-part : {s : List ℕ} → ByLines s → (m : ℕ) → 1212 ≤ m → readLines (linesIn (take m s)) ≡ readLines (linesIn s)
+unfolding readLines
+sheet-part none m h = rw take-nil
+sheet-part (unended x s f) m h = rw (rows-part m (x ∷ s) (omega arith) (omega arith) f, rows-open x s f)
+sheet-part (ended l t f b) m h =
+    let whole = l ++ (10 ∷ t) in
+    let part = take m whole in
+    by-test (ltb (length l) m)
+    (λ e.
+    let k = opening (linesIn whole) in
+    let alike : opening (linesIn part) ≡ k =
+    rw (take-line m l t (ltb-true (length l) m e), rows-seam l (take (m - suc (length l)) t) f, rows-seam l t f) in
+    ap (λ (y : Bool). walk (sheet y) nothing 1 (linesIn part)) alike
+    ∙ walk-part (ended l t f b) (sheet k) nothing 1 m (omega (arith, longest-sheet-is k)))
+    (λ e.
+    let k : m ≤ length l = ltb-false (length l) m e in
+    rw (take-append-le m l (10 ∷ t) k, rows-part m l (omega arith) (omega arith) f, rows-seam l t f)
+    (no-line (sheet false) nothing 1 (Bad ∷ []) [] bad-first ∙ sym
+    (no-line (sheet (opening (fieldsOf l ∷ linesIn t))) nothing 1 (fieldsOf l) (linesIn t)
+    (λ i b. line-long i b l (omega arith)))))
+
+-- the first 1212 bytes, 1158 and 54 more, decide
+pub part-decides : (s : List ℕ) (n : ℕ) → 1212 ≤ n → reading (take n s) ≡ reading s
+unfolding reading
+part-decides s n h = sheet-part (by-lines s) n h

@@ -12,7 +12,7 @@ use Rattle.job.specs.declared.Job.{Job}
 use Rattle.job.specs.Carried.{Carried, nothing, carried, recorded, SameJob}
 use Rattle.job.specs.Lines.{linesOf}
 use Rattle.job.specs.FirstFault.{Answers}
-use Rattle.job.specs.Walk.{Reading, Accepted, sheet, readLines, judged}
+use Rattle.job.specs.Walk.{Reading, Accepted, opening, sheet, readLines, judged}
 use Rattle.job.proofs.FirstFault.{lines-answer}
 use Rattle.job.proofs.InForm.{accepted-in-form, accepted-not-bad}
 use Rattle.job.proofs.RoundTrip.{accepted-lines, judged-carried}
@@ -20,7 +20,7 @@ use Rattle.job.proofs.Records.{recorded-accepted, same-recorded}
 use Rattle.sheet.specs.Sheet.{reading, answer, sheetText, jobWriting, jobBuffer}
 
 -- what a text says is the first faulty line, and in it the lowest number
-pub reading-answers : (s : List ℕ) → Answers sheet nothing (linesIn s) 1 (reading s)
+pub reading-answers : (s : List ℕ) → Answers (sheet (opening (linesIn s))) nothing (linesIn s) 1 (reading s)
 unfolding reading
 reading-answers s = lines-answer (linesIn s)
 

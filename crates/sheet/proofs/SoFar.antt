@@ -4,7 +4,9 @@ use mathlib.Core.Path.{_≡_, refl, ap, _∙_, sym, subst}
 use mathlib.Core.List.{List, [], _∷_, _++_, map}
 use native.Mathlib.Omega.{arith}
 use native.Mathlib.Numerals.{add-one}
-use lib.ListN.{length, drop}
+use mathlib.Core.Bool.{Bool, true, false}
+use lib.IntN.{ℤ}
+use lib.ListN.{length, getD, drop, drop-of-length-le}
 use lib.Seq.{drop-cons}
 use Rattle.verdict.specs.Verdict.{refusal}
 use Rattle.lines.specs.declared.Line.{Line}
@@ -14,60 +16,66 @@ use Rattle.lines.proofs.Lines.{rows-some, rows-end}
 use Rattle.entry.specs.Says.{size, at}
 use Rattle.rules.specs.declared.Before.{Before}
 use Rattle.rules.specs.declared.Section.{Section}
-use Rattle.rules.specs.declared.Section.the-variants.{B}
+use Rattle.rules.specs.declared.Section.the-variants.{«V», B}
 use Rattle.rules.specs.declared.Kind.{Kind}
 use Rattle.rules.specs.declared.Kind.the-variants.{Count, Entry}
 use Rattle.rules.specs.Sections.{about, sections, sectionAt, lineFault}
 use Rattle.job.specs.declared.Job.{Job}
-use Rattle.job.specs.Carried.{Carried, nothing, before, recorded}
-use Rattle.job.specs.Walk.{entries, calls, learn, Accepted, Refused, walk, readLines}
+use Rattle.job.specs.Carried.{Carried, noStep, nothing, lowestOf, before, recorded}
+use Rattle.job.specs.Walk.{entries, calls, learn, Accepted, Refused, walk, sheet}
 use Rattle.job.proofs.Alone.{most-24}
 use Rattle.sheet.specs.Sheet.{reading}
 use Rattle.sheet.proofs.Longest.{count-most}
-use Rattle.sheet.proofs.OneMore.{stored, countIn, stored-records, one-more, Unread, none-later}
+use Rattle.sheet.proofs.OneMore.{stored, countIn, stored-records, nextBefore, lowest-recorded, next-judges}
+use Rattle.sheet.proofs.OneMore.{one-more, Unread, none-later}
 use Rattle.sheet.proofs.Steps.{walk-stop, walk-go}
 
 -- s is read up to line `line`, which begins at `next`: j records all that was carried, and what comes of the rest is
 -- what comes of s;
--- `left` entries of a section are still called for, and then the sections after the first `begun`
-pub record ReadSoFar (s : List ℕ) (sec : Section) (left begun : ℕ) (j : Job) (line next : ℕ) : Type 0 where
+-- `left` entries of a section are still called for, and then the sections after the first `begun`, with heights or
+-- without
+pub record ReadSoFar (s : List ℕ) (h : Bool) (sec : Section) (left begun : ℕ) (b : Before) (j : Job) (line next : ℕ)
+    : Type 0 where
   pub carries : Carried
   pub records : j ≡ recorded carries
-  pub rest : walk (entries sec left ++ map Count (drop begun sections)) carries line (linesIn (drop next s))
+  -- what the next line is judged by
+  pub judges : b ≡ before carries
+  pub rest : walk (entries sec left ++ map Count (drop begun (sections h))) carries line (linesIn (drop next s))
       ≡ reading s
   pub room : countIn j sec + left ≤ about sec .most
-  pub unread : Unread j (drop begun sections)
+  pub unread : Unread j (drop begun (sections h))
   -- no section has more than 25 lines
   pub lines : line + left ≤ 25 * begun + 1
 
 -- nothing read yet
-pub read-start : (s : List ℕ) {j : Job} → j ≡ recorded nothing → ReadSoFar s B 0 0 j 1 0
-unfolding reading readLines recorded
-read-start s e =
+pub read-start : (s : List ℕ) (h : Bool) {b : Before} {j : Job} → walk (sheet h) nothing 1 (linesIn s) ≡ reading s
+    → b ≡ before nothing → j ≡ recorded nothing → ReadSoFar s h B 0 0 b j 1 0
+unfolding recorded
+read-start s h {j = j} r u e =
     record {
       carries = nothing;
       records = e;
-      rest = refl;
+      judges = u;
+      rest = r;
       room = omega arith;
-      unread = rw e (refl, (refl, (refl, (refl, tt))));
+      unread = rw e (none h);
       lines = omega arith;
     }
+  where
+    none : (h : Bool) → Unread (recorded nothing) (sections h)
+    none true = (refl, (refl, (refl, (refl, (refl, (refl, tt))))))
+    none false = (refl, (refl, (refl, (refl, tt))))
 
 -- ---- one line more
 
--- what the next line is judged by, as the code has it
-abbrev beforeIn : Job → Before
-beforeIn j = record { building = j .building }
-
 -- x is the line at `next`, and f its fault as a line of kind k
 module _
-    (s : List ℕ) (k : Kind) (ks : List Kind) {j : Job} (c : Carried) (e : j ≡ recorded c) (line next : ℕ) {x : Line}
+    (s : List ℕ) (k : Kind) (ks : List Kind) {b : Before} (c : Carried) (e : b ≡ before c) (line next : ℕ) {x : Line}
     (hx : x ≡ lineAt s next)
-    {f : ℕ} (hf : f ≡ lineFault k (beforeIn j) (held x))
+    {f : ℕ} (hf : f ≡ lineFault k b (held x))
     (rest : walk (k ∷ ks) c line (linesIn (drop next s)) ≡ reading s) where
   fault-is : f ≡ lineFault k (before c) (held x)
-  unfolding recorded
-  fault-is = hf ∙ ap (λ (i : Job). lineFault k (beforeIn i) (held x)) e
+  fault-is = hf ∙ ap (λ (d : Before). lineFault k d (held x)) e
 
   line-stops : (f ≡ 0 → ⊥) → reading s ≡ Refused (refusal f line)
   line-stops h = sym rest ∙ walk-stop k ks c line s next x hx f fault-is h
@@ -78,38 +86,40 @@ module _
 
 -- ---- the count of the next section
 
-module _ {s : List ℕ} {sec : Section} {i : ℕ} {j : Job} {line next : ℕ} (r : ReadSoFar s sec 0 i j line next)
-    (few : i < length sections) {x : Line} (hx : x ≡ lineAt s next) {f : ℕ}
-    (hf : f ≡ lineFault (Count (sectionAt i)) (beforeIn j) (held x)) where
+module _ {s : List ℕ} {h : Bool} {sec : Section} {i : ℕ} {b : Before} {j : Job} {line next : ℕ}
+    (r : ReadSoFar s h sec 0 i b j line next)
+    (few : i < length (sections h)) {x : Line} (hx : x ≡ lineAt s next) {f : ℕ}
+    (hf : f ≡ lineFault (Count (sectionAt h i)) b (held x)) where
   abbrev later : List Section
-  later = drop (suc i) sections
+  later = drop (suc i) (sections h)
 
-  next-section : drop i sections ≡ sectionAt i ∷ later
-  next-section = drop-cons sections i B few
+  next-section : drop i (sections h) ≡ sectionAt h i ∷ later
+  next-section = drop-cons (sections h) i «V» few
 
-  count-called : walk (Count (sectionAt i) ∷ map Count later) (r .carries) line (linesIn (drop next s)) ≡ reading s
+  count-called : walk (Count (sectionAt h i) ∷ map Count later) (r .carries) line (linesIn (drop next s)) ≡ reading s
   count-called = rw next-section at (r .rest)
 
   pub count-stops : (f ≡ 0 → ⊥) → reading s ≡ Refused (refusal f line)
   count-stops =
-      line-stops s (Count (sectionAt i)) (map Count later) (r .carries) (r .records) line next hx hf count-called
+      line-stops s (Count (sectionAt h i)) (map Count later) (r .carries) (r .judges) line next hx hf count-called
 
   pub count-read : f ≡ 0 → {left : ℕ} → left ≡ size (at (held x) 1)
-      → ReadSoFar s (sectionAt i) left (suc i) j (line + 1) (x .next)
+      → ReadSoFar s h (sectionAt h i) left (suc i) b j (line + 1) (x .next)
   count-read z {left} hl =
-      let u : Unread j (sectionAt i ∷ later) = rw next-section at (r .unread) in
-      let m : left ≤ about (sectionAt i) .most =
-      rw hl (count-most (sectionAt i) (beforeIn j) (held x) (sym hf ∙ z)) in
+      let u : Unread j (sectionAt h i ∷ later) = rw next-section at (r .unread) in
+      let m : left ≤ about (sectionAt h i) .most =
+      rw hl (count-most (sectionAt h i) b (held x) (sym hf ∙ z)) in
       record {
         carries = r .carries;
         records = r .records;
+        judges = r .judges;
         rest =
             rw hl
-            (line-goes s (Count (sectionAt i)) (map Count later) (r .carries)
-            (r .records) line next hx hf count-called z);
+            (line-goes s (Count (sectionAt h i)) (map Count later) (r .carries)
+            (r .judges) line next hx hf count-called z);
         room = omega (arith, u .0);
         unread = u .1;
-        lines = omega (arith, r .lines, most-24 (sectionAt i));
+        lines = omega (arith, r .lines, most-24 (sectionAt h i));
       }
 
 -- ---- an entry of the section
@@ -120,67 +130,83 @@ entries-next t (suc n) h =
     let q : suc n - 1 ≡ n = omega arith in
     rw q
 
-module _ {s : List ℕ} {left i : ℕ} {j : Job} {line next : ℕ} (r : ReadSoFar s (sectionAt i) left (suc i) j line next)
+module _ {s : List ℕ} {h : Bool} {left i : ℕ} {b : Before} {j : Job} {line next : ℕ}
+    (r : ReadSoFar s h (sectionAt h i) left (suc i) b j line next)
     (more : left ≡ 0 → ⊥) where
   abbrev behind : List Kind
-  behind = entries (sectionAt i) (left - 1) ++ map Count (drop (suc i) sections)
+  behind = entries (sectionAt h i) (left - 1) ++ map Count (drop (suc i) (sections h))
 
-  entry-called : walk (Entry (sectionAt i) ∷ behind) (r .carries) line (linesIn (drop next s)) ≡ reading s
-  entry-called = rw (entries-next (sectionAt i) left more) at (r .rest)
+  entry-called : walk (Entry (sectionAt h i) ∷ behind) (r .carries) line (linesIn (drop next s)) ≡ reading s
+  entry-called = rw (entries-next (sectionAt h i) left more) at (r .rest)
 
   pub entry-stops : {x : Line} → x ≡ lineAt s next → {f : ℕ}
-      → f ≡ lineFault (Entry (sectionAt i)) (beforeIn j) (held x) → (f ≡ 0 → ⊥)
+      → f ≡ lineFault (Entry (sectionAt h i)) b (held x) → (f ≡ 0 → ⊥)
       → reading s ≡ Refused (refusal f line)
-  entry-stops hx hf = line-stops s (Entry (sectionAt i)) behind (r .carries) (r .records) line next hx hf entry-called
+  entry-stops hx hf = line-stops s (Entry (sectionAt h i)) behind (r .carries) (r .judges) line next hx hf entry-called
 
 -- x, the line that begins at `next`, is an entry in order of the section that was begun last
-pub record EntryLine (s : List ℕ) (left i : ℕ) (j : Job) (line next : ℕ) (x : Line) : Type 0 where
-  pub so-far : ReadSoFar s (sectionAt i) left (suc i) j line next
+pub record EntryLine (s : List ℕ) (h : Bool) (left i : ℕ) (b : Before) (j : Job) (line next : ℕ) (x : Line) : Type 0 where
+  pub so-far : ReadSoFar s h (sectionAt h i) left (suc i) b j line next
   pub more : left ≡ 0 → ⊥
   pub is : x ≡ lineAt s next
-  pub in-order : 0 ≡ lineFault (Entry (sectionAt i)) (beforeIn j) (held x)
+  pub in-order : 0 ≡ lineFault (Entry (sectionAt h i)) b (held x)
 
-module _ {s : List ℕ} {left i : ℕ} {j : Job} {line next : ℕ} {x : Line} (o : EntryLine s left i j line next x) where
+module _ {s : List ℕ} {h : Bool} {left i : ℕ} {b : Before} {j : Job} {line next : ℕ} {x : Line}
+    (o : EntryLine s h left i b j line next x) where
   abbrev here : Carried
   here = o .so-far .carries
 
   -- the record has room for it
-  pub entry-room : {t : Section} → sectionAt i ≡ t → countIn j t < about t .most
+  pub entry-room : {t : Section} → sectionAt h i ≡ t → countIn j t < about t .most
   entry-room is-t =
       subst (λ (v : Section). countIn j v < about v .most) is-t (omega (arith, o .so-far .room, o .more))
 
-  -- the next line, with the entry stored in the record
-  pub entry-read : {t : Section} → sectionAt i ≡ t
-      → ReadSoFar s (sectionAt i) (left - 1) (suc i) (stored t (held x) j) (line + 1) (x .next)
-  entry-read {t} is-t =
+  -- stored in the record, it records what is then carried
+  pub entry-stored : {t : Section} → sectionAt h i ≡ t
+      → stored t (held x) j ≡ recorded (learn (Entry (sectionAt h i)) (held x) here)
+  entry-stored {t} is-t = rw is-t (stored-records (held x) here (o .so-far .records) t (entry-room is-t))
+
+  -- the next line, with the entry stored, and z the lowest height that is then recorded
+  pub entry-read : {t : Section} {z : ℤ} → sectionAt h i ≡ t
+      → z ≡ getD (stored t (held x) j .profile .entry) 0 noStep .height
+      → ReadSoFar s h (sectionAt h i) (left - 1) (suc i) (nextBefore t (held x) z b) (stored t (held x) j) (line + 1)
+      (x .next)
+  entry-read {t} {z} is-t lowest =
       let r = o .so-far in
-      let e : stored t (held x) j ≡ recorded (learn (Entry (sectionAt i)) (held x) here) =
-      rw is-t (stored-records (held x) here (r .records) t (entry-room is-t)) in
-      let p : countIn (recorded here) (sectionAt i) + left ≤ about (sectionAt i) .most =
+      let e = entry-stored is-t in
+      let p : countIn (recorded here) (sectionAt h i) + left ≤ about (sectionAt h i) .most =
       rw (r .records) at (r .room) in
-      let u : Unread (recorded here) (drop (suc i) sections) = rw (r .records) at (r .unread) in
+      let u : Unread (recorded here) (drop (suc i) (sections h)) = rw (r .records) at (r .unread) in
+      let d = learn (Entry (sectionAt h i)) (held x) here in
+      let low : z ≡ lowestOf (d .profile) =
+      lowest ∙ ap (λ (k : Job). getD (k .profile .entry) 0 noStep .height) e ∙ lowest-recorded d in
       record {
-        carries = learn (Entry (sectionAt i)) (held x) here;
+        carries = d;
         records = e;
+        judges =
+            ap (λ (v : Section). nextBefore v (held x) z b) (sym is-t)
+            ∙ ap (nextBefore (sectionAt h i) (held x) z) (r .judges)
+            ∙ next-judges (sectionAt h i) (held x) here z low;
         rest =
-            line-goes s (Entry (sectionAt i)) (behind r (o .more)) here (r .records) line next (o .is) (o .in-order)
+            line-goes s (Entry (sectionAt h i)) (behind r (o .more)) here (r .judges) line next (o .is) (o .in-order)
             (entry-called r (o .more)) refl;
-        room = rw e (omega (arith, o .more, one-more (sectionAt i) here (held x)));
-        unread = rw e (none-later i here (held x) u);
+        room = rw e (omega (arith, o .more, one-more (sectionAt h i) here (held x)));
+        unread = rw e (none-later h i here (held x) u);
         lines = omega (arith, o .more, r .lines);
       }
 
 -- ---- the end of a section, and of the sheet
 
-pub section-end : {s : List ℕ} {sec : Section} {left i : ℕ} {j : Job} {line next : ℕ}
-    → ReadSoFar s sec left (suc i) j line next → left ≡ 0
-    → ReadSoFar s sec 0 (i + 1) j line next
+pub section-end : {s : List ℕ} {h : Bool} {sec : Section} {left i : ℕ} {b : Before} {j : Job} {line next : ℕ}
+    → ReadSoFar s h sec left (suc i) b j line next → left ≡ 0
+    → ReadSoFar s h sec 0 (i + 1) b j line next
 section-end r z = rw add-one (rw z at r)
 
-module _ {s : List ℕ} {sec : Section} {i : ℕ} {j : Job} {line next : ℕ} (r : ReadSoFar s sec 0 i j line next)
-    (all : i ≡ length sections) where
+module _ {s : List ℕ} {h : Bool} {sec : Section} {i : ℕ} {b : Before} {j : Job} {line next : ℕ}
+    (r : ReadSoFar s h sec 0 i b j line next)
+    (all : i ≡ length (sections h)) where
   nothing-called : walk [] (r .carries) line (linesIn (drop next s)) ≡ reading s
-  nothing-called = rw all at (r .rest)
+  nothing-called = rw (drop-of-length-le (sections h) {i = i} (omega arith)) at (r .rest)
 
   pub end-extra : next < length s → reading s ≡ Refused (refusal 1 line)
   unfolding walk

@@ -3,6 +3,7 @@ use Prim.Native.Nat.{ℕ, _+_}
 use mathlib.Core.Path.{_≡_, ap, _∙_, sym}
 use mathlib.Core.List.{List, [], _∷_, _++_}
 use native.Mathlib.Omega.{arith}
+use lib.Dec.{eqb}
 use lib.ListN.{drop}
 use Rattle.verdict.specs.Verdict.{refusal}
 use Rattle.field.specs.declared.Field.{Field}
@@ -12,11 +13,15 @@ use Rattle.lines.specs.Lines.{linesIn}
 use Rattle.lines.specs.Held.{held, lineAt}
 use Rattle.lines.proofs.Held.{At, taken, gone, unended, long, at-is}
 use Rattle.rules.specs.declared.Kind.{Kind}
-use Rattle.job.specs.Carried.{Carried, before}
-use Rattle.rules.specs.Sections.{lineFault}
-use Rattle.job.specs.Walk.{calls, learn, Refused, walk}
+use Rattle.job.specs.Carried.{Carried, nothing, before}
+use Rattle.entry.specs.Says.{letter, at}
+use Rattle.rules.specs.declared.Section.the-variants.{«V»}
+use Rattle.rules.specs.Sections.{about, lineFault}
+use Rattle.job.specs.Walk.{calls, learn, Refused, walk, opening, sheet, readLines}
 use Rattle.job.proofs.Walk.{walk-on, walk-refused}
+use Rattle.sheet.specs.Sheet.{reading}
 use Rattle.sheet.proofs.OutOfForm.{bad-first, none-held, many-held}
+use Rattle.sheet.proofs.Part.{no-line}
 
 -- x is the line that begins at p, and f its fault as a line of kind k
 module _
@@ -54,3 +59,21 @@ module _
       go (gone eh e) = absurd (omega (arith, f-one eh))
       go (unended eh e) = absurd (omega (arith, f-one eh))
       go (long fs rest eh e m) = absurd (omega (arith, f-one eh))
+
+-- x is the first line: its first field opens the sheet, and where it is too long for a line it is refused either way
+pub walk-opened : (s : List ℕ) (x : Line) → x ≡ lineAt s 0
+    → walk (sheet (eqb (letter (at (held x) 0)) (about «V» .letter))) nothing 1 (linesIn s) ≡ reading s
+unfolding reading readLines
+walk-opened s x hx = go (at-is s 0 x hx)
+  where
+    go : At s 0 x
+        → walk (sheet (eqb (letter (at (held x) 0)) (about «V» .letter))) nothing 1 (linesIn s)
+        ≡ walk (sheet (opening (linesIn s))) nothing 1 (linesIn s)
+    go (taken e) = rw e
+    go (gone eh e) = rw (eh, e)
+    go (unended eh e) = rw (eh, e)
+    go (long fs rest eh e m) =
+        rw e
+        (no-line (sheet (eqb (letter (at (held x) 0)) (about «V» .letter))) nothing 1 fs rest
+        (λ k b. many-held k b fs m)
+        ∙ sym (no-line (sheet (opening (fs ∷ rest))) nothing 1 fs rest (λ k b. many-held k b fs m)))

@@ -7,7 +7,7 @@ use Rattle.page.specs.declared.Writing.{Writing}
 use Rattle.page.specs.declared.Writing.the-variants as written
 use Rattle.lines.specs.Lines.{linesIn, textOfLines}
 use Rattle.page.specs.Writing.{writing, bufferAfter}
-use Rattle.job.specs.Carried.{Carried, nothing, recorded}
+use Rattle.job.specs.Carried.{Carried, noJob, recorded}
 use Rattle.job.specs.Lines.{linesOf}
 use Rattle.job.specs.Walk.{Reading, Accepted, Refused, readLines}
 use Rattle.sheet.specs.declared.read.Read.{Read}
@@ -21,7 +21,7 @@ reading s = readLines (linesIn s)
 -- as an answer: a refusal with a record that is all zero, or the record of what was read
 abbrev pub answer : Reading → Read
 answer (Accepted c) = record { verdict = accepted; job = recorded c }
-answer (Refused v) = record { verdict = v; job = recorded nothing }
+answer (Refused v) = record { verdict = v; job = noJob }
 
 -- ---- written
 

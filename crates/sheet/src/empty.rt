@@ -1,16 +1,18 @@
-// A record with nothing in it yet: every number is zero.
+// The record that is all zero.
 use building::Building;
 use entry::Face;
+use entry::Step;
 use entry::Wind;
 use job::Faces;
 use job::Internals;
 use job::Job;
+use job::Profile;
 use job::Winds;
 ghost use mathlib.Core.Path.{_≡_};
-ghost use Rattle.job.specs.Carried.{nothing, recorded};
+ghost use Rattle.job.specs.Carried.{noJob};
 
 pub(crate) fn no_job() -> Job
-    ensures { λ r. ⌜ r ≡ recorded nothing ⌝ }
+    ensures { λ r. ⌜ r ≡ noJob ⌝ }
 {
     let building = Building {
         h: 0,
@@ -24,17 +26,24 @@ pub(crate) fn no_job() -> Job
         direction: 0,
         speed: 0,
     };
+    let step = Step {
+        height: 0,
+        factor: 0,
+    };
     let face = Face {
         zone: 0,
         mark: 0,
+        height: 0,
         x: 0,
         y: 0,
         z: 0,
     };
     let winds = [wind; 8];
     let internals = [0i64; 4];
+    let steps = [step; 16];
     let faces = [face; 24];
     Job {
+        year: 0,
         building: building,
         winds: Winds {
             count: 0,
@@ -43,6 +52,10 @@ pub(crate) fn no_job() -> Job
         internals: Internals {
             count: 0,
             entry: internals,
+        },
+        profile: Profile {
+            count: 0,
+            entry: steps,
         },
         faces: Faces {
             count: 0,

@@ -1,7 +1,7 @@
 -- `judge` meets its contract: what comes of the sections from i on is what comes of the whole sheet.
 use Prim.Native.Nat.{ℕ, _≤_, _<_, _-_}
 use mathlib.Core.Path.{_≡_, refl, sym, ap, _∙_, subst}
-use mathlib.Core.Bool.{Bool, true, false}
+use mathlib.Core.Bool.{Bool}
 use native.Mathlib.Omega.{arith}
 use lib.ListN.{length}
 use Rattle.whole.proofs.Size.{said}
@@ -12,7 +12,7 @@ use Rattle.rules.specs.Sections.{sections, sectionAt}
 use Rattle.verdict.specs.declared.Verdict.{Verdict}
 use Rattle.job.specs.declared.Job.{Job}
 use Rattle.job.specs.Judging.{JudgesAs}
-use Rattle.job.proofs.Alone.{alone}
+use Rattle.job.proofs.Alone.{alone, few-sections}
 use Rattle.job.proofs.Judged.{es, heights, ss, sofar, year-is, Reached, reached-first, judges-as, stops}
 use Rattle.job.proofs.Judged.{few-entries, goes-on, ends}
 use borrow.Author.Needs.{needs}
@@ -27,10 +27,6 @@ abbrev μ-loop : tie.MeasureT-loop
 
 loop-holds : tie.Need-loop-holds Inv-loop μ-loop
 loop-holds c = (omega arith, reached-first (c .before .before .before .before .args .j))
-
-few-sections : (h : Bool) → length (sections h) ≤ 6
-few-sections true = omega arith
-few-sections false = omega arith
 
 -- section i
 module _ (c : tie.After-section-at Inv-loop μ-loop) where
