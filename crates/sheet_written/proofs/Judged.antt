@@ -1,7 +1,8 @@
--- Laws of a job that is written: refused as it is judged, and else its text is what it carries and fits a page of 827
+-- Laws of a job that is written: refused as it is judged, and else its text is what it carries and fits a page of 1158
 -- bytes.
-use Prim.Native.Nat.{ℕ}
+use Prim.Native.Nat.{ℕ, _≤_}
 use mathlib.Core.Path.{_≡_, refl}
+use mathlib.Core.Bool.{Bool, true, false}
 use mathlib.Core.List.{List}
 use native.Mathlib.Omega.{arith}
 use lib.ListN.{length, take}
@@ -15,7 +16,11 @@ use Rattle.job.specs.declared.Job.{Job}
 use Rattle.job.specs.Carried.{carried}
 use Rattle.job.specs.Lines.{entriesOf, linesOf}
 use Rattle.job.specs.Walk.{Accepted, verdict, judged}
-use Rattle.job.proofs.Sheet.{sheet-in-order}
+use Rattle.whole.specs.Lists.{Every}
+use Rattle.entry.specs.Says.{hasHeights}
+use Rattle.rules.specs.declared.Section.the-variants.{«V», B, W, I, P, F}
+use Rattle.rules.specs.Sections.{about, sections}
+use Rattle.job.proofs.Sheet.{SheetInOrder, sheet-in-order}
 use Rattle.job.proofs.Verdicts.{judged-refused, judged-accepted}
 use Rattle.sheet.specs.Sheet.{sheetText, jobWriting, jobBuffer}
 use Rattle.sheet_written.specs.Roomed.{Roomed}
@@ -35,11 +40,25 @@ module _ (j : Job) (v : Verdict) (e : v ≡ verdict (judged j)) where
 
     pub job-roomed : Roomed (carried j)
     unfolding judged linesOf
-    job-roomed =
-        λ s. sheet-in-order (entriesOf (carried j)) (carried j) judged-is .counted s .high
+    job-roomed = go (hasHeights (carried j .year)) (sheet-in-order (entriesOf (carried j)) _ (carried j) judged-is)
+      where
+        go : (h : Bool) → SheetInOrder (entriesOf (carried j)) h
+            → Every (λ s. length (entriesOf (carried j) s) ≤ about s .most) (sections h)
+        go true o = (
+          o .counted «V» tt .high,
+          (
+            o .counted B tt .high,
+            (
+              o .counted W tt .high,
+              (o .counted I tt .high, (o .counted P tt .high, (o .counted F tt .high, tt))),
+            ),
+          ),
+        )
+        go false o =
+            (o .counted B tt .high, (o .counted W tt .high, (o .counted I tt .high, (o .counted F tt .high, tt))))
 
     -- the text on a page that has room for the longest, put into a buffer
-    module _ {l page : List ℕ} {n : ℕ} (w : Put l 0 (sheetText (carried j)) page n) (room : length l ≡ 827) where
+    module _ {l page : List ℕ} {n : ℕ} (w : Put l 0 (sheetText (carried j)) page n) (room : length l ≡ 1158) where
       pub job-written : {o : Writing} {after : List ℕ} (buf : List ℕ)
           → (o ≡ writing (take n page) buf) × (after ≡ bufferAfter (take n page) buf)
           → (o ≡ jobWriting sheetText (judged j) buf) × (after ≡ jobBuffer sheetText (judged j) buf)

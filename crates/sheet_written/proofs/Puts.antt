@@ -3,6 +3,7 @@
 use Prim.Native.Nat.{ℕ, _+_, _≤_, _<_}
 use mathlib.Core.Path.{_≡_, sym, ap, _∙_, subst}
 use mathlib.Core.List.{List, [], _∷_, _++_, append-assoc, append-nil}
+use mathlib.Core.Bool.{Bool, true, false}
 use native.Mathlib.Numerals.{add-one}
 use native.Mathlib.Omega.{arith}
 use lib.ListN.{length, getD, take}
@@ -16,9 +17,11 @@ use Rattle.lines.proofs.Held.{held-all}
 use Rattle.lines_written.proofs.Texts.{textOf-append}
 use Rattle.page.proofs.Put.{then, put-nothing, put-length}
 use Rattle.rules.specs.declared.Section.{Section}
-use Rattle.rules.specs.declared.Section.the-variants.{B, W, I, F}
+use Rattle.rules.specs.declared.Section.the-variants.{«V», B, W, I, P, F}
 use Rattle.job.specs.declared.Job.{Job}
-use Rattle.job.specs.Carried.{carried}
+use Rattle.entry.specs.Says.{hasHeights}
+use Rattle.entry_written.specs.Fields.{faceFields}
+use Rattle.job.specs.Carried.{noFace, carried}
 use Rattle.rules.specs.Sections.{sections, sectionAt}
 use Rattle.job.specs.Lines.{entriesOf, sectionOf, sectionsOf, sheetOf}
 use Rattle.job.proofs.Sections.{countLine}
@@ -27,10 +30,16 @@ use Rattle.job.proofs.Alone.{entryOf, entry-is}
 -- a line made of entry i holds it
 module _ (j : Job) where
   entry-six : (s : Section) (i : ℕ) → length (entryOf j s i) ≤ 6
+  entry-six «V» i = omega arith
   entry-six B i = omega arith
   entry-six W i = omega arith
   entry-six I i = omega arith
-  entry-six F i = omega arith
+  entry-six P i = omega arith
+  entry-six F i = go (hasHeights (j .year))
+    where
+      go : (h : Bool) → length (faceFields h (getD (j .faces .entry) i noFace)) ≤ 6
+      go true = omega arith
+      go false = omega arith
 
   pub entry-held : (s : Section) (i : ℕ) (x : Line) → i < length (entriesOf (carried j) s)
       → x ≡ heldLine 0 (entryOf j s i) → held x ≡ getD (entriesOf (carried j) s) i []
@@ -74,24 +83,27 @@ module _ (es : Section → List (List Field)) where
       append-assoc (sectionOf t (es t)) (sectionsOf es ss) (sectionOf s (es s))
       ∙ ap (λ (l : List (List Field)). sectionOf t (es t) ++ l) (sections-one ss s)
 
-  -- the first i of them
-  abbrev pub PutSections : ℕ → List ℕ → List ℕ → ℕ → Type 0
-  PutSections i l m r = Put l 0 (textOfLines (sectionsOf es (take i sections))) m r
+  module _ (h : Bool) where
+    -- the first i of them
+    abbrev pub PutSections : ℕ → List ℕ → List ℕ → ℕ → Type 0
+    PutSections i l m r = Put l 0 (textOfLines (sectionsOf es (take i (sections h)))) m r
 
-  pub no-section : (l : List ℕ) → PutSections 0 l l 0
-  unfolding textOfLines
-  no-section l = put-nothing l 0 (omega arith)
+    pub no-section : (l : List ℕ) → PutSections 0 l l 0
+    unfolding textOfLines
+    no-section l = put-nothing l 0 (omega arith)
 
-  pub one-section : {l m n : List ℕ} {r r′ : ℕ} (i : ℕ) → i < length sections → PutSections i l m r
-      → Put m r (textOfLines (sectionOf (sectionAt i) (es (sectionAt i)))) n r′ → PutSections (i + 1) l n r′
-  one-section {l} {n = n} {r′ = r′} i h v w =
-      let s = sectionAt i in
-      let q : sectionsOf es (take i sections) ++ sectionOf s (es s) ≡ sectionsOf es (take (i + 1) sections) =
-      sections-one (take i sections) s
-      ∙ ap (sectionsOf es) (sym (take-suc sections i B h) ∙ ap (λ (k : ℕ). take k sections) (sym (add-one i))) in
-      subst (λ (xs : List (List Field)). Put l 0 (textOfLines xs) n r′) q
-      (then-lines (sectionsOf es (take i sections)) (sectionOf s (es s)) v w)
+    pub one-section : {l m n : List ℕ} {r r′ : ℕ} (i : ℕ) (s : Section) → i < length (sections h) → s ≡ sectionAt h i
+        → PutSections i l m r → Put m r (textOfLines (sectionOf s (es s))) n r′ → PutSections (i + 1) l n r′
+    one-section {l} {n = n} {r′ = r′} i s few is v w =
+        let ss = sections h in
+        let q : sectionsOf es (take i ss) ++ sectionOf s (es s) ≡ sectionsOf es (take (i + 1) ss) =
+        sections-one (take i ss) s
+        ∙ ap (sectionsOf es) (ap (λ (t : Section). take i ss ++ (t ∷ [])) is ∙ sym (take-suc ss i «V» few) ∙ ap (λ (k : ℕ). take k ss) (sym (add-one i))) in
+        subst (λ (xs : List (List Field)). Put l 0 (textOfLines xs) n r′) q
+        (then-lines (sectionsOf es (take i ss)) (sectionOf s (es s)) v w)
 
-  pub all-sections : {l m : List ℕ} {r i : ℕ} → i ≡ length sections → PutSections i l m r
-      → Put l 0 (textOfLines (sheetOf es)) m r
-  all-sections {l} {m} {r} e v = subst (λ (k : ℕ). PutSections k l m r) e v
+    pub all-sections : {l m : List ℕ} {r i : ℕ} → i ≡ length (sections h) → PutSections i l m r
+        → Put l 0 (textOfLines (sheetOf h es)) m r
+    all-sections {l} {m} {r} {i} e v =
+        subst (λ (ss : List Section). Put l 0 (textOfLines (sectionsOf es ss)) m r)
+        (take-all i (sections h) (omega arith)) v

@@ -2,9 +2,11 @@
 use Prim.Native.Nat.{_≤_}
 use lib.ListN.{length}
 use Rattle.rules.specs.declared.Section.{Section}
-use Rattle.rules.specs.Sections.{about}
+use Rattle.whole.specs.Lists.{Every}
+use Rattle.entry.specs.Says.{hasHeights}
+use Rattle.rules.specs.Sections.{about, sections}
 use Rattle.job.specs.Carried.{Carried}
 use Rattle.job.specs.Lines.{entriesOf}
 
 abbrev pub Roomed : Carried → Type 0
-Roomed c = (s : Section) → length (entriesOf c s) ≤ about s .most
+Roomed c = Every (λ s. length (entriesOf c s) ≤ about s .most) (sections (hasHeights (c .year)))

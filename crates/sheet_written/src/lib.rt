@@ -1,16 +1,20 @@
 // A job written: its own refusal first, and then its text put into the lent buffer.
+use entry::says::has_heights;
 use entry_written::building_line;
 use entry_written::face_line;
 use entry_written::internal_line;
+use entry_written::step_line;
 use entry_written::wind_line;
+use entry_written::year_line;
 use job::Job;
 use job::entry_count;
 use job::judge::judge;
 use lines_written::put_line;
 use page::Writing;
 use rules::Section;
-use rules::shape::SECTIONS;
 use rules::shape::count_line;
+use rules::shape::section_at;
+use rules::shape::section_count;
 ghost use mathlib.Core.Path.{_≡_};
 ghost use Prim.Native.Nat.{_≤_};
 ghost use lib.ListN.{length};
@@ -30,16 +34,21 @@ fn put_section(buf: &mut [u8], at: usize, j: Job, sec: Section) -> usize
         (now (buf .exit)) r ⌝ }
 {
     let n = entry_count(j, sec);
-    let g = j.building;
+    let heights = has_heights(j.year);
     let winds = j.winds;
     let internals = j.internals;
+    let profile = j.profile;
     let faces = j.faces;
     let mut next = put_line(buf, at, count_line(sec, n));
     let mut i: u32 = 0;
     while i < n {
         let k = i as usize;
         let x = match sec {
-            Section::B => building_line(g),
+            Section::V => year_line(j.year),
+            Section::B => {
+                let g = j.building;
+                building_line(g)
+            }
             Section::W => {
                 let w = winds.entry[k];
                 wind_line(w)
@@ -48,9 +57,13 @@ fn put_section(buf: &mut [u8], at: usize, j: Job, sec: Section) -> usize
                 let z = internals.entry[k];
                 internal_line(z)
             }
+            Section::P => {
+                let s = profile.entry[k];
+                step_line(s)
+            }
             Section::F => {
                 let f = faces.entry[k];
-                face_line(f)
+                face_line(heights, f)
             }
         };
         next = put_line(buf, next, x);
@@ -63,14 +76,15 @@ fn put_sheet(buf: &mut [u8], j: Job) -> usize
     requires { ⌜ Roomed (carried j) ⌝ }
     ensures { λ r. ⌜ Put (now (buf .entry)) 0 (sheetText (carried j)) (now (buf .exit)) r ⌝ }
 {
+    let heights = has_heights(j.year);
     let mut next: usize = 0;
-    for i in 0..SECTIONS.len() {
-        next = put_section(buf, next, j, SECTIONS[i]);
+    for i in 0..section_count(heights) {
+        next = put_section(buf, next, j, section_at(heights, i));
     }
     next
 }
 
-// The text of j at the start of `buf`; no accepted job has one of more than 827 bytes.
+// The text of j at the start of `buf`; no accepted job has one of more than 1158 bytes.
 pub fn write_sheet(j: Job, buf: &mut [u8]) -> Writing
     ensures { λ r. ⌜ (r ≡ jobWriting sheetText (judged j) (now (buf .entry)))
         × (now (buf .exit) ≡ jobBuffer sheetText (judged j) (now (buf .entry))) ⌝ }
@@ -79,7 +93,7 @@ pub fn write_sheet(j: Job, buf: &mut [u8]) -> Writing
     if v.number != 0 {
         return Writing::Refused(v);
     }
-    let mut page = [0u8; 827];
+    let mut page = [0u8; 1158];
     let n = put_sheet(&mut page, j);
     page::emit(&page, n, buf)
 }

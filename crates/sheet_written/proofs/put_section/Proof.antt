@@ -4,18 +4,21 @@ use mathlib.Core.Path.{_≡_, sym, _∙_, ap, subst}
 use mathlib.Core.Logic.{⊎-elim}
 use native.Mathlib.Omega.{arith}
 use lib.IntN.{ℤ}
-use lib.ListN.{length, take}
+use mathlib.Core.Bool.{Bool}
+use lib.ListN.{length, getD, take}
+use Rattle.whole.proofs.Size.{said}
+use Rattle.entry.specs.Says.{hasHeights}
 use mir.Facts.{toZ-ofZ}
 use Rattle.lines.specs.Lines.{textOfLines}
 use Rattle.lines.specs.Held.{heldLine}
 use Rattle.page.specs.Writing.{Put}
 use Rattle.page.proofs.Put.{put-length}
 use Rattle.rules.specs.declared.Section.{Section}
-use Rattle.rules.specs.declared.Section.the-variants.{W, I, F}
+use Rattle.rules.specs.declared.Section.the-variants.{W, I, P, F}
 use Rattle.job.specs.declared.Job.{Job}
-use Rattle.job.specs.Carried.{carried}
+use Rattle.job.specs.Carried.{noFace, carried}
 use Rattle.rules.specs.Sections.{about}
-use Rattle.entry_written.specs.Fields.{internalFields}
+use Rattle.entry_written.specs.Fields.{yearFields, internalFields, faceFields}
 use Rattle.job.specs.Lines.{entriesOf}
 use Rattle.job.proofs.Sections.{countLine}
 use Rattle.job.proofs.Alone.{entryOf, most-24}
@@ -25,19 +28,19 @@ use Rattle.sheet_written.proofs.put_section.Statement.{statement}
 use Rattle.sheet_written.proofs.put_section.Tie as tie
 
 abbrev Inv-loop : tie.InvT-loop
-Inv-loop buf₀ at sec n g winds internals faces next₀ i₀ buf next i =
-    (i ≤ n) × Put buf₀ next₀
-    (textOfLines
-    (take i (entriesOf (carried (record { building = g; winds = winds; internals = internals; faces = faces })) sec)))
-    buf next
+Inv-loop buf₀ at j sec n heights winds internals profile faces next₀ i₀ buf next i =
+    (i ≤ n) × Put buf₀ next₀ (textOfLines (take i (entriesOf (carried j) sec))) buf next
 
 abbrev μ-loop : tie.MeasureT-loop
-μ-loop buf₀ at sec n g winds internals faces next₀ i₀ buf next i = n - i
+μ-loop buf₀ at j sec n heights winds internals profile faces next₀ i₀ buf next i = n - i
 
 -- entry i is one of the section, which has room for it
 module _ (c : tie.In-loop Inv-loop μ-loop) where
+  abbrev tested : tie.After-has-heights Inv-loop μ-loop
+  tested = c .before .before .before .before .before .before .before .before .before .before .before
+
   abbrev counted : tie.After-entry-count Inv-loop μ-loop
-  counted = c .before .before .before .before .before .before .before .before .before .before .before
+  counted = tested .before .before
 
   abbrev start : tie.Start Inv-loop μ-loop
   start = counted .before .before
@@ -54,29 +57,15 @@ module _ (c : tie.In-loop Inv-loop μ-loop) where
   below-24 : i < 24
   below-24 = omega (arith, within, start .pre, most-24 (start .args .sec))
 
+  heights-are : tested .has-heights .result ≡ hasHeights (start .args .j .year)
+  heights-are =
+      said hasHeights (start .args .j .year) (tested .has-heights .ensures) (tested .before .struct-told .given .0 .1)
+
 loop-holds : tie.Need-loop-holds Inv-loop μ-loop
 loop-holds c = (search needs, put-none (c .before .before .put-line .ensures))
 
 cast-k : tie.Need-cast-k Inv-loop μ-loop
 cast-k c = record { fits = omega (arith, below-24 c) }
-
-mul-w : tie.Need-mul-w Inv-loop μ-loop
-mul-w c = record { fits = omega (arith, below-24 (c .before .before)) }
-
-element-copy-out-w : tie.Need-element-copy-out-w Inv-loop μ-loop
-element-copy-out-w c = below (c .before .before) W (c .enum-told2 .given .1)
-
-mul-z : tie.Need-mul-z Inv-loop μ-loop
-mul-z c = record { fits = omega (arith, below-24 (c .before .before)) }
-
-element-copy-out-z : tie.Need-element-copy-out-z Inv-loop μ-loop
-element-copy-out-z c = below (c .before .before) I (c .enum-told3 .given .1)
-
-mul-f : tie.Need-mul-f Inv-loop μ-loop
-mul-f c = record { fits = omega (arith, below-24 (c .before .before)) }
-
-element-copy-out-f : tie.Need-element-copy-out-f Inv-loop μ-loop
-element-copy-out-f c = below (c .before .before) F (c .enum-told4 .given .1)
 
 -- the line that was made is entry i
 module _ (c : tie.At-match-came Inv-loop μ-loop) where
@@ -88,13 +77,21 @@ module _ (c : tie.At-match-came Inv-loop μ-loop) where
 
   made : c .match .x ≡ heldLine 0 (entryOf job section (i (c .before)))
   made =
-      ⊎-elim (λ w. w .3 ∙ w .2 .ensures ∙ of-section (w .1 .given .1))
+      ⊎-elim (λ w. w .4
+      ∙ said (λ (z : ℤ). heldLine 0 (yearFields z)) (job .year) (w .3 .ensures) (w .2 .given .0 .1)
+      ∙ of-section (w .1 .given .1))
+      (⊎-elim (λ w. w .4 ∙ w .3 .ensures ∙ of-section (w .1 .given .1))
       (⊎-elim (λ w. w .4 ∙ w .3 .ensures ∙ of-section (w .1 .given .1))
       (⊎-elim (λ w. w .4
       ∙ w .3 .ensures
       ∙ ap (λ (z : ℤ). heldLine 0 (internalFields z)) (toZ-ofZ (sfits-of (w .2 .given)))
       ∙ of-section (w .1 .given .1))
-      (λ w. w .4 ∙ w .3 .ensures ∙ of-section (w .1 .given .1))))
+      (⊎-elim (λ w. w .4 ∙ w .3 .ensures ∙ of-section (w .1 .given .1))
+      (λ w. w .4
+      ∙ w .3 .ensures
+      ∙ ap (λ (h : Bool). heldLine 0 (faceFields h (getD (job .faces .entry) (i (c .before)) noFace)))
+      (heights-are (c .before))
+      ∙ of-section (w .1 .given .1))))))
       (c .match .came)
     where
       of-section : {t : Section} → section ≡ t
@@ -124,7 +121,7 @@ returns : tie.Need-returns Inv-loop μ-loop
 returns c =
     let p = c .before .before .before .before in
     let n = p .before in
-    let k = n .before .before .before .before .before .before in
+    let k = n .before .before .before .before .before .before .before .before in
     let s = k .before .before in
     let es = entriesOf (carried (s .args .j)) (s .args .sec) in
     put-all (s .args .sec) es (c .before .loop .i) (n .count-line .result)
@@ -135,8 +132,14 @@ returns c =
 pub put-section-spec : {M : Type 1} → statement M
 put-section-spec =
     tie.close
-    (tie.spec Inv-loop μ-loop (λ c κs. search needs) (λ c κs. search needs) (λ c κs. search needs) loop-holds cast-k
-    (λ c. search needs)
-    (λ c κs. search needs) (λ c. search needs) mul-w element-copy-out-w (λ c κs. search needs) (λ c. search needs)
-    mul-z element-copy-out-z (λ c κs. search needs) (λ c. search needs) mul-f element-copy-out-f
+    (tie.spec Inv-loop μ-loop (λ c κs. search needs) (λ c κs. search needs) (λ c κs. search needs)
+    (λ c κs. search needs) loop-holds cast-k (λ c. search needs) (λ c κs. search needs) (λ c. search needs)
+    (λ c κs. search needs) (λ c. search needs)
+    (λ c. omega (arith, below-24 (c .before .before))) (λ c. below (c .before .before) W (c .enum-told3 .given .1))
+    (λ c κs. search needs) (λ c. search needs)
+    (λ c. omega (arith, below-24 (c .before .before))) (λ c. below (c .before .before) I (c .enum-told4 .given .1))
+    (λ c κs. search needs) (λ c. search needs)
+    (λ c. omega (arith, below-24 (c .before .before))) (λ c. below (c .before .before) P (c .enum-told5 .given .1))
+    (λ c κs. search needs) (λ c. search needs)
+    (λ c. omega (arith, below-24 (c .before .before))) (λ c. below (c .before .before) F (c .enum-told6 .given .1))
     (λ c κs. search needs) (λ c κs. search needs) add-i (λ c. search needs) loop-again same-length returns)
