@@ -2,14 +2,14 @@
 -- reckoned.
 use mathlib.Core.Path.{_≡_, refl, subst}
 use mathlib.Core.Logic.{_⊎_, inl, inr, ⊎-elim}
-use mathlib.Core.Bool.{true}
+use mathlib.Core.Bool.{Bool, true}
 use mathlib.Core.List.{List, List·Memᴰ}
 use Prim.Native.Nat.{ℕ, zero, suc, _-_, _≤_, _<_}
 use native.Mathlib.Omega.{arith}
 use lib.IntN.{ℤ, pos, natAbs}
-use lib.ListN.{length, getD}
+use lib.ListN.{length, getD, length-map}
 use Rattle.whole.specs.Lists.{firstOf, Every}
-use Rattle.whole.proofs.Lists.{every-at, every-member, firstOf-length, firstOf-getD}
+use Rattle.whole.proofs.Lists.{every-by, every-map, every-at, every-member, firstOf-length, firstOf-getD}
 use Rattle.book.specs.Answer.{valuesOf, Alternatives, one, two}
 use Rattle.building.specs.declared.Building.{Building}
 use Rattle.building.specs.Places.{knows}
@@ -20,6 +20,8 @@ use Rattle.building.proofs.Ranges.{is-within}
 use Rattle.book.proofs.Answers.{zone-answered}
 use Rattle.entry.specs.declared.Wind.{Wind}
 use Rattle.entry.specs.declared.Face.{Face}
+use Rattle.entry.specs.Says.{hasHeights, carriedFace}
+use Rattle.worst.specs.Engine.{facesOf}
 use Rattle.job.specs.declared.Job.{Job}
 use Rattle.job.specs.Carried.{Carried, carried, noWind, noFace}
 use Rattle.job.specs.InOrder.{WindInOrder, InternalInOrder, FaceInOrder, InOrder}
@@ -120,14 +122,22 @@ module _ (j : Job) (o : InOrder (carried j)) where
 
   face : (i : ℕ) → i < j .faces .count → FaceInOrder (j .building) (getD (j .faces .entry) i noFace)
   unfolding carried
-  face = counted-at (FaceInOrder (j .building)) noFace (j .faces .count) (j .faces .entry) (o .faces)
+  face =
+      counted-at (FaceInOrder (j .building)) noFace (j .faces .count) (j .faces .entry)
+      (every-by (λ f a. carried-face (hasHeights (j .year)) f a) (facesOf (j .faces))
+      (every-map (FaceInOrder (j .building)) (carriedFace (hasHeights (j .year))) (facesOf (j .faces)) (o .faces)))
+    where
+      carried-face : (h : Bool) (f : Face) → FaceInOrder (j .building) (carriedFace h f) → FaceInOrder (j .building) f
+      carried-face h f a =
+          record { zone = a .zone; on = a .on; mark = a .mark; x = a .x; y = a .y; z = a .z }
 
   all-met : (k : ℕ) → k < j .winds .count → AllMet (j .building) (j .faces) (getD (j .winds .entry) k noWind)
   unfolding carried
   all-met k h =
       let faces = firstOf-length noFace (j .faces .count) (j .faces .entry) in
+      let carried-faces = length-map (facesOf (j .faces)) (carriedFace (hasHeights (j .year))) in
       record {
-        few = omega (arith, o .faces-counted .high, faces);
+        few = omega (arith, o .faces-counted .high, faces, carried-faces);
         each = λ i t. met (carried j) o _ (wind k h) _ (face i t);
       }
 

@@ -228,10 +228,15 @@ returns c =
       z = both d Z (z .result) (c .extremes3 .ensures) (z .ensures) (inv .5) (inv .6) j;
     }
 
+cast-count : tie.Need-cast-count Inv-loop μ-loop
+cast-count c =
+    let ready = c .before .before .before .pre .0 in
+    record { fits = omega (arith, ready .met 0 (ready .someWind) .few) }
+
 pub shown-spec : {M : Type 1} → statement M
 shown-spec =
     tie.close
-    (tie.spec Inv-loop μ-loop (λ c. search needs) winds-on-x winds-on-y winds-on-z loop-holds
+    (tie.spec Inv-loop μ-loop cast-count winds-on-x winds-on-y winds-on-z loop-holds
     (λ c. record { fits = omega (arith, room c) }) room asks-1 (λ c. room (f1 c .before)) asks-2
     (λ c. room (f2 c .before)) asks-3 (λ c. room (f3 c .before)) asks-4 (λ c. room (f4 c .before)) asks-5
     (λ c. room (f5 c .before)) asks-6 (λ c. room (f6 c .before))
