@@ -22,7 +22,7 @@ use Rattle.worst.proofs.Members.{case-permitted, permitted-case}
 use Rattle.report.specs.Report.{reportText}
 use Rattle.answers.specs.Answers.{hostText, hostExtreme, reportLine, hostLine, hostTotal}
 use Rattle.claims.specs.Contract.{Always}
-use Rattle.claims.specs.Shown.{Shows, ShowsSix, shownIn, lineNumber, Reported, More, Faster}
+use Rattle.claims.specs.Shown.{Shows, ShowsSix, shownIn, lineNumber, Reported, More, Faster, OneSpeed}
 use Rattle.claims.proofs.Contracts as of
 use Rattle.claims.proofs.Accepted.{job-in-order, sheet-in-order, six-is, one-is}
 use Rattle.claims.proofs.Shown as shown
@@ -59,7 +59,7 @@ CasesArePermitted = (W I F A : Type 0) (l : Loads W I F A) (c : Case W I A)
     → (List·Memᴰ c (cases l) → Permitted l c) × (Permitted l c → List·Memᴰ c (cases l))
 
 -- "A job whose winds and internals include another's (same building and faces) shows no smaller greatest and no
--- larger least."
+-- larger least." "[It] also needs the same profile."
 abbrev pub MoreShowsNoLess : Type 0
 MoreShowsNoLess = Always of.worst-cases.Post (λ κ a r s. Always of.worst-cases.Post (λ κ′ b q t.
     (c d : Carried) → judged (a .0) ≡ Accepted c → judged (b .0) ≡ Accepted d → More c d
@@ -67,10 +67,11 @@ MoreShowsNoLess = Always of.worst-cases.Post (λ κ a r s. Always of.worst-cases
     → NoFurther side (shownIn (r .six) axis side .total) (shownIn (q .six) axis side .total)))
 
 -- "If only speeds change and none is lowered, a greatest that was zero or more does not fall, and a least that was
--- zero or less does not rise."
+-- zero or less does not rise." "From year 2 on .. only for jobs whose faces all stand at one height and whose face
+-- speeds were all above 0." That it needs both is shown in SpeedsWorked.
 abbrev pub FasterShowsNoLess : Type 0
 FasterShowsNoLess = Always of.worst-cases.Post (λ κ a r s. Always of.worst-cases.Post (λ κ′ b q t.
-    (c d : Carried) → judged (a .0) ≡ Accepted c → judged (b .0) ≡ Accepted d → Faster c d
+    (c d : Carried) → judged (a .0) ≡ Accepted c → judged (b .0) ≡ Accepted d → Faster c d → OneSpeed c
     → (axis : Axis) (side : Side) → NoFurther side (pos 0) (shownIn (r .six) axis side .total)
     → NoFurther side (shownIn (r .six) axis side .total) (shownIn (q .six) axis side .total)))
 
@@ -131,7 +132,7 @@ more-shows-no-less κ a r s p κ′ b q t p′ c d e f m axis side =
     (shown.more-no-less (job-in-order (a .0) c e) (job-in-order (b .0) d f) axis side m)
 
 pub faster-shows-no-less : FasterShowsNoLess
-faster-shows-no-less κ a r s p κ′ b q t p′ c d e f m axis side h =
+faster-shows-no-less κ a r s p κ′ b q t p′ c d e f m one axis side h =
     rw (total-of (a .0) p c e axis side, total-of (b .0) p′ d f axis side)
-    (shown.faster-no-less (job-in-order (a .0) c e) (job-in-order (b .0) d f) axis side m
+    (shown.faster-no-less (job-in-order (a .0) c e) (job-in-order (b .0) d f) axis side m one
     (rw (total-of (a .0) p c e axis side) at h))

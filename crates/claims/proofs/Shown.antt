@@ -5,15 +5,20 @@ use mathlib.Core.List.{List, [], _∷_, List·Memᴰ, List·Memᴰ·head, List·
 use mathlib.Core.List.{List·Memᴰ·cases-cons}
 use native.Mathlib.Omega.{arith}
 use Prim.Native.Nat.{ℕ, _≤_, _<_}
-use lib.IntN.{ℤ, pos, negsuc, natAbs}
-use lib.Signed.{_≤ℤ_}
+use lib.IntN.{ℤ, pos, natAbs}
+use lib.ListN.{getD}
+use lib.Signed.{_<ℤ_, leZ-yes}
 use Rattle.whole.specs.Lists.{Every}
-use Rattle.whole.proofs.Parts.{le-at}
+use Rattle.whole.proofs.Order.{≤ℤ-trans}
+use Rattle.whole.proofs.Size.{size-rises, size-grows}
+use Rattle.whole.proofs.Lists.{every-member}
+use Rattle.whole.proofs.ByPlace.{getD-member}
 use Rattle.page.specs.declared.Writing.{Writing}
 use Rattle.page.specs.Writing.{writing, bufferAfter}
 use Rattle.building.specs.declared.Building.{Building}
 use Rattle.entry.specs.declared.Wind.{Wind}
-use Rattle.job.specs.Carried.{Carried}
+use Rattle.entry.specs.declared.Face.{Face}
+use Rattle.job.specs.Carried.{Carried, noFace}
 use Rattle.job.specs.InOrder.{InOrder, WindInOrder}
 use Rattle.job.specs.Walk.{Reading, Accepted}
 use Rattle.sheet.specs.Sheet.{jobWriting, jobBuffer}
@@ -25,15 +30,19 @@ use Rattle.worst.specs.declared.Extreme.{Extreme}
 use Rattle.worst.specs.declared.Six.{Six}
 use Rattle.worst.specs.Best.{NoFurther}
 use Rattle.worst.specs.Cases.{Case, cases, caseTotal}
-use Rattle.worst.specs.Forces.{loads}
+use Rattle.worst.specs.declared.speeds.Factor.{Factor}
+use Rattle.worst.specs.Speed.{unchanged, factorAt, speedAt}
+use Rattle.worst.specs.Forces.{factorOf, faceSpeed, loads}
 use Rattle.worst.specs.Shown.{padded, shown}
 use Rattle.worst.specs.Worst.{given, extreme, sixExtremes}
+use Rattle.worst.proofs.AtHeight.{speed-stays}
 use Rattle.worst.proofs.Meaning.{isBest-unique}
-use Rattle.worst.proofs.Demand.{AllIn, Faster}
+use Rattle.worst.proofs.Demand.{AllIn, OneFactor, Faster}
 use Rattle.worst.proofs.Promises.{extreme-shows, extreme-more, extreme-faster}
 use Rattle.report.specs.Lines.{sixText}
 use Rattle.report.specs.Report.{reportText, totalsText}
-use Rattle.claims.specs.Shown.{Shows, ShowsSix, Reported, Includes, More, Raised}
+use Rattle.claims.specs.Shown.{Shows, ShowsSix, Reported, Includes, More, Raised, OneHeight, SomeSpeed}
+use Rattle.claims.specs.Shown.{OneSpeed}
 use Rattle.claims.specs.Shown as faster
 use Rattle.claims.specs.Written.{Written}
 use Rattle.claims.proofs.Accepted.{one-is}
@@ -121,34 +130,71 @@ reported-unique c before {after′ = after′} {w′ = w′} h k =
 included : {X : Type 0} {xs ys : List X} → Includes ys xs → AllIn _≡_ xs ys
 included h x m = (x, h x m, refl)
 
--- speeds are above 0, so that no lower is no smaller
-no-smaller : (a b : ℤ) → pos 1 ≤ℤ a → a ≤ℤ b → (0 < natAbs a) × (natAbs a ≤ natAbs b)
-no-smaller (pos m) (pos n) h k = (omega (arith, le-at _ _ h), omega (arith, le-at _ _ k))
-no-smaller (pos m) (negsuc n) h k = absurd (k .le)
-no-smaller (negsuc m) b h k = absurd (h .le)
+-- one factor for all faces, at which every wind has a speed above 0
+record AtOneFactor (c : Carried) : Type 0 where
+  one : OneFactor (given c)
+  some : (w : Wind) → List·Memᴰ w (c .winds) → 0 < natAbs (speedAt (one .factor) (w .speed))
 
--- each wind has its faster one in its own place
-raised : (g : Building) (ws vs : List Wind) → Every (WindInOrder g) ws → Raised ws vs → AllIn Faster ws vs
-raised g [] [] o r x m = absurd (List·Memᴰ·not-nil m)
-raised g [] (v ∷ vs) o r x m = absurd r
-raised g (w ∷ ws) [] o r x m = absurd r
-raised g (w ∷ ws) (v ∷ vs) o r x m =
+-- in year 1 it is 1, and speeds are above 0
+first-year : (c : Carried) → InOrder c → c .profile ≡ [] → AtOneFactor c
+unfolding factorAt
+first-year c o e =
+    record {
+      one = record { factor = unchanged; each = λ f m. ap (λ p. factorAt p (f .height)) e };
+      some = λ w m.
+          let least = every-member (WindInOrder (c .building)) (c .winds) (o .winds) m .least-speed in
+          let stays = speed-stays unchanged (w .speed) (≤ℤ-trans (leZ-yes tt) least) (omega arith) refl in
+          omega (arith, ap natAbs stays, size-rises (pos 1) (w .speed) (leZ-yes tt) least);
+    }
+
+-- and else that of the one height, at which the first face has its speeds
+one-height : (c : Carried) → InOrder c → OneHeight c → SomeSpeed c → AtOneFactor c
+one-height c o h speeds =
+    let same : (f : Face) → List·Memᴰ f (c .faces) → factorOf (c .profile) f ≡ factorAt (c .profile) (h .0) =
+    λ f m. ap (factorAt (c .profile)) (every-member (λ g. g .height ≡ h .0) (c .faces) (h .1) m) in
+    let first = getD (c .faces) 0 noFace in
+    let in-faces = getD-member (c .faces) 0 noFace (omega (arith, o .faces-counted .low)) in
+    record {
+      one = record { factor = factorAt (c .profile) (h .0); each = same };
+      some = λ w m.
+          let all = every-member (λ u. Every (λ f. pos 0 <ℤ faceSpeed (c .profile) u f) (c .faces)) (c .winds) speeds m in
+          let above = every-member (λ f. pos 0 <ℤ faceSpeed (c .profile) w f) (c .faces) all in-faces in
+          subst (λ k. 0 < natAbs (speedAt k (w .speed))) (same first in-faces) (size-grows (pos 0) _ (leZ-yes tt) above);
+    }
+
+at-one-factor : (c : Carried) → InOrder c → OneSpeed c → AtOneFactor c
+at-one-factor c o =
     ⊎-elim
     (λ e.
-    let t = no-smaller (w .speed) (v .speed) (o .0 .least-speed) (r .1) in
-    let f : Faster w v = record { direction = r .0; some = t .0; risen = t .1 } in
-    (v, List·Memᴰ·head refl, subst (λ (u : Wind). Faster u v) (sym e) f))
-    (λ n. let t = raised g ws vs (o .1) (r .2) x n in (t .0, List·Memᴰ·tail (t .1), t .2))
+    ⊎-elim (λ y. first-year c o (y .profile)) (λ y. absurd (pos-apart (sym e ∙ y .year))) (o .form))
+    (λ s. one-height c o (s .0) (s .1))
+
+-- each wind has its faster one in its own place
+raised : (k : Factor) (g : Building) (ws vs : List Wind) → Every (WindInOrder g) ws
+    → ((w : Wind) → List·Memᴰ w ws → 0 < natAbs (speedAt k (w .speed))) → Raised ws vs → AllIn (Faster k) ws vs
+raised k g [] [] o s r x m = absurd (List·Memᴰ·not-nil m)
+raised k g [] (v ∷ vs) o s r x m = absurd r
+raised k g (w ∷ ws) [] o s r x m = absurd r
+raised k g (w ∷ ws) (v ∷ vs) o s r x m =
+    ⊎-elim
+    (λ e.
+    let risen = size-rises (w .speed) (v .speed) (≤ℤ-trans (leZ-yes tt) (o .0 .least-speed)) (r .1) in
+    let f : Faster k w v = record { direction = r .0; some = s w (List·Memᴰ·head refl); risen = risen } in
+    (v, List·Memᴰ·head refl, subst (λ (u : Wind). Faster k u v) (sym e) f))
+    (λ n.
+    let t = raised k g ws vs (o .1) (λ u m. s u (List·Memᴰ·tail m)) (r .2) x n in
+    (t .0, List·Memᴰ·tail (t .1), t .2))
     (List·Memᴰ·cases-cons m)
 
 module _ {c d : Carried} (o : InOrder c) (p : InOrder d) (axis : Axis) (side : Side) where
   pub more-no-less : More c d → NoFurther side (extreme axis side c .total) (extreme axis side d .total)
   more-no-less m =
-      extreme-more c d (m .building) (m .faces) o p (included (m .winds)) (included (m .internals)) axis side
+      extreme-more c d (m .building) (m .profile) (m .faces) o p (included (m .winds)) (included (m .internals)) axis side
 
-  pub faster-no-less : faster.Faster c d → NoFurther side (pos 0) (extreme axis side c .total)
+  pub faster-no-less : faster.Faster c d → OneSpeed c → NoFurther side (pos 0) (extreme axis side c .total)
       → NoFurther side (extreme axis side c .total) (extreme axis side d .total)
-  faster-no-less m =
-      extreme-faster c d (m .building) (m .faces) o p
-      (raised (c .building) (c .winds) (d .winds) (o .winds) (m .winds))
+  faster-no-less m speeds =
+      let at = at-one-factor c o speeds in
+      extreme-faster c d (m .building) (m .profile) (m .faces) o p (at .one)
+      (raised (at .one .factor) (c .building) (c .winds) (d .winds) (o .winds) (at .some) (m .winds))
       (λ x n. (x, subst (List·Memᴰ x) (m .internals) n, refl)) axis side

@@ -20,7 +20,7 @@ use Rattle.book.specs.Answer.{valuesOf}
 use Rattle.book.specs.Question.{outsideOf, net, tooGreat, netTo, netOf}
 use Rattle.worst.specs.declared.Axis.{Axis}
 use Rattle.worst.specs.Cases.{Permitted, Chosen, Case, total, caseTotal}
-use Rattle.worst.specs.Forces.{acts, alternatives, pressure, area, force, windAt, internalAt, loads}
+use Rattle.worst.specs.Forces.{acts, alternatives, faceSpeed, pressure, area, force, windAt, internalAt, loads}
 use Rattle.worst.specs.Worst.{given}
 use Rattle.whole.proofs.ByPlace.{getD-all}
 use Rattle.worst.proofs.Lists.{numbers-member}
@@ -83,7 +83,8 @@ module _ (c : Carried) (axis : Axis) (w : Wind) (internal : ℤ) where
 
   force-unique : {f : Face} {k : ℕ} {u v : ℤ} → Force c axis w internal f k u → Force c axis w internal f k v → u ≡ v
   force-unique {f} {k} (acting e n p h) (acting e′ n′ p′ h′) =
-      ap (λ r. getD (valuesOf r) (k - 1) (pos 0) *ℤ pressure (c .building .density) w f *ℤ area axis f)
+      let p = pressure (c .building .density) (faceSpeed (c .profile) w f) in
+      ap (λ r. getD (valuesOf r) (k - 1) (pos 0) *ℤ p *ℤ area axis f)
       (net-unique (c .building) (w .direction) (f .zone) internal n n′)
   force-unique (acting e n p h) (idle e′) = clash e e′
   force-unique (idle e) (acting e′ n p h) = clash e′ e

@@ -1,9 +1,12 @@
 -- What may be shown for a job on one axis and one side, and how two jobs compare.
 use mathlib.Core.Path.{_≡_}
+use mathlib.Core.Logic.{_⊎_}
 use mathlib.Core.List.{List, [], _∷_, List·Memᴰ}
 use Prim.Native.Nat.{ℕ}
-use lib.Signed.{_≤ℤ_}
+use lib.IntN.{ℤ, pos}
+use lib.Signed.{_≤ℤ_, _<ℤ_}
 use lib.ListN.{length}
+use Rattle.whole.specs.Lists.{Every}
 use Rattle.page.specs.declared.Writing.{Writing}
 use Rattle.entry.specs.declared.Wind.{Wind}
 use Rattle.job.specs.Carried.{Carried}
@@ -16,7 +19,7 @@ use Rattle.worst.specs.declared.Extremes.{Extremes}
 use Rattle.worst.specs.declared.Six.{Six}
 use Rattle.worst.specs.Best.{IsBest}
 use Rattle.worst.specs.Cases.{Case, cases, caseTotal}
-use Rattle.worst.specs.Forces.{loads}
+use Rattle.worst.specs.Forces.{faceSpeed, loads}
 use Rattle.worst.specs.Shown.{padded}
 use Rattle.worst.specs.Worst.{given}
 use Rattle.report.specs.Lines.{sixText}
@@ -72,9 +75,10 @@ pub record Reported (c : Carried) (before after : List ℕ) (w : Writing) : Type
 abbrev pub Includes : {X : Type 0} → List X → List X → Type 0
 Includes {X} ys xs = (x : X) → List·Memᴰ x xs → List·Memᴰ x ys
 
--- the winds and internal coefficients of d include those of c, with the same building and faces
+-- the winds and internal coefficients of d include those of c, with the same building, profile and faces
 pub record More (c d : Carried) : Type 0 where
   pub building : c .building ≡ d .building
+  pub profile : c .profile ≡ d .profile
   pub faces : c .faces ≡ d .faces
   pub winds : Includes (d .winds) (c .winds)
   pub internals : Includes (d .internals) (c .internals)
@@ -89,6 +93,19 @@ Raised (w ∷ ws) (v ∷ vs) = (w .direction ≡ v .direction) × (w .speed ≤�
 -- only speeds change from c to d, and none is lowered
 pub record Faster (c d : Carried) : Type 0 where
   pub building : c .building ≡ d .building
+  pub profile : c .profile ≡ d .profile
   pub faces : c .faces ≡ d .faces
   pub internals : c .internals ≡ d .internals
   pub winds : Raised (c .winds) (d .winds)
+
+-- all faces stand at one height
+abbrev pub OneHeight : Carried → Type 0
+OneHeight c = (h : ℤ) × Every (λ f. f .height ≡ h) (c .faces)
+
+-- every face's speed is above 0, under every wind
+abbrev pub SomeSpeed : Carried → Type 0
+SomeSpeed c = Every (λ w. Every (λ f. pos 0 <ℤ faceSpeed (c .profile) w f) (c .faces)) (c .winds)
+
+-- what faster winds ask of a job from year 2 on
+abbrev pub OneSpeed : Carried → Type 0
+OneSpeed c = (c .year ≡ pos 1) ⊎ (OneHeight c × SomeSpeed c)

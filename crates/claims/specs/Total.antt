@@ -12,7 +12,7 @@ use Rattle.job.specs.Carried.{Carried}
 use Rattle.book.specs.declared.Answer as book
 use Rattle.book.specs.Answer.{valuesOf}
 use Rattle.worst.specs.declared.Axis.{Axis}
-use Rattle.worst.specs.Forces.{acts, pressure, area}
+use Rattle.worst.specs.Forces.{acts, faceSpeed, pressure, area}
 use Rattle.claims.specs.Question.{Net}
 
 module _ (c : Carried) (axis : Axis) (w : Wind) (internal : ℤ) where
@@ -20,7 +20,8 @@ module _ (c : Carried) (axis : Axis) (w : Wind) (internal : ℤ) where
   pub data Force (f : Face) : ℕ → ℤ → Type 0 where
     acting : {k : ℕ} {r : book.Answer} → acts f (w .direction) ≡ true
         → Net (c .building) (w .direction) (f .zone) internal r → 0 < k → k ≤ length (valuesOf r)
-        → Force f k (getD (valuesOf r) (k - 1) (pos 0) *ℤ pressure (c .building .density) w f *ℤ area axis f)
+        → Force f k (getD (valuesOf r) (k - 1) (pos 0) *ℤ pressure (c .building .density) (faceSpeed (c .profile) w f)
+        *ℤ area axis f)
     -- "A face marked for one wind direction adds nothing under the other and has one alternative there, number 1."
     idle : acts f (w .direction) ≡ false → Force f 1 (pos 0)
 

@@ -1,12 +1,12 @@
 -- The order of ℤ: total, transitive, kept by sums and by factors that are not negative; and what a signed test says.
-use mathlib.Core.Path.{_≡_, refl, ap}
+use mathlib.Core.Path.{_≡_, refl, sym, ap, _∙_}
 use mathlib.Core.Logic.{_⊎_, inl, inr}
-use mathlib.Core.Bool.{Bool, true, false}
+use mathlib.Core.Bool.{Bool, true, false, true≢false}
 use Prim.Native.Nat.{ℕ, _+_, _*_, _≤_}
 use native.Mathlib.Nat.{mul-le-mul-right}
 use native.Mathlib.Omega.{arith}
 use lib.IntN.{ℤ, pos, _+ℤ_, _*ℤ_}
-use lib.Signed.{ltZ, _≤ℤ_, _<ℤ_, ltZ-yes, ltZ-no, clashℤ}
+use lib.Signed.{ltZ, leZ, _≤ℤ_, _<ℤ_, ltZ-yes, ltZ-no, clashℤ}
 use Rattle.whole.proofs.Parts.{up, down, order, add-law, up-mul, down-mul, up-scale, down-scale, eq-by, le-at}
 use Rattle.whole.proofs.Parts.{le-by, lt-by}
 use Rattle.whole.proofs.Tests.{holds, fails, is-true, is-false}
@@ -42,6 +42,17 @@ pub ≤ℤ-or-<ℤ : (x y : ℤ) → (x ≤ℤ y) ⊎ (y <ℤ x)
     go : (t : Bool) → ltZ y x ≡ t → (x ≤ℤ y) ⊎ (y <ℤ x)
     go true e = inr (lt-true y x e)
     go false e = inl (lt-false y x e)
+
+-- a test for no greater
+pub le-true : (x y : ℤ) → leZ x y ≡ true → x ≤ℤ y
+le-true x y e = record { le = holds e }
+
+pub le-false : (x y : ℤ) → leZ x y ≡ false → y <ℤ x
+le-false x y e = go (≤ℤ-or-<ℤ x y)
+  where
+    go : (x ≤ℤ y) ⊎ (y <ℤ x) → y <ℤ x
+    go (inl h) = absurd (true≢false (sym (is-true (leZ x y) (h .le)) ∙ e))
+    go (inr h) = h
 
 -- ---- with sums and products
 

@@ -15,7 +15,7 @@ use Rattle.whole.proofs.Size.{div-mono}
 
 -- ---- to the nearest
 
-halfUp-mono : (d : ℕ) {m n : ℕ} → m ≤ n → halfUp m d ≤ halfUp n d
+pub halfUp-mono : (d : ℕ) {m n : ℕ} → m ≤ n → halfUp m d ≤ halfUp n d
 unfolding halfUp
 halfUp-mono d {m} {n} h = div-mono (2 * d) {m = 2 * m + d} {n = 2 * n + d} (omega arith)
 
@@ -24,7 +24,7 @@ pub halfUp-le : (n d : ℕ) → 0 < d → halfUp n d ≤ n + 1
 unfolding halfUp
 halfUp-le n d h = div-le-of-le-mul (2 * d) {m = 2 * n + d} {n = n + 1} (omega (arith, mul-le-mul-right n h))
 
-halfUp-exact : (k d : ℕ) → 0 < d → halfUp (k * d) d ≡ k
+pub halfUp-exact : (k d : ℕ) → 0 < d → halfUp (k * d) d ≡ k
 unfolding halfUp
 halfUp-exact k d h = div-eq-of-lt-le {k = k} (2 * d) {m = 2 * (k * d) + d} (omega arith) (omega arith)
 

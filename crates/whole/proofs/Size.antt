@@ -10,12 +10,12 @@ use native.Mathlib.Omega.{arith}
 use mathlib.Core.Bool.{true, false}
 use lib.Dec.{T, ltb, ltb→lt}
 use lib.IntN.{ℤ, pos, negsuc, negℤ, natAbs, _+ℤ_, _-ℤ_, _*ℤ_}
-use lib.Signed.{mag, quotZ, natAbs-le, nonNeg, yes-nonNeg, _≤ℤ_, _<ℤ_, ltZ}
+use lib.Signed.{mag, quotZ, natAbs-le, nonNeg, yes-nonNeg, pos-natAbs, _≤ℤ_, _<ℤ_, ltZ}
 use mir.Syntax.{Width, w64}
 use mir.Val.{SFits, Fits, hbits, bits, toZ, ofZ}
 use mir.Facts.{toZ-ofZ, toZ-pos}
 use Rattle.whole.proofs.Parts.{le-at, le-by, add-law, up-neg, down-neg, up-mul, down-mul, one-is-zero}
-use Rattle.whole.proofs.Parts.{natAbs-is}
+use Rattle.whole.proofs.Parts.{natAbs-is, sub-lawℤ, eq-by, lt-at, lt-by}
 use Rattle.whole.proofs.Order.{lt-true, lt-false}
 
 pub natAbs-neg : (z : ℤ) → natAbs (negℤ z) ≡ natAbs z
@@ -37,6 +37,27 @@ pub size-between : (z : ℤ) (k : ℕ) → negℤ (pos k) ≤ℤ z → z ≤ℤ 
 size-between z k h g =
     ⊎-elim (λ e. omega (arith, natAbs-is z, le-at _ _ h, le-at _ _ g, up-neg (pos k), down-neg (pos k)))
     (λ e. omega (arith, natAbs-is z, le-at _ _ h, le-at _ _ g, up-neg (pos k), down-neg (pos k))) (one-is-zero z)
+
+-- numbers from 0 on are their sizes, and ordered as these
+pub size-plain : (z : ℤ) → pos 0 ≤ℤ z → pos (natAbs z) ≡ z
+size-plain z h = pos-natAbs z (yes-nonNeg h)
+
+pub size-rises : (x y : ℤ) → pos 0 ≤ℤ x → x ≤ℤ y → natAbs x ≤ natAbs y
+size-rises (pos m) (pos n) h k = omega (arith, le-at _ _ k)
+size-rises (pos m) (negsuc n) h k = absurd (k .le)
+size-rises (negsuc m) y h k = absurd (h .le)
+
+pub size-grows : (x y : ℤ) → pos 0 ≤ℤ x → x <ℤ y → natAbs x < natAbs y
+size-grows (pos m) (pos n) h k = omega (arith, lt-at _ _ k)
+size-grows (pos m) (negsuc n) h k = absurd (k .lt)
+size-grows (negsuc m) y h k = absurd (h .le)
+
+pub size-some : (z : ℤ) → pos 0 ≤ℤ z → 0 < natAbs z → pos 0 <ℤ z
+size-some (pos n) h k = lt-by _ _ (omega arith)
+size-some (negsuc n) h k = absurd (h .le)
+
+pub pos-minus : (m n : ℕ) → n ≤ m → pos m -ℤ pos n ≡ pos (m - n)
+pos-minus m n h = eq-by _ _ (omega (arith, sub-lawℤ (pos m) (pos n)))
 
 pub natAbs-mul : (x y : ℤ) → natAbs (x *ℤ y) ≡ natAbs x * natAbs y
 natAbs-mul x y =

@@ -1,14 +1,17 @@
 -- What an accepted job gives: every number is in its range, every face has one or two coefficients, and so it can be
 -- reckoned.
-use mathlib.Core.Path.{_≡_, refl, subst}
+use mathlib.Core.Path.{_≡_, refl, sym, ap, _∙_, subst}
 use mathlib.Core.Logic.{_⊎_, inl, inr, ⊎-elim}
-use mathlib.Core.Bool.{Bool, true}
+use mathlib.Core.Bool.{true, true≢false}
 use mathlib.Core.List.{List, List·Memᴰ}
 use Prim.Native.Nat.{ℕ, zero, suc, _-_, _≤_, _<_}
 use native.Mathlib.Omega.{arith}
-use lib.IntN.{ℤ, pos, natAbs}
+use lib.IntN.{ℤ, pos, negℤ, natAbs}
+use lib.Signed.{leZ-yes}
 use lib.ListN.{length, getD, length-map}
 use Rattle.whole.specs.Lists.{firstOf, Every}
+use Rattle.whole.proofs.Order.{≤ℤ-trans}
+use Rattle.whole.proofs.Size.{size-rises}
 use Rattle.whole.proofs.Lists.{every-by, every-map, every-at, every-member, firstOf-length, firstOf-getD}
 use Rattle.book.specs.Answer.{valuesOf, Alternatives, one, two}
 use Rattle.building.specs.declared.Building.{Building}
@@ -19,15 +22,21 @@ use Rattle.building.proofs.Places.{known}
 use Rattle.building.proofs.Ranges.{is-within}
 use Rattle.book.proofs.Answers.{zone-answered}
 use Rattle.entry.specs.declared.Wind.{Wind}
+use Rattle.entry.specs.declared.Step.{Step}
 use Rattle.entry.specs.declared.Face.{Face}
-use Rattle.entry.specs.Says.{hasHeights, carriedFace}
-use Rattle.worst.specs.Engine.{facesOf}
+use Rattle.entry.specs.Says.{hasHeights}
 use Rattle.job.specs.declared.Job.{Job}
-use Rattle.job.specs.Carried.{Carried, carried, noWind, noFace}
-use Rattle.job.specs.InOrder.{WindInOrder, InternalInOrder, FaceInOrder, InOrder}
+use Rattle.job.specs.Carried.{Carried, carried, noWind, noStep, noFace}
+use Rattle.job.specs.InOrder.{WindInOrder, InternalInOrder, FaceInOrder, StepInOrder, HeightInOrder, OfLaterYear}
+use Rattle.job.specs.InOrder.{InOrder}
 use Rattle.worst.specs.Worst.{given}
+use Rattle.worst.specs.Forces.{factorOf}
+use Rattle.worst.specs.Factors.{StepSmall, Profiled, Fraction}
 use Rattle.worst.specs.Small.{OutsideSmall, FaceSmall, Met, AllMet, Ready}
 use Rattle.worst.specs.Table.{outsideAt}
+use Rattle.worst.specs.Engine.{facesOf}
+use Rattle.worst.proofs.Climb.{fraction-none, fraction-at}
+use Rattle.worst.proofs.CarriedFaces.{asCarried, same-factor}
 use Rattle.worst.proofs.OneFace.{OneOrTwo, alone, pair}
 use Rattle.worst.proofs.AllCells.{Sound}
 use Rattle.worst.proofs.Ranges.{InRange}
@@ -58,6 +67,14 @@ speed-within : (g : Building) (w : Wind) → WindInOrder g w → Within 1 1000 (
 speed-within g w o =
     within 1 1000 (w .speed) (is-within (pos 1) (pos 1000) (w .speed) (o .least-speed) (o .greatest-speed))
 
+step-small : (s : Step) → StepInOrder s → StepSmall s
+step-small s o =
+    let from = ≤ℤ-trans (leZ-yes tt) (o .factor .low) in
+    record {
+      height = size-rises _ _ (o .height .low) (o .height .high);
+      factor = size-rises _ _ from (o .factor .high);
+    }
+
 -- ---- what is carried
 
 module _ (c : Carried) (o : InOrder c) where
@@ -84,7 +101,7 @@ module _ (c : Carried) (o : InOrder c) where
       let outs = valuesOf (outsideOf (c .building) (w .direction) (f .zone)) in
       record {
         dense = good-fields (c .building) (o .building) .density .to;
-        slow = speed-within (c .building) w hw .to;
+        slow = record { from = ≤ℤ-trans (leZ-yes tt) (hw .least-speed); to = speed-within (c .building) w hw .to };
         face = face-small f hf;
         placed =
             record {
@@ -95,11 +112,25 @@ module _ (c : Carried) (o : InOrder c) where
         outside = record { first = small 0; last = small (length outs - 1) };
       }
 
+  -- the factor of each face
+  pub fractions : Every (λ f. Fraction (factorOf (c .profile) f)) (c .faces)
+  fractions =
+      ⊎-elim
+      (λ y.
+      every-by (λ f h. subst (λ p. Fraction (factorOf p f)) (sym (y .profile)) (fraction-none (f .height))) (c .faces)
+      (y .heights))
+      (λ y.
+      every-by
+      (λ f h. fraction-at (c .profile) (negℤ (pos 1)) (f .height) (y .profile) (y .rising) (h .within .low))
+      (c .faces) (y .heights))
+      (o .form)
+
   pub given-in-range : InRange (given c)
   given-in-range =
       record {
         density = good-fields (c .building) (o .building) .density .to;
         speed = λ w m. speed-within (c .building) w (wind-in w m) .to;
+        factor = λ f m. every-member (λ g. Fraction (factorOf (c .profile) g)) (c .faces) fractions m;
         internal = λ i m. every-member InternalInOrder (c .internals) (o .internals) m;
         fewFaces = o .faces-counted .high;
         face = λ f m. face-small f (face-in f m);
@@ -120,25 +151,53 @@ module _ (j : Job) (o : InOrder (carried j)) where
   unfolding carried
   wind = counted-at (WindInOrder (j .building)) noWind (j .winds .count) (j .winds .entry) (o .winds)
 
+  -- what holds of each face as it is carried
+  counted-face : (P : Face → Type 0) → Every P (carried j .faces) → (i : ℕ) → i < j .faces .count
+      → P (asCarried j (getD (j .faces .entry) i noFace))
+  unfolding carried
+  counted-face P h =
+      counted-at (λ f. P (asCarried j f)) noFace (j .faces .count) (j .faces .entry)
+      (every-map P (asCarried j) (facesOf (j .faces)) h)
+
   face : (i : ℕ) → i < j .faces .count → FaceInOrder (j .building) (getD (j .faces .entry) i noFace)
   unfolding carried
-  face =
-      counted-at (FaceInOrder (j .building)) noFace (j .faces .count) (j .faces .entry)
-      (every-by (λ f a. carried-face (hasHeights (j .year)) f a) (facesOf (j .faces))
-      (every-map (FaceInOrder (j .building)) (carriedFace (hasHeights (j .year))) (facesOf (j .faces)) (o .faces)))
-    where
-      carried-face : (h : Bool) (f : Face) → FaceInOrder (j .building) (carriedFace h f) → FaceInOrder (j .building) f
-      carried-face h f a =
-          record { zone = a .zone; on = a .on; mark = a .mark; x = a .x; y = a .y; z = a .z }
+  face i t =
+      let h = counted-face (FaceInOrder (j .building)) (o .faces) i t in
+      record { zone = h .zone; on = h .on; mark = h .mark; x = h .x; y = h .y; z = h .z }
+
+  fewFaces : j .faces .count ≤ 24
+  unfolding carried
+  fewFaces =
+      let all = length-map (facesOf (j .faces)) (asCarried j) in
+      omega (arith, o .faces-counted .high, all, firstOf-length noFace (j .faces .count) (j .faces .entry))
 
   all-met : (k : ℕ) → k < j .winds .count → AllMet (j .building) (j .faces) (getD (j .winds .entry) k noWind)
   unfolding carried
   all-met k h =
-      let faces = firstOf-length noFace (j .faces .count) (j .faces .entry) in
-      let carried-faces = length-map (facesOf (j .faces)) (carriedFace (hasHeights (j .year))) in
+      record { few = fewFaces; each = λ i t. met (carried j) o _ (wind k h) _ (face i t) }
+
+  -- the profile and the heights of a later year
+  later : hasHeights (j .year) ≡ true → OfLaterYear (carried j)
+  unfolding carried
+  later h =
+      ⊎-elim (λ y. absurd (true≢false (sym h ∙ ap hasHeights (y .year)))) (λ y. y) (o .form)
+
+  profiled : Profiled (j .year) (j .profile) (j .faces)
+  unfolding carried
+  profiled =
       record {
-        few = omega (arith, o .faces-counted .high, faces, carried-faces);
-        each = λ i t. met (carried j) o _ (wind k h) _ (face i t);
+        few = fewFaces;
+        profile = λ h.
+            let y = later h in
+            let steps = firstOf-length noStep (j .profile .count) (j .profile .entry) in
+            record {
+              few = omega (arith, rw h at (y .counted .high), steps);
+              each = λ i t. step-small _
+                  (counted-at StepInOrder noStep (j .profile .count) (j .profile .entry) (rw h at (y .profile)) i t);
+            };
+        heights = λ h i t.
+            let low = counted-face (λ f. HeightInOrder (carried j .profile) (f .height)) (later h .heights) i t in
+            size-rises _ _ (rw h at (low .range .low)) (rw h at (low .range .high));
       }
 
   pub job-ready : Ready j
@@ -155,4 +214,7 @@ module _ (j : Job) (o : InOrder (carried j)) where
           omega (arith, o .internals-counted .high, internals),
           counted-at InternalInOrder (pos 0) (j .internals .count) (j .internals .entry) (o .internals),
         );
+        profiled = profiled;
+        factors = λ i t. subst Fraction (same-factor j (getD (j .faces .entry) i noFace))
+            (counted-face (λ f. Fraction (factorOf (carried j .profile) f)) (fractions (carried j) o) i t);
       }

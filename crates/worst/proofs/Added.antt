@@ -1,5 +1,5 @@
--- Faces added up one by one: with face i, the sums of the first i become those of one more; and the sums of n faces
--- are small.
+-- Faces added up one by one: with face i, the sums of the first i become those of one more, and stay as small as n + 1
+-- faces can make them.
 use mathlib.Core.Path.{_≡_, sym, ap, _∙_}
 use mathlib.Core.Bool.{Bool, true, false, cond}
 use mathlib.Core.List.{List, [], _∷_, _++_, map, map-append}
@@ -13,8 +13,8 @@ use Rattle.whole.proofs.FirstOf.{firstOf-next}
 use Rattle.whole.proofs.Size.{natAbs-add}
 use Rattle.building.specs.declared.Building.{Building}
 use Rattle.entry.specs.declared.Wind.{Wind}
+use Rattle.entry.specs.declared.Step.{Step}
 use Rattle.entry.specs.declared.Face.{Face}
-use Rattle.job.specs.declared.Faces.{Faces}
 use Rattle.job.specs.Carried.{noFace}
 use Rattle.worst.specs.declared.Side.{Side}
 use Rattle.worst.specs.declared.Side.the-variants.{Greatest, Least}
@@ -22,29 +22,32 @@ use Rattle.worst.specs.declared.Axis.{Axis}
 use Rattle.worst.specs.declared.Axis.the-variants.{X, Y, Z}
 use Rattle.worst.specs.declared.sums.Sums.{Sums}
 use Rattle.worst.specs.declared.sums.Axes.{Axes}
+use Rattle.worst.specs.declared.speeds.Factor.{Factor}
 use Rattle.worst.specs.declared.outside.Outside.{Outside}
 use Rattle.worst.specs.Quick.{sum}
 use Rattle.worst.specs.Shown.{padded}
-use Rattle.worst.specs.Forces.{acts, pressure}
+use Rattle.worst.specs.Speed.{speedAt}
+use Rattle.worst.specs.Forces.{acts, factorOf, pressure}
 use Rattle.worst.specs.Table.{outsideAt}
 use Rattle.worst.specs.Engine.{weight, reach, reachOf, pickOf, sumsOf, axesOf, withWeight, withPressure}
 use Rattle.worst.specs.Engine.{withFace, alternativesOf}
-use Rattle.worst.specs.Small.{SumsSmall, AxesSmall, Met, AllMet}
+use Rattle.worst.specs.Factors.{Fraction}
+use Rattle.worst.specs.Small.{OutsideSmall, Weight, SumsSmall, AxesSmall, Met}
 use Rattle.worst.proofs.Padded.{padded-set}
 use Rattle.worst.proofs.Ranges.{weight-small, reach-small}
 use Rattle.worst.proofs.OneFace.{no-reach}
 
 -- ---- a face that takes part adds what it has at its pressure number, and another nothing
 
-module _ (b : Building) (w : Wind) (f : Face) (p : Axes) where
+module _ (b : Building) (w : Wind) (k : Factor) (f : Face) (p : Axes) where
   abbrev o : Outside
   o = outsideAt b (w .direction) (f .zone)
 
   pub face-acts : acts f (w .direction) ≡ true
-      → withPressure f o (pressure (b .density) w f) p ≡ withFace b w f p
+      → withPressure f o (pressure (b .density) (speedAt k (w .speed))) p ≡ withFace b w k f p
   face-acts e = rw e
 
-  pub face-aside : acts f (w .direction) ≡ false → p ≡ withFace b w f p
+  pub face-aside : acts f (w .direction) ≡ false → p ≡ withFace b w k f p
   face-aside e = rw e (λ j. record { x = same (p .x) j; y = same (p .y) j; z = same (p .z) j })
     where
       nothing : (s : Side) (z : ℤ) → z ≡ z +ℤ reach s o (pos 0)
@@ -65,71 +68,90 @@ unfolding sum
 sum-snoc value [] x = +ℤ-idl (value x) ∙ sym (+ℤ-idr (value x))
 sum-snoc value (y ∷ xs) x = +ℤ-assoc (value y) (sum value xs) (value x) ∙ ap (λ z. value y +ℤ z) (sum-snoc value xs x)
 
-module _ (b : Building) (w : Wind) (l : List Face) (i : ℕ) where
+module _ (b : Building) (profile : List Step) (w : Wind) (l : List Face) (i : ℕ) where
   abbrev next : Face
   next = getD l i noFace
 
   abbrev before : List Face
   before = firstOf noFace i l
 
-  pub axes-next : withFace b w next (axesOf b w before) ≡ axesOf b w (firstOf noFace (i + 1) l)
-  axes-next = (λ j. record { x = on X j; y = on Y j; z = on Z j }) ∙ ap (axesOf b w) (firstOf-next noFace l i)
+  pub axes-next : withFace b w (factorOf profile next) next (axesOf b profile w before)
+      ≡ axesOf b profile w (firstOf noFace (i + 1) l)
+  axes-next =
+      (λ j. record { x = on X j; y = on Y j; z = on Z j }) ∙ ap (axesOf b profile w) (firstOf-next noFace l i)
     where
       on : (axis : Axis)
-          → withWeight (outsideAt b (w .direction) (next .zone)) (weight axis b w next) (sumsOf axis b w before)
-          ≡ sumsOf axis b w (before ++ (next ∷ []))
+          → withWeight (outsideAt b (w .direction) (next .zone)) (weight axis b w (factorOf profile next) next)
+          (sumsOf axis b profile w before)
+          ≡ sumsOf axis b profile w (before ++ (next ∷ []))
       on axis =
           λ j. record {
-            greatest = sum-snoc (reachOf Greatest axis b w) before next j;
-            least = sum-snoc (reachOf Least axis b w) before next j;
-            weight = sum-snoc (weight axis b w) before next j;
+            greatest = sum-snoc (λ f. reachOf Greatest axis b w (factorOf profile f) f) before next j;
+            least = sum-snoc (λ f. reachOf Least axis b w (factorOf profile f) f) before next j;
+            weight = sum-snoc (λ f. weight axis b w (factorOf profile f) f) before next j;
           }
 
   -- its alternative stands where the first zero stood
   pub alternatives-next : (axis : Axis) (s : Side) → i < 24
-      → set (alternativesOf axis s b w before) i (pickOf s axis b w next)
-      ≡ alternativesOf axis s b w (firstOf noFace (i + 1) l)
+      → set (alternativesOf axis s b profile w before) i (pickOf s axis b w (factorOf profile next) next)
+      ≡ alternativesOf axis s b profile w (firstOf noFace (i + 1) l)
   alternatives-next axis s h =
-      let pick = pickOf s axis b w in
+      let pick : Face → ℕ = λ f. pickOf s axis b w (factorOf profile f) f in
       padded-set 24 (map pick before) i (pick next) (length-map before pick ∙ firstOf-length noFace i l) h
       ∙ ap (padded 24) (sym (map-append pick before (next ∷ [])))
-      ∙ ap (alternativesOf axis s b w) (firstOf-next noFace l i)
+      ∙ ap (alternativesOf axis s b profile w) (firstOf-next noFace l i)
 
 -- ---- bounds
 
-sum-small : {A : Type 0} (value : A → ℤ) (l : List A) (d : A) (n k : ℕ)
-    → ((i : ℕ) → i < n → natAbs (value (getD l i d)) ≤ k) → natAbs (sum value (firstOf d n l)) ≤ n * k
-unfolding sum firstOf
-sum-small value l d zero k h = omega arith
-sum-small value [] d (suc n) k h =
-    let one = h 0 (omega arith) in
-    let rest = sum-small value [] d n k (λ i l. h (suc i) (omega arith)) in
-    omega (arith, natAbs-add (value d) (sum value (firstOf d n [])))
-sum-small value (x ∷ xs) d (suc n) k h =
-    let one = h 0 (omega arith) in
-    let rest = sum-small value xs d n k (λ i l. h (suc i) (omega arith)) in
-    omega (arith, natAbs-add (value x) (sum value (firstOf d n xs)))
+-- no face added yet
+abbrev none : Sums
+none = record { greatest = pos 0; least = pos 0; weight = pos 0 }
 
-module _ (b : Building) (fs : Faces) (w : Wind) (met : AllMet b fs w) (n : ℕ) (few : n ≤ fs .count) (m : ℕ)
-    (t : n ≤ m) where
-  abbrev face : ℕ → Face
-  face i = getD (fs .entry) i noFace
+pub nothing-small : AxesSmall 0 (record { x = none; y = none; z = none })
+nothing-small =
+    let small : SumsSmall 0 none = record { greatest = omega arith; least = omega arith; weight = omega arith } in
+    record { x = small; y = small; z = small }
 
-  sums-small : (axis : Axis) → SumsSmall m (sumsOf axis b w (firstOf noFace n (fs .entry)))
-  sums-small axis =
+-- with one face more
+module _ (n : ℕ) where
+  with-weight-small : (o : Outside) (weight : ℤ) (p : Sums) → OutsideSmall o → Weight weight → SumsSmall n p
+      → SumsSmall (n + 1) (withWeight o weight p)
+  with-weight-small o weight p h k small =
+      let reached : (s : Side) → natAbs (reach s o weight) ≤ 180000000000000000 =
+      λ s. reach-small s o weight h k in
       record {
-        greatest = omega (arith, side Greatest);
-        least = omega (arith, side Least);
-        weight = omega (arith, sum-small (weight axis b w) (fs .entry) noFace n 150000000000000 light);
+        greatest = omega (
+          arith,
+          natAbs-add (p .greatest) (reach Greatest o weight),
+          reached Greatest,
+          small .greatest,
+        );
+        least = omega (arith, natAbs-add (p .least) (reach Least o weight), reached Least, small .least);
+        weight = omega (arith, natAbs-add (p .weight) weight, k, small .weight);
       }
+
+  pub with-face-small : (b : Building) (w : Wind) (k : Factor) (f : Face) (p : Axes) → Met b w f → Fraction k
+      → AxesSmall n p → AxesSmall (n + 1) (withFace b w k f p)
+  with-face-small b w k f p met h small =
+      record { x = on X (p .x) (small .x); y = on Y (p .y) (small .y); z = on Z (p .z) (small .z) }
     where
-      light : (i : ℕ) → i < n → natAbs (weight axis b w (face i)) ≤ 150000000000000
-      light i k = weight-small axis b w (face i) (met .each i (omega arith))
+      on : (axis : Axis) (q : Sums) → SumsSmall n q
+          → SumsSmall (n + 1) (withWeight (outsideAt b (w .direction) (f .zone)) (weight axis b w k f) q)
+      on axis q = with-weight-small _ _ q (met .outside) (weight-small axis b w k f met h)
 
-      side : (s : Side) → natAbs (sum (reachOf s axis b w) (firstOf noFace n (fs .entry))) ≤ n * 180000000000000000
-      side s =
-          sum-small (reachOf s axis b w) (fs .entry) noFace n 180000000000000000
-          (λ i k. reach-small s _ _ (met .each i (omega arith) .outside) (light i k))
+  -- n faces and more
+  sums-more : (m : ℕ) (p : Sums) → n ≤ m → SumsSmall n p → SumsSmall m p
+  sums-more m p t s =
+      record {
+        greatest = omega (arith, s .greatest);
+        least = omega (arith, s .least);
+        weight = omega (arith, s .weight);
+      }
 
-  pub axes-small : AxesSmall m (axesOf b w (firstOf noFace n (fs .entry)))
-  axes-small = record { x = sums-small X; y = sums-small Y; z = sums-small Z }
+  pub axes-more : (m : ℕ) (p : Axes) → n ≤ m → AxesSmall n p → AxesSmall m p
+  axes-more m p t s =
+      record {
+        x = sums-more m (p .x) t (s .x);
+        y = sums-more m (p .y) t (s .y);
+        z = sums-more m (p .z) t (s .z);
+      }

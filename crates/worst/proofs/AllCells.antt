@@ -4,14 +4,14 @@ use mathlib.Core.Bool.{Bool, true}
 use mathlib.Core.List.{List, [], _∷_, map, List·Memᴰ}
 use Prim.Native.Nat.{ℕ, _-_, _<_}
 use native.Mathlib.Omega.{arith}
-use lib.IntN.{ℤ, pos, _+ℤ_, _-ℤ_, _*ℤ_}
+use lib.IntN.{ℤ, pos, _-ℤ_, _*ℤ_}
 use lib.ListN.{length, length-map}
-use Rattle.entry.specs.Says.{hasHeights, carriedFace}
 use Rattle.whole.proofs.Lists.{firstOf-length, firstOf-getD}
 use Rattle.whole.proofs.ByPlace.{getD-member}
 use Rattle.building.specs.declared.Building.{Building}
 use Rattle.job.specs.declared.Job.{Job}
 use Rattle.entry.specs.declared.Wind.{Wind}
+use Rattle.entry.specs.declared.Step.{Step}
 use Rattle.entry.specs.declared.Face.{Face}
 use Rattle.job.specs.Carried.{carried, noWind, noFace}
 use Rattle.worst.specs.declared.Side.{Side}
@@ -23,19 +23,19 @@ use Rattle.worst.specs.declared.tops.Top.{Top}
 use Rattle.worst.specs.declared.tops.Ends.{Ends}
 use Rattle.worst.specs.Best.{Best, at, best}
 use Rattle.worst.specs.Cases.{Case, numbers, worst}
-use Rattle.worst.specs.Forces.{Given, acts, outsides, pressure, area, windAt, internalAt, loads}
-use Rattle.worst.specs.Shown.{shown}
+use Rattle.worst.specs.Forces.{Given, acts, outsides, factorOf, faceSpeed, pressure, area, windAt}
+use Rattle.worst.specs.Forces.{internalAt, loads}
+use Rattle.worst.specs.Shown.{padded, shown}
 use Rattle.worst.specs.Worst.{given, extreme, sixExtremes}
 use Rattle.worst.specs.Quick.{over, sum, tagged}
-use Rattle.worst.specs.Shown.{padded}
-use Rattle.worst.specs.Engine.{weight, reach, pick, reachOf, pickOf, facesOf, sumsOf, axesOf, sumsOn}
-use Rattle.worst.specs.Engine.{cellTotal, Cell, cell, cellsBest}
-use Rattle.worst.specs.Table.{outsideAt}
-use Rattle.worst.specs.Engine.{topAt, windNumbered, internalNumbered, cellBest, bestUpTo, alternativesOf}
+use Rattle.worst.specs.Engine.{weight, reachOf, pickOf, facesOf, axesOf, axesUnder, sumsOn, cellTotal}
+use Rattle.worst.specs.Engine.{Cell, cell, topAt}
+use Rattle.worst.specs.Engine.{windNumbered, internalNumbered, cellBest, bestUpTo, alternativesAt}
 use Rattle.worst.specs.Engine.{extremeWith, sixOf}
 use Rattle.worst.proofs.Better.{over-same-in, tagged-over}
 use Rattle.worst.proofs.Quick.{worst-quick}
 use Rattle.worst.proofs.Lists.{numbers-member}
+use Rattle.worst.proofs.CarriedFaces.{asCarried, axes-carried, picks-carried}
 use Rattle.worst.proofs.OneFace.{OneOrTwo, face-best, sum-parted}
 
 -- every face has one or two coefficients under every wind, where it takes part
@@ -44,15 +44,16 @@ Sound g = (w : Wind) (f : Face) → List·Memᴰ w (g .winds) → List·Memᴰ f
     → OneOrTwo (outsides g w f)
 
 -- the total of a cell, from the sums of its wind
-cell-total : (axis : Axis) (s : Side) (b : Building) (w : Wind) (fs : List Face) (i : ℤ)
-    → sum (reachOf s axis b w) fs -ℤ i *ℤ pos 10 *ℤ sum (weight axis b w) fs
-    ≡ cellTotal s (sumsOn axis (axesOf b w fs)) i
-cell-total X Greatest b w fs i = refl
-cell-total X Least b w fs i = refl
-cell-total Y Greatest b w fs i = refl
-cell-total Y Least b w fs i = refl
-cell-total Z Greatest b w fs i = refl
-cell-total Z Least b w fs i = refl
+cell-total : (axis : Axis) (s : Side) (b : Building) (p : List Step) (w : Wind) (fs : List Face) (i : ℤ)
+    → sum (λ f. reachOf s axis b w (factorOf p f) f) fs
+    -ℤ i *ℤ pos 10 *ℤ sum (λ f. weight axis b w (factorOf p f) f) fs
+    ≡ cellTotal s (sumsOn axis (axesOf b p w fs)) i
+cell-total X Greatest b p w fs i = refl
+cell-total X Least b p w fs i = refl
+cell-total Y Greatest b p w fs i = refl
+cell-total Y Least b p w fs i = refl
+cell-total Z Greatest b p w fs i = refl
+cell-total Z Least b p w fs i = refl
 
 -- ---- a height that is not carried weighs nothing
 
@@ -131,24 +132,30 @@ module _ (j : Job) (axis : Axis) (s : Side) where
   -- ---- one cell
 
   -- what a face comes to under a wind and an internal coefficient
+  abbrev reached : Wind → Face → ℤ
+  reached w f = reachOf s axis (j .building) w (factorOf (g .profile) f) f
+
+  abbrev weighed : Wind → Face → ℤ
+  weighed w f = weight axis (j .building) w (factorOf (g .profile) f) f
+
   abbrev value : ℕ → ℕ → Face → ℤ
-  value w i f =
-      reachOf s axis (j .building) (windAt g w) f
-      -ℤ internalAt g i *ℤ pos 10 *ℤ weight axis (j .building) (windAt g w) f
+  value w i f = reached (windAt g w) f -ℤ internalAt g i *ℤ pos 10 *ℤ weighed (windAt g w) f
+
+  abbrev picked : Wind → Face → ℕ
+  picked w f = pickOf s axis (j .building) w (factorOf (g .profile) f) f
 
   abbrev chosenUnder : Wind → List ℕ
-  chosenUnder w = map (pickOf s axis (j .building) w) (g .faces)
+  chosenUnder w = map (picked w) (g .faces)
 
   abbrev caseAt : Cell → Case ℕ ℕ ℕ
   caseAt t =
       record { wind = t .wind; internal = t .internal; chosen = chosenUnder (windNumbered (j .winds) (t .wind)) }
 
   abbrev totalOf : Wind → ℤ → ℤ
-  totalOf u c = cellTotal s (sumsOn axis (axesOf (j .building) u (g .faces))) c
+  totalOf u c = cellTotal s (sumsOn axis (axesUnder j u)) c
 
   abbrev cellOf : ℕ → ℕ → Best Cell
-  cellOf w i =
-      cellBest s (sumsOn axis (axesOf (j .building) (windNumbered (j .winds) w) (g .faces))) (j .internals) w i
+  cellOf w i = cellBest s (sumsOn axis (axesUnder j (windNumbered (j .winds) w))) (j .internals) w i
 
   -- the best case of a cell, at a total
   abbrev found : ℕ → ℕ → Wind → ℤ → Best (Case ℕ ℕ ℕ)
@@ -156,25 +163,25 @@ module _ (j : Job) (axis : Axis) (s : Side) where
 
   cell-is : (w i : ℕ) → WindNumber w → InternalNumber i
       → found w i (windAt g w) (sum (value w i) (g .faces)) ≡ tagged caseAt (cellOf w i)
-  unfolding tagged
+  unfolding tagged carried
   cell-is w i mw mi =
       let c = internalAt g i in
       let u = windAt g w in
-      let b = j .building in
-      ap (found w i u) (sum-parted (reachOf s axis b u) (weight axis b u) (c *ℤ pos 10) (g .faces))
-      ∙ ap (found w i u) (cell-total axis s b u (g .faces) c)
+      ap (found w i u) (sum-parted (reached u) (weighed u) (c *ℤ pos 10) (g .faces))
+      ∙ ap (found w i u) (cell-total axis s (j .building) (g .profile) u (g .faces) c)
+      ∙ ap (λ a. found w i u (cellTotal s (sumsOn axis a) c)) (axes-carried j u)
       ∙ (λ k. found w i (wind-is w mw k) (totalOf (wind-is w mw k) (internal-is i mi k)))
 
   -- ---- all cells
 
   face-is : Sound g → (w i : ℕ) (f : Face) → WindNumber w → InternalNumber i → List·Memᴰ f (g .faces)
       → best s (loads axis g .force w i f) (loads axis g .alternatives w f)
-      ≡ at (value w i f) (pickOf s axis (j .building) (windAt g w) f)
+      ≡ at (value w i f) (picked (windAt g w) f)
   unfolding carried
   face-is sound w i f mw mi mf =
       let u = windAt g w in
-      face-best s (internalAt g i) (pressure (g .density) u f) (area axis f) (acts f (u .direction)) (outsides g u f)
-      (sound u f (wind-in w mw) mf)
+      face-best s (internalAt g i) (pressure (g .density) (faceSpeed (g .profile) u f)) (area axis f)
+      (acts f (u .direction)) (outsides g u f) (sound u f (wind-in w mw) mf)
 
   wind-cells : (w : ℕ) → WindNumber w
       → over s (λ i. found w i (windAt g w) (sum (value w i) (g .faces))) (numbers (length (g .internals)) 1)
@@ -191,7 +198,7 @@ module _ (j : Job) (axis : Axis) (s : Side) where
   worst-cell sound =
       let winds = firstOf-length noWind (j .winds .count) (j .winds .entry) in
       let internals = firstOf-length (pos 0) (j .internals .count) (j .internals .entry) in
-      worst-quick (loads axis g) s value (λ w i. pickOf s axis (j .building) (windAt g w)) (face-is sound)
+      worst-quick (loads axis g) s value (λ w i. picked (windAt g w)) (face-is sound)
       ∙ over-same-in s _ _ (numbers (length (g .winds)) 1) wind-cells
       ∙ sym (tagged-over s caseAt _ (numbers (length (g .winds)) 1))
       ∙ (λ k. tagged caseAt (allCells (winds k) (internals k)))
@@ -203,21 +210,18 @@ module _ (j : Job) (axis : Axis) (s : Side) where
   -- ---- as it is shown
 
   abbrev case : Top → Extreme
-  case t =
-      extremeWith t (j .faces .count)
-      (alternativesOf axis s (j .building) (windNumbered (j .winds) (t .wind)) (facesOf (j .faces)))
+  case t = extremeWith t (j .faces .count) (alternativesAt axis s j t)
 
   extreme-is : Sound g → (t : Top)
       → at (t .total) (cell (t .wind) (t .internal)) ≡ bestUpTo axis s j (j .winds .count)
       → case t ≡ extreme axis s (carried j)
   unfolding carried shown tagged
   extreme-is sound t e =
-      let l = facesOf (j .faces) in
-      let h = hasHeights (j .year) in
-      let faces =
-      sym (length-map l (carriedFace h) ∙ firstOf-length noFace (j .faces .count) (j .faces .entry)) in
-      ap (λ (p : List ℕ). extremeWith t (j .faces .count) (padded 24 p))
-      (sym (picks-aside (j .building) (windNumbered (j .winds) (t .wind)) h l s axis))
+      let fs = facesOf (j .faces) in
+      let all = length-map fs (asCarried j) ∙ firstOf-length noFace (j .faces .count) (j .faces .entry) in
+      let faces = sym all in
+      let picks = picks-carried j axis s (windNumbered (j .winds) (t .wind)) fs in
+      ap (λ ks. extremeWith t (j .faces .count) (padded 24 ks)) (sym picks)
       ∙ ap (λ b. shown (j .faces .count) (tagged caseAt b)) e
       ∙ (λ k. shown (faces k) (sym (worst-cell sound) k))
 

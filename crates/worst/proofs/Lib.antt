@@ -12,12 +12,16 @@ pub mod Quick  -- the quick way finds the worst of all cases
 pub mod Lists  -- numbers in order
 pub mod Padded  -- arrays filled from their start
 pub mod ReadBack  -- a signed result read back
+pub mod AtHeight  -- the factor at a height, and the speed there
+pub mod Climb  -- the factor within a rising profile
+pub mod Factors  -- the factors of all faces
 pub mod Kept  -- the better of an earlier and a later cell
 pub mod Table  -- the table of coefficients
 pub mod Ranges  -- how large every number can be
 -- ---- from one face to all cells
 pub mod OneFace  -- the best of its alternatives
 pub mod Added  -- faces added up
+pub mod CarriedFaces  -- faces without their heights
 pub mod Found  -- a job has a best cell
 pub mod AllCells  -- which is the worst of all its cases
 -- ---- jobs

@@ -24,7 +24,7 @@ use Rattle.whole.proofs.ByPlace.{getD-member}
 use Rattle.worst.proofs.Lists.{Between, member-numbers}
 use Rattle.worst.proofs.Members.{worst-found, worst-is}
 use Rattle.worst.proofs.OneFace.{OneOrTwo, alone, pair}
-use Rattle.worst.proofs.Demand.{SameSite, AllIn, Faster, given-more, given-faster}
+use Rattle.worst.proofs.Demand.{SameSite, AllIn, OneFactor, Faster, given-more, given-faster}
 use Rattle.worst.proofs.Accepted.{given-sound}
 
 -- ---- something is shown
@@ -79,13 +79,14 @@ module _ (axis : Axis) (s : Side) (c : Carried) where
 
 -- ---- more, and faster
 
-module _ (c c′ : Carried) (building : c .building ≡ c′ .building) (faces : c .faces ≡ c′ .faces) (o : InOrder c)
-    (o′ : InOrder c′) where
+module _ (c c′ : Carried) (building : c .building ≡ c′ .building) (profile : c .profile ≡ c′ .profile)
+    (faces : c .faces ≡ c′ .faces) (o : InOrder c) (o′ : InOrder c′) where
   same-site : SameSite (given c) (given c′)
   same-site =
       record {
         density = ap (λ b. b .density) building;
         outside = ap (λ b. λ direction zone. valuesOf (outsideOf b direction zone)) building;
+        profile = profile;
         faces = faces;
       }
 
@@ -97,11 +98,12 @@ module _ (c c′ : Carried) (building : c .building ≡ c′ .building) (faces :
       let f′ = extreme-shows axis s c′ o′ in
       given-more s axis (given c) (given c′) same-site hw hi _ (f .case) _ (f′ .case) (f .found) (f′ .found)
 
-  -- every wind of c has one of c′ in its direction that is no slower
-  pub extreme-faster : AllIn Faster (c .winds) (c′ .winds) → AllIn _≡_ (c .internals) (c′ .internals)
+  -- every wind of c has one of c′ in its direction that is no slower, at one factor for all faces
+  pub extreme-faster : (one : OneFactor (given c)) → AllIn (Faster (one .factor)) (c .winds) (c′ .winds)
+      → AllIn _≡_ (c .internals) (c′ .internals)
       → (axis : Axis) (s : Side) → NoFurther s (pos 0) (extreme axis s c .total)
       → NoFurther s (extreme axis s c .total) (extreme axis s c′ .total)
-  extreme-faster hw hi axis s =
+  extreme-faster one hw hi axis s =
       let f = extreme-shows axis s c o in
       let f′ = extreme-shows axis s c′ o′ in
-      given-faster axis (given c) (given c′) same-site s hw hi _ (f .case) _ (f′ .case) (f .found) (f′ .found)
+      given-faster axis (given c) (given c′) same-site one s hw hi _ (f .case) _ (f′ .case) (f .found) (f′ .found)

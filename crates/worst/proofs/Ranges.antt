@@ -4,6 +4,7 @@ use mathlib.Core.Logic.{_⊎_, inl}
 use mathlib.Core.Bool.{Bool, true, false, cond}
 use mathlib.Core.List.{List, [], _∷_, List·Memᴰ, List·Memᴰ·head, List·Memᴰ·tail}
 use Prim.Native.Nat.{ℕ, _-_, _*_, _≤_}
+use native.Mathlib.Nat.{le-trans}
 use native.Mathlib.Omega.{arith}
 use lib.IntN.{ℤ, pos, natAbs, _*ℤ_}
 use lib.ListN.{length, getD}
@@ -16,18 +17,24 @@ use Rattle.book.specs.Question.{net}
 use Rattle.worst.specs.declared.Side.{Side}
 use Rattle.worst.specs.declared.Axis.{Axis}
 use Rattle.worst.specs.declared.Axis.the-variants.{X, Y, Z}
+use Rattle.worst.specs.declared.speeds.Factor.{Factor}
 use Rattle.worst.specs.declared.outside.Outside.{Outside}
 use Rattle.worst.specs.Best.{short}
 use Rattle.worst.specs.Cases.{Case, total, caseTotal}
-use Rattle.worst.specs.Forces.{Given, acts, outsides, speedAt, pressure, area, force, windAt, internalAt, loads}
+use Rattle.worst.specs.Speed.{speedAt}
+use Rattle.worst.specs.Forces.{Given, acts, outsides, factorOf, faceSpeed, pressure, area, force, windAt}
+use Rattle.worst.specs.Forces.{internalAt, loads}
 use Rattle.worst.specs.Engine.{weight, further, reach}
+use Rattle.worst.specs.Factors.{Fraction}
 use Rattle.worst.specs.Small.{OutsideSmall, FaceSmall, Pressure, Weight, Met}
 use Rattle.whole.proofs.ByPlace.{getD-all}
+use Rattle.worst.proofs.AtHeight.{speed-no-larger}
 
 -- what a job gives, each number within its range
 pub record InRange (g : Given) : Type 0 where
   pub density : natAbs (g .density) ≤ 1500
   pub speed : (w : Wind) → List·Memᴰ w (g .winds) → natAbs (w .speed) ≤ 1000
+  pub factor : (f : Face) → List·Memᴰ f (g .faces) → Fraction (factorOf (g .profile) f)
   pub internal : (i : ℤ) → List·Memᴰ i (g .internals) → natAbs i ≤ 100
   pub fewFaces : length (g .faces) ≤ 24
   pub face : (f : Face) → List·Memᴰ f (g .faces) → FaceSmall f
@@ -37,11 +44,16 @@ pub record InRange (g : Given) : Type 0 where
 
 -- ---- a face under a wind
 
-pub pressure-small : (density : ℤ) (w : Wind) (f : Face) → natAbs density ≤ 1500 → natAbs (w .speed) ≤ 1000
-    → Pressure (pressure density w f)
-pressure-small density w f h k =
-    let v = speedAt w f in
-    times-small density (v *ℤ v) h (times-small v v {k = 1000} {l = 1000} k k)
+-- no face's speed is above its wind's
+pub speed-small : (k : Factor) (v : ℤ) → Fraction k → natAbs v ≤ 1000 → natAbs (speedAt k v) ≤ 1000
+speed-small k v f h = le-trans (speed-no-larger k v f) h
+
+pub pressure-small : (density : ℤ) (k : Factor) (speed : ℤ) → natAbs density ≤ 1500 → Fraction k
+    → natAbs speed ≤ 1000 → Pressure (pressure density (speedAt k speed))
+pressure-small density k speed h f s =
+    let v = speedAt k speed in
+    let slow = speed-small k speed f s in
+    times-small density (v *ℤ v) h (times-small v v {k = 1000} {l = 1000} slow slow)
 
 pub area-small : (axis : Axis) (f : Face) → FaceSmall f → natAbs (area axis f) ≤ 100000
 area-small X f h = h .x
@@ -52,13 +64,14 @@ area-small Z f h = h .z
 pub weight-at-small : (p a : ℤ) → Pressure p → natAbs a ≤ 100000 → Weight (p *ℤ a)
 weight-at-small p a h k = times-small p a h k
 
-pub weight-small : (axis : Axis) (b : Building) (w : Wind) (f : Face) → Met b w f → Weight (weight axis b w f)
-weight-small axis b w f m = go (acts f (w .direction))
+pub weight-small : (axis : Axis) (b : Building) (w : Wind) (k : Factor) (f : Face) → Met b w f → Fraction k
+    → Weight (weight axis b w k f)
+weight-small axis b w k f m h = go (acts f (w .direction))
   where
-    go : (t : Bool) → Weight (cond t (pressure (b .density) w f *ℤ area axis f) (pos 0))
+    go : (t : Bool) → Weight (cond t (pressure (b .density) (speedAt k (w .speed)) *ℤ area axis f) (pos 0))
     go true =
-        weight-at-small (pressure (b .density) w f) (area axis f)
-        (pressure-small (b .density) w f (m .dense) (m .slow)) (area-small axis f (m .face))
+        weight-at-small (pressure (b .density) (speedAt k (w .speed))) (area axis f)
+        (pressure-small (b .density) k (w .speed) (m .dense) h (m .slow .to)) (area-small axis f (m .face))
     go false = omega arith
 
 pub reach-small : (s : Side) (o : Outside) (weight : ℤ) → OutsideSmall o → Weight weight
@@ -90,7 +103,7 @@ module _ (g : Given) (r : InRange g) (axis : Axis) where
     o = getD (outsides g w f) (k - 1) (pos 0)
 
     abbrev p : ℤ
-    p = pressure (g .density) w f
+    p = pressure (g .density) (faceSpeed (g .profile) w f)
 
     force-small : (w .direction ≡ pos 0) ⊎ (w .direction ≡ pos 90) → natAbs (w .speed) ≤ 1000 → natAbs i ≤ 100
         → List·Memᴰ f (g .faces) → natAbs (force axis g w i f k) ≤ 330000000000000000
@@ -103,7 +116,9 @@ module _ (g : Given) (r : InRange g) (axis : Axis) where
 
         go : (t : Bool) → natAbs (cond t (net o i *ℤ p *ℤ area axis f) (pos 0)) ≤ 330000000000000000
         go true =
-            let pressed = times-small (net o i) p net-small (pressure-small (g .density) w f (r .density) slow) in
+            let pressed =
+            times-small (net o i) p net-small
+            (pressure-small (g .density) (factorOf (g .profile) f) (w .speed) (r .density) (r .factor f m) slow) in
             times-small (net o i *ℤ p) (area axis f) pressed (area-small axis f (r .face f m))
         go false = omega arith
 

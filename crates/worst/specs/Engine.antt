@@ -12,6 +12,7 @@ use Rattle.job.specs.declared.Winds.{Winds}
 use Rattle.job.specs.declared.Internals.{Internals}
 use Rattle.job.specs.declared.Faces.{Faces}
 use Rattle.entry.specs.declared.Wind.{Wind}
+use Rattle.entry.specs.declared.Step.{Step}
 use Rattle.entry.specs.declared.Face.{Face}
 use Rattle.job.specs.Carried.{noWind, noFace}
 use Rattle.worst.specs.declared.Side.{Side}
@@ -21,6 +22,7 @@ use Rattle.worst.specs.declared.Axis.the-variants.{X, Y, Z}
 use Rattle.worst.specs.declared.Extreme.{Extreme}
 use Rattle.worst.specs.declared.Extremes.{Extremes}
 use Rattle.worst.specs.declared.Six.{Six}
+use Rattle.worst.specs.declared.speeds.Factor.{Factor}
 use Rattle.worst.specs.declared.outside.Outside.{Outside}
 use Rattle.worst.specs.declared.sums.Sums.{Sums}
 use Rattle.worst.specs.declared.sums.Axes.{Axes}
@@ -30,7 +32,9 @@ use Rattle.worst.specs.declared.tops.Ends.{Ends}
 use Rattle.worst.specs.declared.chosen.Blown.{Blown}
 use Rattle.worst.specs.Best.{short, Best, none, at}
 use Rattle.worst.specs.Cases.{numbers}
-use Rattle.worst.specs.Forces.{acts, pressure, area}
+use Rattle.worst.specs.Speed.{speedAt}
+use Rattle.worst.specs.Forces.{acts, factorOf, pressure, area}
+use Rattle.worst.specs.Factors.{profileOf}
 use Rattle.worst.specs.Shown.{padded}
 use Rattle.worst.specs.Quick.{over, sum}
 use Rattle.worst.specs.Table.{outsideAt}
@@ -38,8 +42,9 @@ use Rattle.worst.specs.Table.{outsideAt}
 -- ---- a face under a wind
 
 -- pressure number × projected area, and 0 where it adds nothing
-abbrev pub weight : Axis → Building → Wind → Face → ℤ
-weight axis b w f = cond (acts f (w .direction)) (pressure (b .density) w f *ℤ area axis f) (pos 0)
+abbrev pub weight : Axis → Building → Wind → Factor → Face → ℤ
+weight axis b w k f =
+    cond (acts f (w .direction)) (pressure (b .density) (speedAt k (w .speed)) *ℤ area axis f) (pos 0)
 
 -- the further out of two, the first where they are alike; and which it is
 unfoldable pub further : Side → ℤ → ℤ → ℤ
@@ -56,29 +61,32 @@ abbrev pub pick : Side → Outside → ℤ → ℕ
 pick s o weight = which s (o .first *ℤ weight) (o .last *ℤ weight)
 
 -- and so for a face under a wind
-abbrev pub reachOf : Side → Axis → Building → Wind → Face → ℤ
-reachOf s axis b w f = reach s (outsideAt b (w .direction) (f .zone)) (weight axis b w f)
+abbrev pub reachOf : Side → Axis → Building → Wind → Factor → Face → ℤ
+reachOf s axis b w k f = reach s (outsideAt b (w .direction) (f .zone)) (weight axis b w k f)
 
-abbrev pub pickOf : Side → Axis → Building → Wind → Face → ℕ
-pickOf s axis b w f = pick s (outsideAt b (w .direction) (f .zone)) (weight axis b w f)
+abbrev pub pickOf : Side → Axis → Building → Wind → Factor → Face → ℕ
+pickOf s axis b w k f = pick s (outsideAt b (w .direction) (f .zone)) (weight axis b w k f)
 
 -- ---- faces added up
 
 abbrev pub facesOf : Faces → List Face
 facesOf fs = firstOf noFace (fs .count) (fs .entry)
 
-abbrev pub sumsOf : Axis → Building → Wind → List Face → Sums
-sumsOf axis b w fs =
+-- each at the factor that a profile has at its height
+abbrev pub sumsOf : Axis → Building → List Step → Wind → List Face → Sums
+sumsOf axis b profile w fs =
     record {
-      greatest = sum (reachOf Greatest axis b w) fs;
-      least = sum (reachOf Least axis b w) fs;
-      weight = sum (weight axis b w) fs;
+      greatest = sum (λ f. reachOf Greatest axis b w (factorOf profile f) f) fs;
+      least = sum (λ f. reachOf Least axis b w (factorOf profile f) f) fs;
+      weight = sum (λ f. weight axis b w (factorOf profile f) f) fs;
     }
 
-abbrev pub axesOf : Building → Wind → List Face → Axes
-axesOf b w fs = record { x = sumsOf X b w fs; y = sumsOf Y b w fs; z = sumsOf Z b w fs }
+abbrev pub axesOf : Building → List Step → Wind → List Face → Axes
+axesOf b profile w fs =
+    record { x = sumsOf X b profile w fs; y = sumsOf Y b profile w fs; z = sumsOf Z b profile w fs }
 
--- one face more: on one axis, at its weight there; on every axis, at its pressure number; and under a wind
+-- one face more: on one axis, at its weight there; on every axis, at its pressure number; and under a wind, at its
+-- factor
 abbrev pub withWeight : Outside → ℤ → Sums → Sums
 withWeight o weight p =
     record {
@@ -95,13 +103,13 @@ withPressure f o pressure p =
       z = withWeight o (pressure *ℤ f .z) (p .z);
     }
 
-abbrev pub withFace : Building → Wind → Face → Axes → Axes
-withFace b w f p =
+abbrev pub withFace : Building → Wind → Factor → Face → Axes → Axes
+withFace b w k f p =
     let o = outsideAt b (w .direction) (f .zone) in
     record {
-      x = withWeight o (weight X b w f) (p .x);
-      y = withWeight o (weight Y b w f) (p .y);
-      z = withWeight o (weight Z b w f) (p .z);
+      x = withWeight o (weight X b w k f) (p .x);
+      y = withWeight o (weight Y b w k f) (p .y);
+      z = withWeight o (weight Z b w k f) (p .z);
     }
 
 -- ---- cells: a wind and an internal coefficient
@@ -166,9 +174,12 @@ cellBest s p is w i = at (cellTotal s p (internalNumbered is i)) (cell w i)
 abbrev pub cellsBest : Side → Sums → Internals → ℕ → Best Cell
 cellsBest s p is w = over s (cellBest s p is w) (numbers (is .count) 1)
 
+-- the sums of a job's faces under a wind
+abbrev pub axesUnder : Job → Wind → Axes
+axesUnder j w = axesOf (j .building) (profileOf j) w (facesOf (j .faces))
+
 abbrev pub windBest : Axis → Side → Job → ℕ → Best Cell
-windBest axis s j w =
-    cellsBest s (sumsOn axis (axesOf (j .building) (windNumbered (j .winds) w) (facesOf (j .faces)))) (j .internals) w
+windBest axis s j w = cellsBest s (sumsOn axis (axesUnder j (windNumbered (j .winds) w))) (j .internals) w
 
 abbrev pub bestUpTo : Axis → Side → Job → ℕ → Best Cell
 bestUpTo axis s j n = over s (windBest axis s j) (numbers n 1)
@@ -179,8 +190,8 @@ abbrev pub blownOn : Side → Blown → Wind
 blownOn Greatest x = x .greatest
 blownOn Least x = x .least
 
-abbrev pub alternativesOf : Axis → Side → Building → Wind → List Face → List ℕ
-alternativesOf axis s b w fs = padded 24 (map (pickOf s axis b w) fs)
+abbrev pub alternativesOf : Axis → Side → Building → List Step → Wind → List Face → List ℕ
+alternativesOf axis s b profile w fs = padded 24 (map (λ f. pickOf s axis b w (factorOf profile f) f) fs)
 
 abbrev pub extremeWith : Top → ℕ → List ℕ → Extreme
 extremeWith t faces chosen =
@@ -191,11 +202,15 @@ abbrev pub withAlternatives : Tops → ℕ → List ℕ → List ℕ → Extreme
 withAlternatives t faces high low =
     record { greatest = extremeWith (t .greatest) faces high; least = extremeWith (t .least) faces low }
 
+-- those of a job's faces, in the case of a top
+abbrev pub alternativesAt : Axis → Side → Job → Top → List ℕ
+alternativesAt axis s j t =
+    alternativesOf axis s (j .building) (profileOf j) (windNumbered (j .winds) (t .wind)) (facesOf (j .faces))
+
 abbrev pub extremesOf : Axis → Job → Tops → Extremes
 extremesOf axis j t =
-    withAlternatives t (j .faces .count)
-    (alternativesOf axis Greatest (j .building) (windNumbered (j .winds) (t .greatest .wind)) (facesOf (j .faces)))
-    (alternativesOf axis Least (j .building) (windNumbered (j .winds) (t .least .wind)) (facesOf (j .faces)))
+    withAlternatives t (j .faces .count) (alternativesAt axis Greatest j (t .greatest))
+    (alternativesAt axis Least j (t .least))
 
 abbrev pub sixOf : Job → Ends → Six
 sixOf j e = record { x = extremesOf X j (e .x); y = extremesOf Y j (e .y); z = extremesOf Z j (e .z) }

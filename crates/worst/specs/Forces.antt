@@ -10,10 +10,13 @@ use Rattle.worst.specs.declared.Axis.the-variants.{X, Y, Z}
 use Rattle.building.specs.Test.{is}
 use Rattle.book.specs.Question.{net}
 use Rattle.entry.specs.declared.Wind.{Wind}
+use Rattle.entry.specs.declared.Step.{Step}
 use Rattle.entry.specs.declared.Face.{Face}
 use Rattle.job.specs.Carried.{noWind}
 use Rattle.entry.specs.Says.{both}
+use Rattle.worst.specs.declared.speeds.Factor.{Factor}
 use Rattle.worst.specs.Cases.{Loads, numbers}
+use Rattle.worst.specs.Speed.{factorAt, speedAt}
 
 -- what a job gives: of its building the air density, and the outside coefficients of a zone under a direction, in
 -- thousandths
@@ -22,6 +25,7 @@ pub record Given : Type 0 where
   pub outside : ℤ → ℕ → List ℤ
   pub winds : List Wind
   pub internals : List ℤ
+  pub profile : List Step
   pub faces : List Face
 
 -- ---- one face
@@ -37,13 +41,16 @@ outsides g w f = g .outside (w .direction) (f .zone)
 abbrev pub alternatives : Given → Wind → Face → List ℕ
 alternatives g w f = cond (acts f (w .direction)) (numbers (length (outsides g w f)) 1) (1 ∷ [])
 
--- a wind's speed at a face: one for the whole building
-abbrev pub speedAt : Wind → Face → ℤ
-speedAt w f = w .speed
+-- the factor at a face's height, and a wind's speed there
+abbrev pub factorOf : List Step → Face → Factor
+factorOf profile f = factorAt profile (f .height)
+
+abbrev pub faceSpeed : List Step → Wind → Face → ℤ
+faceSpeed profile w f = speedAt (factorOf profile f) (w .speed)
 
 -- P = density × V²
-abbrev pub pressure : ℤ → Wind → Face → ℤ
-pressure density w f = density *ℤ (speedAt w f *ℤ speedAt w f)
+abbrev pub pressure : ℤ → ℤ → ℤ
+pressure density speed = density *ℤ (speed *ℤ speed)
 
 abbrev pub area : Axis → Face → ℤ
 area X f = f .x
@@ -54,7 +61,9 @@ area Z f = f .z
 abbrev pub force : Axis → Given → Wind → ℤ → Face → ℕ → ℤ
 force axis g w internal f k =
     cond (acts f (w .direction))
-    (net (getD (outsides g w f) (k - 1) (pos 0)) internal *ℤ pressure (g .density) w f *ℤ area axis f) (pos 0)
+    (net (getD (outsides g w f) (k - 1) (pos 0)) internal *ℤ pressure (g .density) (faceSpeed (g .profile) w f)
+    *ℤ area axis f)
+    (pos 0)
 
 -- ---- all of them
 

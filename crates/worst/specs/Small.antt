@@ -4,6 +4,7 @@ use mathlib.Core.Bool.{true}
 use mathlib.Core.List.{List}
 use Prim.Native.Nat.{ℕ, _*_, _≤_, _<_}
 use lib.IntN.{ℤ, pos, natAbs}
+use lib.Signed.{_≤ℤ_}
 use lib.ListN.{getD}
 use Rattle.building.specs.declared.Building.{Building}
 use Rattle.job.specs.declared.Job.{Job}
@@ -16,7 +17,8 @@ use Rattle.worst.specs.declared.outside.Outside.{Outside}
 use Rattle.worst.specs.declared.sums.Sums.{Sums}
 use Rattle.worst.specs.declared.sums.Axes.{Axes}
 use Rattle.worst.specs.declared.tops.Top.{Top}
-use Rattle.worst.specs.Forces.{acts}
+use Rattle.worst.specs.Forces.{acts, factorOf}
+use Rattle.worst.specs.Factors.{Fraction, Profiled, profileOf}
 use Rattle.worst.specs.Table.{outsideAt, placeOf, Placed, Stands}
 
 pub record OutsideSmall (o : Outside) : Type 0 where
@@ -48,8 +50,9 @@ pub record AxesSmall (n : ℕ) (p : Axes) : Type 0 where
 abbrev pub Dense : Building → Type 0
 Dense b = natAbs (b .density) ≤ 1500
 
-abbrev pub Slow : Wind → Type 0
-Slow w = natAbs (w .speed) ≤ 1000
+pub record Slow (w : Wind) : Type 0 where
+  pub from : pos 0 ≤ℤ w .speed
+  pub to : natAbs (w .speed) ≤ 1000
 
 abbrev pub LowInternals : Internals → Type 0
 LowInternals is = (is .count ≤ 4) × ((k : ℕ) → k < is .count → natAbs (getD (is .entry) k (pos 0)) ≤ 100)
@@ -73,6 +76,8 @@ pub record Ready (j : Job) : Type 0 where
   pub met : (k : ℕ) → k < j .winds .count → AllMet (j .building) (j .faces) (getD (j .winds .entry) k noWind)
   pub someInternal : 0 < j .internals .count
   pub internals : LowInternals (j .internals)
+  pub profiled : Profiled (j .year) (j .profile) (j .faces)
+  pub factors : (i : ℕ) → i < j .faces .count → Fraction (factorOf (profileOf j) (getD (j .faces .entry) i noFace))
 
 -- the wind of a cell is one of the job's
 pub record OnJob (j : Job) (t : Top) : Type 0 where

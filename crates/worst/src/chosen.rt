@@ -8,7 +8,9 @@ ghost use Rattle.worst.specs.declared.Side.{Side};
 ghost use Rattle.worst.specs.Forces.{area};
 ghost use Rattle.worst.specs.Engine.{pick, pickOf, endOf, topAt, windNumbered, blownOn};
 ghost use Rattle.worst.specs.Engine.{withAlternatives, sixOf};
-ghost use Rattle.worst.specs.Small.{OutsideSmall, Weight, Met, Ready, OnJob, StandsFor, StandForAll};
+ghost use Rattle.worst.specs.Small.{OutsideSmall, Weight, Met, Ready, OnJob};
+ghost use Rattle.worst.specs.Small.{StandsFor, StandForAll};
+ghost use Rattle.worst.specs.Factors.{profileOf, Fraction, FactorsStand, Fractions};
 use crate::Axis;
 use crate::Extreme;
 use crate::Extremes;
@@ -17,6 +19,8 @@ use crate::Six;
 use crate::outside::Outside;
 use crate::outside::at_place;
 use crate::outside::takes_part;
+use crate::speeds::Factor;
+use crate::speeds::factor_in;
 use crate::sums::pressure_of;
 use crate::tops::Ends;
 use crate::tops::Tops;
@@ -56,16 +60,17 @@ fn alternative(
     side: Side,
     b: Building,
     w: Wind,
+    factor: Factor,
     f: Face,
     first: &[i64; 16],
     last: &[i64; 16],
 ) -> u8
-    requires { ⌜ Met b w f × StandsFor b w f (now first) (now last) ⌝ }
-    ensures { λ r. ⌜ r ≡ pickOf side axis b w f ⌝ }
+    requires { ⌜ Met b w f × Fraction factor × StandsFor b w f (now first) (now last) ⌝ }
+    ensures { λ r. ⌜ r ≡ pickOf side axis b w factor f ⌝ }
 {
     if takes_part(f, w) {
         let o = at_place(w, f, first, last);
-        let p = pressure_of(b, w, f);
+        let p = pressure_of(b, w, factor);
         return picked(side, o, p * area_on(axis, f));
     }
     1
@@ -117,8 +122,17 @@ fn extremes(tops: Tops, faces: u32, high: [u8; 24], low: [u8; 24]) -> Extremes
 }
 
 // One pass over the faces for all six.
-pub(crate) fn shown(job: Job, ends: Ends, first: &[i64; 16], last: &[i64; 16]) -> Six
-    requires { ⌜ Ready job × ((axis : Axis) (s : Side) → OnJob job (topAt axis s ends))
+pub(crate) fn shown(
+    job: Job,
+    ends: Ends,
+    parts: &[i64; 24],
+    wholes: &[i64; 24],
+    first: &[i64; 16],
+    last: &[i64; 16],
+) -> Six
+    requires { ⌜ Ready job × Fractions (job .faces) (now parts) (now wholes)
+        × FactorsStand (profileOf job) (job .faces) (now parts) (now wholes)
+        × ((axis : Axis) (s : Side) → OnJob job (topAt axis s ends))
         × ((k : ℕ) → k < job .winds .count
         → StandForAll (job .building) (getD (job .winds .entry) k noWind) (job .faces) (now first) (now last)) ⌝ }
     ensures { λ r. ⌜ r ≡ sixOf job ends ⌝ }
@@ -139,12 +153,13 @@ pub(crate) fn shown(job: Job, ends: Ends, first: &[i64; 16], last: &[i64; 16]) -
     let mut i = 0;
     while i < count {
         let f = faces.entry[i];
-        x_high[i] = alternative(Axis::X, Side::Greatest, b, x.greatest, f, first, last);
-        x_low[i] = alternative(Axis::X, Side::Least, b, x.least, f, first, last);
-        y_high[i] = alternative(Axis::Y, Side::Greatest, b, y.greatest, f, first, last);
-        y_low[i] = alternative(Axis::Y, Side::Least, b, y.least, f, first, last);
-        z_high[i] = alternative(Axis::Z, Side::Greatest, b, z.greatest, f, first, last);
-        z_low[i] = alternative(Axis::Z, Side::Least, b, z.least, f, first, last);
+        let k = factor_in(parts, wholes, i);
+        x_high[i] = alternative(Axis::X, Side::Greatest, b, x.greatest, k, f, first, last);
+        x_low[i] = alternative(Axis::X, Side::Least, b, x.least, k, f, first, last);
+        y_high[i] = alternative(Axis::Y, Side::Greatest, b, y.greatest, k, f, first, last);
+        y_low[i] = alternative(Axis::Y, Side::Least, b, y.least, k, f, first, last);
+        z_high[i] = alternative(Axis::Z, Side::Greatest, b, z.greatest, k, f, first, last);
+        z_low[i] = alternative(Axis::Z, Side::Least, b, z.least, k, f, first, last);
         i += 1;
     }
     let x = extremes(ends.x, faces.count, x_high, x_low);

@@ -1,4 +1,4 @@
-// The six extremes of a job: for each wind in order one pass over the faces and then every internal coefficient, and
+// The six extremes of a job: first the factor of each face, then for each wind in order one pass over the faces and then every internal coefficient, and
 // at the end the alternatives of the six cases that were found.
 ghost use mathlib.Core.Path.{_≡_};
 ghost use Rattle.job.specs.Carried.{carried};
@@ -7,6 +7,7 @@ ghost use Rattle.worst.specs.Worst.{sixExtremes};
 use crate::Six;
 use crate::cells::over_internals;
 use crate::chosen::shown;
+use crate::speeds::fill;
 use crate::sums::added;
 use crate::tops::no_ends;
 use job::Job;
@@ -19,8 +20,12 @@ pub(crate) fn six_of(job: Job) -> Six
     let b = job.building;
     let winds = job.winds;
     let internals = job.internals;
+    let profile = job.profile;
     let faces = job.faces;
     let count = winds.count as usize;
+    let mut parts = [1i64; 24];
+    let mut wholes = [1i64; 24];
+    fill(job.year, profile, faces, &mut parts, &mut wholes);
     let mut asked = [false; 16];
     let mut first = [0i64; 16];
     let mut last = [0i64; 16];
@@ -28,9 +33,18 @@ pub(crate) fn six_of(job: Job) -> Six
     let mut w = 0;
     while w < count {
         let wind = winds.entry[w];
-        let sums = added(b, faces, wind, &mut asked, &mut first, &mut last);
+        let sums = added(
+            b,
+            faces,
+            &parts,
+            &wholes,
+            wind,
+            &mut asked,
+            &mut first,
+            &mut last,
+        );
         w += 1;
         ends = over_internals(ends, sums, internals, w as u32);
     }
-    shown(job, ends, &first, &last)
+    shown(job, ends, &parts, &wholes, &first, &last)
 }

@@ -5,6 +5,7 @@ ghost use Rattle.worst.specs.Worst.{worstOf};
 use job::Job;
 use verdict::Verdict;
 
+mod speeds; // the speed of a wind at a face
 mod outside; // the outside coefficients, each looked up once
 mod sums; // the faces under a wind, added up
 mod tops; // the best cell so far

@@ -1,15 +1,22 @@
 // The faces under one wind, added up. A face's weight on an axis is its pressure number × its projected area. An
 // internal coefficient is one for all faces: it changes no choice of alternatives, and meets the sum of the weights.
 ghost use mathlib.Core.Path.{_≡_};
+ghost use mathlib.Core.List.{List};
+ghost use Rattle.entry.specs.declared.Step.{Step};
+ghost use Rattle.worst.specs.Speed.{speedAt};
 ghost use Rattle.worst.specs.Forces.{pressure};
 ghost use Rattle.worst.specs.Table.{Filled, StillStand};
 ghost use Rattle.worst.specs.Engine.{further, facesOf, withWeight, withPressure, withFace, axesOf};
 ghost use Rattle.worst.specs.Small.{OutsideSmall, FaceSmall, Pressure, Weight, SumsSmall, AxesSmall};
 ghost use Rattle.worst.specs.Small.{Dense, Slow, Met, AllMet, StandsFor, StandForAll};
+ghost use Rattle.worst.specs.Factors.{Fraction, FactorsStand, Fractions};
 use crate::Side;
 use crate::outside::Outside;
 use crate::outside::found;
 use crate::outside::takes_part;
+use crate::speeds::Factor;
+use crate::speeds::factor_in;
+use crate::speeds::speed_at;
 use crate::tops::falls_short;
 use building::Building;
 use entry::Face;
@@ -30,12 +37,13 @@ pub struct Axes {
     pub z: Sums,
 }
 
-// The pressure number of a wind at a face.
-pub(crate) fn pressure_of(b: Building, w: Wind, f: Face) -> i64
-    requires { ⌜ Dense b × Slow w ⌝ }
-    ensures { λ r. ⌜ r ≡ pressure (b .density) w f ⌝ }
+// The pressure number of a wind at a factor.
+pub(crate) fn pressure_of(b: Building, w: Wind, factor: Factor) -> i64
+    requires { ⌜ Dense b × Slow w × Fraction factor ⌝ }
+    ensures { λ r. ⌜ r ≡ pressure (b .density) (speedAt factor (w .speed)) ⌝ }
 {
-    b.density * (w.speed * w.speed)
+    let speed = speed_at(factor, w.speed);
+    b.density * (speed * speed)
 }
 
 // The further out of two, the first where they are alike.
@@ -73,40 +81,47 @@ fn with_pressure(sums: Axes, f: Face, o: Outside, pressure: i64) -> Axes
     Axes { x, y, z }
 }
 
-// One face more under a wind. One that does not take part adds nothing, and nothing is looked up for it.
+// One face more under a wind, at its factor. One that does not take part adds nothing, and nothing is looked up for it.
 fn with_face(
     sums: Axes,
     b: Building,
     w: Wind,
+    factor: Factor,
     f: Face,
     asked: &mut [bool; 16],
     first: &mut [i64; 16],
     last: &mut [i64; 16],
 ) -> Axes
-    requires { ⌜ AxesSmall 23 sums × Met b w f × Filled b (now asked) (now first) (now last) ⌝ }
-    ensures { λ r. ⌜ (r ≡ withFace b w f sums) × Filled b (now (asked .exit)) (now (first .exit)) (now (last .exit))
+    requires { ⌜ AxesSmall 23 sums × Met b w f × Fraction factor × Filled b (now asked) (now first) (now last) ⌝ }
+    ensures { λ r. ⌜ (r ≡ withFace b w factor f sums)
+        × Filled b (now (asked .exit)) (now (first .exit)) (now (last .exit))
         × StillStand b (now (first .entry)) (now (last .entry)) (now (first .exit)) (now (last .exit))
         × StandsFor b w f (now (first .exit)) (now (last .exit)) ⌝ }
 {
     if takes_part(f, w) {
         let o = found(b, w, f, asked, first, last);
-        let p = pressure_of(b, w, f);
+        let p = pressure_of(b, w, factor);
         return with_pressure(sums, f, o, p);
     }
     sums
 }
 
-// All faces under a wind.
+// All faces under a wind, each at its factor: they are those of whatever profile has these factors at their heights.
 pub(crate) fn added(
     b: Building,
     faces: Faces,
+    parts: &[i64; 24],
+    wholes: &[i64; 24],
     w: Wind,
     asked: &mut [bool; 16],
     first: &mut [i64; 16],
     last: &mut [i64; 16],
 ) -> Axes
-    requires { ⌜ AllMet b faces w × Filled b (now asked) (now first) (now last) ⌝ }
-    ensures { λ r. ⌜ (r ≡ axesOf b w (facesOf faces))
+    requires { ⌜ AllMet b faces w × Fractions faces (now parts) (now wholes)
+        × Filled b (now asked) (now first) (now last) ⌝ }
+    ensures { λ r. ⌜ AxesSmall 24 r
+        × ((profile : List Step) → FactorsStand profile faces (now (parts .entry)) (now (wholes .entry))
+        → r ≡ axesOf b profile w (facesOf faces))
         × Filled b (now (asked .exit)) (now (first .exit)) (now (last .exit))
         × StillStand b (now (first .entry)) (now (last .entry)) (now (first .exit)) (now (last .exit))
         × StandForAll b w faces (now (first .exit)) (now (last .exit)) ⌝ }
@@ -125,7 +140,8 @@ pub(crate) fn added(
     let mut i = 0;
     while i < count {
         let f = faces.entry[i];
-        sums = with_face(sums, b, w, f, asked, first, last);
+        let factor = factor_in(parts, wholes, i);
+        sums = with_face(sums, b, w, factor, f, asked, first, last);
         i += 1;
     }
     sums

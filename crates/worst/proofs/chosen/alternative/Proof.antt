@@ -7,6 +7,7 @@ use mir.Syntax.{w64}
 use borrow.Author.Needs.{needs}
 use denote.Ref.{now}
 use Rattle.whole.proofs.Size.{Num, back, fit, bound, _⊗_}
+use Rattle.worst.specs.Speed.{speedAt}
 use Rattle.worst.specs.Forces.{acts, pressure, area}
 use Rattle.worst.specs.Table.{outsideAt}
 use Rattle.worst.specs.Engine.{pick}
@@ -41,13 +42,15 @@ module _ (c : tie.After-area-on) where
       let last = now (a .args .last) in
       o .at-place .ensures
       ∙ stands-for (a .args .b) first last (a .args .w .direction) (a .args .f .zone) (a .pre .0 .placed)
-      (a .pre .1 .stands acting)
+      (a .pre .2 .stands acting)
 
   abbrev weighed : Num
   weighed =
-      read-back (p .pressure-of .result) (pressure (a .args .b .density) (a .args .w) (a .args .f))
-      (p .pressure-of .ensures)
-      (pressure-small (a .args .b .density) (a .args .w) (a .args .f) (a .pre .0 .dense) (a .pre .0 .slow)) tt
+      let met = a .pre .0 in
+      read-back (p .pressure-of .result)
+      (pressure (a .args .b .density) (speedAt (a .args .factor) (a .args .w .speed))) (p .pressure-of .ensures)
+      (pressure-small (a .args .b .density) (a .args .factor) (a .args .w .speed) (met .dense) (a .pre .1)
+      (met .slow .to)) tt
       ⊗ read-back (c .area-on .result) (area (a .args .axis) (a .args .f)) (c .area-on .ensures)
       (area-small (a .args .axis) (a .args .f) (a .pre .0 .face)) tt
 

@@ -9,6 +9,7 @@ use lib.ListN.{getD, set}
 use Rattle.whole.specs.Lists.{firstOf}
 use Rattle.building.specs.declared.Building.{Building}
 use Rattle.entry.specs.declared.Wind.{Wind}
+use Rattle.entry.specs.declared.Step.{Step}
 use Rattle.entry.specs.declared.Face.{Face}
 use Rattle.job.specs.declared.Job.{Job}
 use Rattle.job.specs.Carried.{noFace}
@@ -19,39 +20,42 @@ use Rattle.worst.specs.declared.Side.the-variants.{Greatest, Least}
 use Rattle.worst.specs.declared.Extremes.{Extremes}
 use Rattle.worst.specs.declared.chosen.Blown.{Blown}
 use Rattle.worst.specs.Shown.{padded}
-use Rattle.worst.specs.Engine.{pickOf, facesOf, topAt, windNumbered, alternativesOf}
+use Rattle.worst.specs.Engine.{pickOf, topAt, windNumbered, alternativesOf, alternativesAt}
 use Rattle.worst.specs.Engine.{topsOn, blownOn, withAlternatives, extremesOf}
+use Rattle.worst.specs.Factors.{profileOf, FactorsStand, Fraction}
 use Rattle.worst.specs.Small.{Met, StandsFor}
 use Rattle.worst.proofs.Added.{alternatives-next}
 use Rattle.worst.proofs.chosen.shown.Statement.{statement}
 use Rattle.worst.proofs.chosen.shown.Tie as tie
 
 -- an array that holds the alternatives of the first i faces
-abbrev HoldsFirst : Axis → Side → Building → Wind → List Face → ℕ → List ℕ → Type 0
-HoldsFirst axis s b w faces i l = l ≡ alternativesOf axis s b w (firstOf noFace i faces)
+abbrev HoldsFirst : Axis → Side → Building → List Step → List Face → Wind → ℕ → List ℕ → Type 0
+HoldsFirst axis s b profile faces w i l = l ≡ alternativesOf axis s b profile w (firstOf noFace i faces)
 
 abbrev Inv-loop : tie.InvT-loop
-Inv-loop ends first last b faces count x y z h₀ l₀ m₀ n₀ p₀ q₀ i₀ x-high x-low y-high y-low z-high z-low i =
-    (i ≤ count) × HoldsFirst X Greatest b (x .greatest) (faces .entry) i x-high
-    × HoldsFirst X Least b (x .least) (faces .entry) i x-low
-    × HoldsFirst Y Greatest b (y .greatest) (faces .entry) i y-high
-    × HoldsFirst Y Least b (y .least) (faces .entry) i y-low
-    × HoldsFirst Z Greatest b (z .greatest) (faces .entry) i z-high
-    × HoldsFirst Z Least b (z .least) (faces .entry) i z-low
+Inv-loop ends parts wholes first last b faces count x y z h₀ l₀ m₀ n₀ p₀ q₀ i₀ x-high x-low y-high y-low z-high z-low i =
+    (i ≤ count)
+    × ((profile : List Step) → FactorsStand profile faces parts wholes
+    → HoldsFirst X Greatest b profile (faces .entry) (x .greatest) i x-high
+    × HoldsFirst X Least b profile (faces .entry) (x .least) i x-low
+    × HoldsFirst Y Greatest b profile (faces .entry) (y .greatest) i y-high
+    × HoldsFirst Y Least b profile (faces .entry) (y .least) i y-low
+    × HoldsFirst Z Greatest b profile (faces .entry) (z .greatest) i z-high
+    × HoldsFirst Z Least b profile (faces .entry) (z .least) i z-low)
 
 abbrev μ-loop : tie.MeasureT-loop
-μ-loop ends first last b faces count x y z h₀ l₀ m₀ n₀ p₀ q₀ i₀ h l m n p q i = count - i
+μ-loop ends parts wholes first last b faces count x y z h₀ l₀ m₀ n₀ p₀ q₀ i₀ h l m n p q i = count - i
 
 loop-holds : tie.Need-loop-holds Inv-loop μ-loop
 unfolding padded firstOf
-loop-holds c = (search needs, refl, refl, refl, refl, refl, refl)
+loop-holds c = (search needs, λ profile h. (refl, refl, refl, refl, refl, refl))
 
 -- the number of each case's wind
 numbered : (a : tie.Start Inv-loop μ-loop) (axis : Axis) (s : Side)
     → let t = topAt axis s (a .args .ends) in
     (0 < t .wind) × (t .wind < 9)
 numbered a axis s =
-    let on = a .pre .1 axis s in
+    let on = a .pre .3 axis s in
     (on .wind, omega (arith, on .wind≤, a .pre .0 .winds))
 
 winds-on-x : tie.Need-winds-of-requires Inv-loop μ-loop
@@ -71,10 +75,10 @@ room c =
     let few = ready .met 0 (ready .someWind) .few in
     omega arith
 
--- face i, under the wind of a case
-module _ (c : tie.After-f Inv-loop μ-loop) where
+-- face i at its factor, under the wind of a case
+module _ (c : tie.After-factor-in Inv-loop μ-loop) where
   abbrev l : tie.At-loop Inv-loop μ-loop
-  l = c .before .before
+  l = c .before .before .before
 
   abbrev on-z : tie.After-winds-of3 Inv-loop μ-loop
   on-z = l .before
@@ -94,47 +98,59 @@ module _ (c : tie.After-f Inv-loop μ-loop) where
   abbrev face : Face
   face = getD (a .args .job .faces .entry) i noFace
 
+  abbrev counted : i < a .args .job .faces .count
+  counted = c .before .before .loop-test .taken
+
   asked : (axis : Axis) (s : Side) (w : Wind)
       → w ≡ windNumbered (a .args .job .winds) (topAt axis s (a .args .ends) .wind)
-      → Met (a .args .job .building) w face
+      → Met (a .args .job .building) w face × Fraction (c .factor-in .result)
       × StandsFor (a .args .job .building) w face (now (a .args .first)) (now (a .args .last))
   asked axis s w e =
-      let on = a .pre .1 axis s in
+      let on = a .pre .3 axis s in
       let some = on .wind in
       let k = topAt axis s (a .args .ends) .wind - 1 in
       let counts : k < a .args .job .winds .count = omega (arith, on .wind≤) in
-      let t = c .before .loop-test .taken in
+      let fraction = subst Fraction (sym (c .factor-in .ensures)) (a .pre .1 i counted) in
       subst
-      (λ u. Met (a .args .job .building) u face
+      (λ u. Met (a .args .job .building) u face × Fraction (c .factor-in .result)
       × StandsFor (a .args .job .building) u face (now (a .args .first)) (now (a .args .last)))
-      (sym e) (a .pre .0 .met k counts .each i t, a .pre .2 k counts i t)
+      (sym e) (a .pre .0 .met k counts .each i counted, fraction, a .pre .4 k counts i counted)
 
   -- its alternative is stored
-  next : (axis : Axis) (s : Side) (w : Wind) {k : ℕ} {h : List ℕ}
-      → k ≡ pickOf s axis (a .args .job .building) w face
-      → HoldsFirst axis s (a .args .job .building) w (a .args .job .faces .entry) i h
-      → HoldsFirst axis s (a .args .job .building) w (a .args .job .faces .entry) (i + 1) (set h i k)
-  next axis s w e q =
-      (λ j. set (q j) i (e j))
-      ∙ alternatives-next (a .args .job .building) w (a .args .job .faces .entry) i axis s (room (c .before))
+  module _ (profile : List Step)
+      (stand : FactorsStand profile (a .args .job .faces) (now (a .args .parts)) (now (a .args .wholes))) where
+    abbrev HoldsUpTo : Axis → Side → Wind → ℕ → List ℕ → Type 0
+    HoldsUpTo axis s = HoldsFirst axis s (a .args .job .building) profile (a .args .job .faces .entry)
+
+    next : (axis : Axis) (s : Side) (w : Wind) {k : ℕ} {h : List ℕ}
+        → k ≡ pickOf s axis (a .args .job .building) w (c .factor-in .result) face → HoldsUpTo axis s w i h
+        → HoldsUpTo axis s w (i + 1) (set h i k)
+    next axis s w e q =
+        let b = a .args .job .building in
+        let factor = c .factor-in .ensures ∙ stand i counted in
+        (λ j. set (q j) i ((e ∙ ap (λ v. pickOf s axis b w v face) factor) j))
+        ∙ alternatives-next b profile w (a .args .job .faces .entry) i axis s (room (c .before .before))
+
+  roomy : i < 24
+  roomy = room (c .before .before)
 
 -- the places of the six calls
-abbrev f1 : tie.After-alternative Inv-loop μ-loop → tie.After-f Inv-loop μ-loop
+abbrev f1 : tie.After-alternative Inv-loop μ-loop → tie.After-factor-in Inv-loop μ-loop
 f1 c = c .before
 
-abbrev f2 : tie.After-alternative2 Inv-loop μ-loop → tie.After-f Inv-loop μ-loop
+abbrev f2 : tie.After-alternative2 Inv-loop μ-loop → tie.After-factor-in Inv-loop μ-loop
 f2 c = f1 (c .before)
 
-abbrev f3 : tie.After-alternative3 Inv-loop μ-loop → tie.After-f Inv-loop μ-loop
+abbrev f3 : tie.After-alternative3 Inv-loop μ-loop → tie.After-factor-in Inv-loop μ-loop
 f3 c = f2 (c .before)
 
-abbrev f4 : tie.After-alternative4 Inv-loop μ-loop → tie.After-f Inv-loop μ-loop
+abbrev f4 : tie.After-alternative4 Inv-loop μ-loop → tie.After-factor-in Inv-loop μ-loop
 f4 c = f3 (c .before)
 
-abbrev f5 : tie.After-alternative5 Inv-loop μ-loop → tie.After-f Inv-loop μ-loop
+abbrev f5 : tie.After-alternative5 Inv-loop μ-loop → tie.After-factor-in Inv-loop μ-loop
 f5 c = f4 (c .before)
 
-abbrev f6 : tie.After-alternative6 Inv-loop μ-loop → tie.After-f Inv-loop μ-loop
+abbrev f6 : tie.After-alternative6 Inv-loop μ-loop → tie.After-factor-in Inv-loop μ-loop
 f6 c = f5 (c .before)
 
 asks-1 : tie.Need-alternative-requires Inv-loop μ-loop
@@ -156,7 +172,7 @@ asks-6 : tie.Need-alternative-requires-6 Inv-loop μ-loop
 asks-6 c κs = asked (f5 c) Z Least _ (on-z (f5 c) .winds-of3 .ensures Least)
 
 loop-less : tie.Need-loop-less Inv-loop μ-loop
-loop-less c = let t = f6 c .before .loop-test .taken in omega arith
+loop-less c = let t = counted (f6 c) in omega arith
 
 loop-again : tie.Need-loop-again Inv-loop μ-loop
 loop-again c =
@@ -166,18 +182,20 @@ loop-again c =
     let c2 = c3 .before in
     let c1 = c2 .before in
     let d = f6 c in
-    let t = d .before .loop-test .taken in
+    let t = counted d in
     let x = on-x d .winds-of .result in
     let y = on-y d .winds-of2 .result in
     let z = on-z d .winds-of3 .result in
     let inv = l d .loop .inv in (
       omega arith,
-      next d X Greatest (x .greatest) (c1 .alternative .ensures) (inv .1),
-      next d X Least (x .least) (c2 .alternative2 .ensures) (inv .2),
-      next d Y Greatest (y .greatest) (c3 .alternative3 .ensures) (inv .3),
-      next d Y Least (y .least) (c4 .alternative4 .ensures) (inv .4),
-      next d Z Greatest (z .greatest) (c5 .alternative5 .ensures) (inv .5),
-      next d Z Least (z .least) (c .alternative6 .ensures) (inv .6),
+      λ p h. (
+        next d p h X Greatest (x .greatest) (c1 .alternative .ensures) (inv .1 p h .0),
+        next d p h X Least (x .least) (c2 .alternative2 .ensures) (inv .1 p h .1),
+        next d p h Y Greatest (y .greatest) (c3 .alternative3 .ensures) (inv .1 p h .2),
+        next d p h Y Least (y .least) (c4 .alternative4 .ensures) (inv .1 p h .3),
+        next d p h Z Greatest (z .greatest) (c5 .alternative5 .ensures) (inv .1 p h .4),
+        next d p h Z Least (z .least) (c .alternative6 .ensures) (inv .1 p h .5),
+      ),
     )
 
 -- the two cases of an axis, once every face has been gone through
@@ -194,21 +212,26 @@ module _ (c : tie.After-loop Inv-loop μ-loop) where
   abbrev wind : Axis → Side → Wind
   wind axis s = windNumbered (job .winds) (topAt axis s (start .args .ends) .wind)
 
+  abbrev Holds : Axis → Side → Wind → ℕ → List ℕ → Type 0
+  Holds axis s = HoldsFirst axis s (job .building) (profileOf job) (job .faces .entry)
+
   done : (axis : Axis) (s : Side) {w : Wind} {h : List ℕ} → w ≡ wind axis s
-      → HoldsFirst axis s (job .building) w (job .faces .entry) (c .before .loop .i) h
-      → h ≡ alternativesOf axis s (job .building) (wind axis s) (facesOf (job .faces))
+      → Holds axis s w (c .before .loop .i) h
+      → h ≡ alternativesAt axis s job (topAt axis s (start .args .ends))
   done axis s e q =
       let inv = c .before .loop .inv .0 in
       let left = c .loop-test .left in
       let all : c .before .loop .i ≡ job .faces .count = omega arith in
-      q ∙ (λ j. alternativesOf axis s (job .building) (e j) (firstOf noFace (all j) (job .faces .entry)))
+      q
+      ∙ (λ j.
+      alternativesOf axis s (job .building) (profileOf job) (e j) (firstOf noFace (all j) (job .faces .entry)))
 
   -- the two of an axis
   both : (axis : Axis) (u : Blown) {r : Extremes} {h k : List ℕ}
       → r ≡ withAlternatives (topsOn axis (start .args .ends)) (job .faces .count) h k
       → ((s : Side) → blownOn s u ≡ wind axis s)
-      → HoldsFirst axis Greatest (job .building) (u .greatest) (job .faces .entry) (c .before .loop .i) h
-      → HoldsFirst axis Least (job .building) (u .least) (job .faces .entry) (c .before .loop .i) k
+      → Holds axis Greatest (u .greatest) (c .before .loop .i) h
+      → Holds axis Least (u .least) (c .before .loop .i) k
       → r ≡ extremesOf axis job (topsOn axis (start .args .ends))
   both axis u e under high low =
       let up = done axis Greatest (under Greatest) high in
@@ -218,14 +241,14 @@ module _ (c : tie.After-loop Inv-loop μ-loop) where
 returns : tie.Need-returns Inv-loop μ-loop
 returns c =
     let d = c .before .before .before in
-    let inv = d .before .loop .inv in
+    let inv = d .before .loop .inv .1 (profileOf (job d)) (start d .pre .2) in
     let z = z-done d .winds-of3 in
     let y = z-done d .before .winds-of2 in
     let x = z-done d .before .before .winds-of in
     λ j. record {
-      x = both d X (x .result) (c .before .before .extremes .ensures) (x .ensures) (inv .1) (inv .2) j;
-      y = both d Y (y .result) (c .before .extremes2 .ensures) (y .ensures) (inv .3) (inv .4) j;
-      z = both d Z (z .result) (c .extremes3 .ensures) (z .ensures) (inv .5) (inv .6) j;
+      x = both d X (x .result) (c .before .before .extremes .ensures) (x .ensures) (inv .0) (inv .1) j;
+      y = both d Y (y .result) (c .before .extremes2 .ensures) (y .ensures) (inv .2) (inv .3) j;
+      z = both d Z (z .result) (c .extremes3 .ensures) (z .ensures) (inv .4) (inv .5) j;
     }
 
 cast-count : tie.Need-cast-count Inv-loop μ-loop
@@ -236,9 +259,8 @@ cast-count c =
 pub shown-spec : {M : Type 1} → statement M
 shown-spec =
     tie.close
-    (tie.spec Inv-loop μ-loop cast-count winds-on-x winds-on-y winds-on-z loop-holds
-    (λ c. record { fits = omega (arith, room c) }) room asks-1 (λ c. room (f1 c .before)) asks-2
-    (λ c. room (f2 c .before)) asks-3 (λ c. room (f3 c .before)) asks-4 (λ c. room (f4 c .before)) asks-5
-    (λ c. room (f5 c .before)) asks-6 (λ c. room (f6 c .before))
-    (λ c. record { fits = omega (arith, room (f6 c .before)) }) loop-less loop-again (λ c κs. search needs)
+    (tie.spec Inv-loop μ-loop (λ c. search needs) winds-on-x winds-on-y winds-on-z loop-holds
+    (λ c. record { fits = omega (arith, room c) }) room (λ c κs. room (c .before)) asks-1 (λ c. roomy (f1 c)) asks-2
+    (λ c. roomy (f2 c)) asks-3 (λ c. roomy (f3 c)) asks-4 (λ c. roomy (f4 c)) asks-5 (λ c. roomy (f5 c)) asks-6
+    (λ c. roomy (f6 c)) (λ c. record { fits = omega (arith, roomy (f6 c)) }) loop-less loop-again (λ c κs. search needs)
     (λ c κs. search needs) (λ c κs. search needs) returns)

@@ -4,6 +4,7 @@ use mathlib.Core.Path.{_≡_, sym, ap, _∙_, subst}
 use mathlib.Core.Bool.{true, true≢false}
 use borrow.Author.Needs.{needs}
 use Rattle.whole.proofs.Size.{Num, bound}
+use Rattle.worst.specs.Speed.{speedAt}
 use Rattle.worst.specs.Forces.{acts, pressure}
 use Rattle.worst.specs.Engine.{withPressure}
 use Rattle.worst.specs.Small.{OutsideSmall}
@@ -29,9 +30,11 @@ module _ (c : tie.After-pressure-of) where
 
   abbrev pressed : Num
   pressed =
-      read-back (c .pressure-of .result) (pressure (a .args .b .density) (a .args .w) (a .args .f))
-      (c .pressure-of .ensures)
-      (pressure-small (a .args .b .density) (a .args .w) (a .args .f) (a .pre .1 .dense) (a .pre .1 .slow)) tt
+      let met = a .pre .1 in
+      read-back (c .pressure-of .result)
+      (pressure (a .args .b .density) (speedAt (a .args .factor) (a .args .w .speed))) (c .pressure-of .ensures)
+      (pressure-small (a .args .b .density) (a .args .factor) (a .args .w .speed) (met .dense) (a .pre .2)
+      (met .slow .to)) tt
 
 with-pressure-requires : tie.Need-with-pressure-requires
 with-pressure-requires c κs =
@@ -45,7 +48,7 @@ returns c =
     let s = a d .args in (
       c .with-pressure .ensures
           ∙ (λ j. withPressure (s .f) (f .0 j) (pressed d .same j) (s .sums))
-          ∙ face-acts (s .b) (s .w) (s .f) (s .sums) (acting d),
+          ∙ face-acts (s .b) (s .w) (s .factor) (s .f) (s .sums) (acting d),
       f .1,
       f .2,
       record { stands = λ e. f .3 },
@@ -56,8 +59,8 @@ returns-2 c =
     let a = c .before .before in
     let s = a .args in
     let aside = sym (c .before .takes-part .ensures) ∙ c .if1 .left in (
-      face-aside (s .b) (s .w) (s .f) (s .sums) aside,
-      a .pre .2,
+      face-aside (s .b) (s .w) (s .factor) (s .f) (s .sums) aside,
+      a .pre .3,
       λ k h. h,
       record { stands = λ e. absurd (true≢false (sym e ∙ aside)) },
     )

@@ -1,0 +1,110 @@
+// The speed of a wind at a face: the wind's speed × the factor that the profile has at the face's height.
+ghost use mathlib.Core.Path.{_≡_};
+ghost use Prim.Native.Nat.{_+_, _*_, _/_, _<_, _≤_};
+ghost use lib.IntN.{pos, natAbs};
+ghost use lib.Signed.{_≤ℤ_};
+ghost use Rattle.worst.specs.Speed.{factorBetween, factorAt, speedAt};
+ghost use Rattle.worst.specs.Factors.{stepsOf, profileIn, Height, StepSmall, ProfileSmall, Profiled};
+ghost use Rattle.worst.specs.Factors.{Fraction, factorIn, AllOne, FactorsStand};
+use entry::Step;
+use entry::says::has_heights;
+use job::Faces;
+use job::Profile;
+
+// The fraction part / whole.
+pub struct Factor {
+    pub part: i64,
+    pub whole: i64,
+}
+
+// On the straight line from one line of the profile to the next.
+fn factor_between(s: Step, t: Step, height: i64) -> Factor
+    requires { ⌜ StepSmall s × StepSmall t × Height height ⌝ }
+    ensures { λ r. ⌜ r ≡ factorBetween s t height ⌝ }
+{
+    Factor {
+        part: s.factor * (t.height - height) + t.factor * (height - s.height),
+        whole: 1000 * (t.height - s.height),
+    }
+}
+
+// The factor at a height: a walk up the profile.
+fn factor_at(profile: Profile, height: i64) -> Factor
+    requires { ⌜ ProfileSmall profile × Height height ⌝ }
+    ensures { λ r. ⌜ r ≡ factorAt (stepsOf profile) height ⌝ }
+{
+    let count = profile.count as usize;
+    if count == 0 {
+        return Factor { part: 1, whole: 1 };
+    }
+    let mut i = 1;
+    let mut lower = profile.entry[0];
+    while i < count {
+        let upper = profile.entry[i];
+        if height <= upper.height {
+            return factor_between(lower, upper, height);
+        }
+        lower = upper;
+        i += 1;
+    }
+    Factor {
+        part: lower.factor,
+        whole: 1000,
+    }
+}
+
+// The factors of a job's faces, into two arrays that hold 1 / 1 throughout: so they stay in a year without heights.
+pub(crate) fn fill(
+    year: i64,
+    profile: Profile,
+    faces: Faces,
+    parts: &mut [i64; 24],
+    wholes: &mut [i64; 24],
+)
+    requires { ⌜ AllOne (now parts) (now wholes) × Profiled year profile faces ⌝ }
+    ensures { λ r. ⌜ FactorsStand (profileIn year profile) faces (now (parts .exit)) (now (wholes .exit)) ⌝ }
+{
+    if !has_heights(year) {
+        return;
+    }
+    let count = faces.count as usize;
+    let mut i = 0;
+    while i < count {
+        let f = faces.entry[i];
+        let factor = factor_at(profile, f.height);
+        let part = factor.part;
+        let whole = factor.whole;
+        parts[i] = part;
+        wholes[i] = whole;
+        i += 1;
+    }
+}
+
+// The factor at place i of the two arrays.
+pub(crate) fn factor_in(parts: &[i64; 24], wholes: &[i64; 24], i: usize) -> Factor
+    requires { ⌜ i < 24 ⌝ }
+    ensures { λ r. ⌜ r ≡ factorIn (now (parts .entry)) (now (wholes .entry)) i ⌝ }
+{
+    let part = parts[i];
+    let whole = wholes[i];
+    Factor { part, whole }
+}
+
+// speed × part / whole to the nearest whole number, a half going up.
+fn rounded(speed: u64, part: u64, whole: u64) -> u64
+    requires { ⌜ (speed * part < 10000000000000) × (0 < whole) × (whole < 100000000) ⌝ }
+    ensures { λ r. ⌜ r ≡ (2 * (speed * part) + whole) / (2 * whole) ⌝ }
+{
+    (2 * (speed * part) + whole) / (2 * whole)
+}
+
+// A wind's speed at a factor, which leaves it as it is where it is 1.
+pub(crate) fn speed_at(factor: Factor, speed: i64) -> i64
+    requires { ⌜ Fraction factor × (pos 0 ≤ℤ speed) × (natAbs speed ≤ 1000) ⌝ }
+    ensures { λ r. ⌜ r ≡ speedAt factor speed ⌝ }
+{
+    if factor.part == factor.whole {
+        return speed;
+    }
+    rounded(speed as u64, factor.part as u64, factor.whole as u64) as i64
+}
