@@ -166,7 +166,7 @@ at-one-factor : (c : Carried) → InOrder c → OneSpeed c → AtOneFactor c
 at-one-factor c o =
     ⊎-elim
     (λ e.
-    ⊎-elim (λ y. first-year c o (y .profile)) (λ y. absurd (pos-apart (sym e ∙ y .year))) (o .form))
+    ⊎-elim (λ y. first-year c o (y .profile)) (λ y. absurd (omega (arith, ap natAbs (sym e ∙ y .year)))) (o .form))
     (λ s. one-height c o (s .0) (s .1))
 
 -- each wind has its faster one in its own place

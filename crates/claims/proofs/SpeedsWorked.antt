@@ -1,27 +1,49 @@
 -- Both premises on faster winds are needed: in each of two worked pairs of sheets one premise holds, only the speed
 -- rises, and less is shown.
-use mathlib.Core.Path.{_≡_, refl}
+use mathlib.Core.Path.{_≡_, refl, sym, _∙_, subst}
 use mathlib.Core.Bool.{true}
 use mathlib.Core.List.{List, [], _∷_}
 use Prim.Native.Nat.{ℕ}
 use Prim.Native.String.{String, _++_ as _&_}
 use lib.IntN.{ℤ, pos, negℤ}
-use lib.Signed.{leZ-yes, ltZ-yes}
+use lib.Signed.{_≤ℤ_, leZ-yes, ltZ-yes}
+use Rattle.whole.specs.Lists.{Every}
 use Rattle.whole.proofs.Quoted.{bytes}
+use Rattle.whole.specs.Round.{halfUp, roundAway}
+use Rattle.whole.specs.Digits.{allDigits, valueAfter, value}
+use Rattle.whole.specs.Lowest.{divisorUpTo, commonDivisor}
+use Rattle.field.specs.Field.{digitsInForm, unsigned, negative, numeral, fieldFrom}
+use Rattle.lines.specs.Lines.{split, fieldsOf, linesFrom, linesIn}
+use Rattle.book.specs.Line.{wayIn, onStraight}
+use Rattle.book.specs.Walls.{wallRow}
+use Rattle.book.specs.Gable.{blockOf}
+use Rattle.book.specs.Roofs.{roofWay}
+use Rattle.book.specs.Question.{wallColumn, gableColumn, flatColumn, coefficientOf, outsideOf}
+use Rattle.building.specs.Roof.{roofOf}
+use Rattle.building.specs.Building.{givenFault, buildingFault, outOfForm, outOfRange, outOfWalls, outOfRoof}
+use Rattle.building.specs.Places.{zoneOn, localOn}
+use Rattle.building.specs.Question.{askedOf}
+use Rattle.building.specs.Test.{beyond, tooLong}
+use Rattle.rules.specs.Form.{hasForm, inForm}
+use Rattle.rules.specs.Sections.{lineFault}
 use Rattle.building.specs.declared.Building.{Building}
 use Rattle.entry.specs.declared.Step.{Step}
 use Rattle.entry.specs.declared.Face.{Face}
 use Rattle.entry.specs.Says.{both}
 use Rattle.job.specs.Carried.{Carried}
-use Rattle.job.specs.Walk.{Accepted}
+use Rattle.job.specs.Walk.{Accepted, walk, readLines}
 use Rattle.sheet.specs.Sheet.{reading}
 use Rattle.worst.specs.declared.Side.{Side}
 use Rattle.worst.specs.declared.Side.the-variants.{Greatest, Least}
 use Rattle.worst.specs.declared.Axis.{Axis}
 use Rattle.worst.specs.declared.Axis.the-variants.{X}
-use Rattle.worst.specs.Best.{short, NoFurther}
+use Rattle.worst.specs.Best.{short, NoFurther, better, best}
+use Rattle.worst.specs.Cases.{numbers, each, choices, total, cases, caseTotal, worst}
+use Rattle.worst.specs.Speed.{factorAt, speedAt}
+use Rattle.worst.specs.Shown.{padded, shown}
 use Rattle.worst.specs.Worst.{extreme}
 use Rattle.claims.specs.Shown.{Faster, OneHeight, SomeSpeed}
+use Rattle.claims.proofs.Printed.{_and_}
 
 -- a pair of accepted sheets of which the second has a faster wind and shows less on its side of zero
 pub record ShowsLess (axis : Axis) (side : Side) (sheet sheet′ : String) (c d : Carried) : Type 0 where
@@ -72,12 +94,72 @@ two = job (step 0 774 ∷ step 10 580 ∷ []) (face 68 0 (negℤ (pos 1)) ∷ fa
 abbrev pub twoSheet : String → String
 twoSheet speed = before & speed & "\nI 1\n0\nP 2\n0 774\n10 580\nF 2\nD - 0 -1 0 0\nB - 9 2 0 0\n"
 
+-- ---- what is shown on x, computed over every case
+
+pub record Row : Type 0 where
+  pub sheet : String
+  pub carries : Carried
+  pub side : Side
+  pub shows : ℤ
+
+abbrev Holds : Row → Type 0
+Holds r =
+    (reading (bytes (r .sheet)) ≡ Accepted (r .carries)) × (extreme X (r .side) (r .carries) .total ≡ r .shows)
+
+abbrev rows : List Row
+rows =
+    record { sheet = lowSheet "1"; carries = low 1; side = Least; shows = pos 0 }
+    ∷ record { sheet = lowSheet "6"; carries = low 6; side = Least; shows = pos 15000000 }
+    ∷ record { sheet = twoSheet "2"; carries = two 2; side = Greatest; shows = pos 2000000 }
+    ∷ record { sheet = twoSheet "3"; carries = two 3; side = Greatest; shows = pos 500000 }
+    ∷ []
+
+pub rows-hold : Every Holds rows
+unfolding divisorUpTo commonDivisor halfUp roundAway allDigits valueAfter value digitsInForm unsigned negative numeral
+    fieldFrom split fieldsOf linesFrom linesIn wayIn onStraight wallRow blockOf outOfRoof roofOf roofWay givenFault
+    buildingFault outOfForm outOfRange outOfWalls tooLong zoneOn localOn wallColumn gableColumn flatColumn
+    coefficientOf outsideOf askedOf beyond hasForm inForm lineFault walk readLines reading better best numbers each
+    choices total cases caseTotal worst padded shown factorAt speedAt
+rows-hold = (refl, refl) and (refl, refl) and (refl, refl) and (refl, refl) and tt
+
+-- every face's speed is above 0 at speed 2
+two-speeds : SomeSpeed (two 2)
+unfolding factorAt speedAt halfUp
+two-speeds = (ltZ-yes tt and ltZ-yes tt and tt) and tt
+
 -- ---- one premise each, and less is shown
 
--- all faces at one height: the least on x is 0 at speed 1 and 15000000 at speed 6
-pub speeds-needed : ShowsLess X Least (lowSheet "1") (lowSheet "6") (low 1) (low 6) × OneHeight (low 1)
-speeds-needed = ?
+-- from one speed to another that is no lower
+only-speed : (profile : List Step) (faces : List Face) (v w : ℕ) → pos v ≤ℤ pos w
+    → Faster (job profile faces v) (job profile faces w)
+only-speed profile faces v w h =
+    record { building = refl; profile = refl; faces = refl; internals = refl; winds = (refl, h, tt) }
 
--- all face speeds above 0: the greatest on x is 2000000 at speed 2 and 500000 at speed 3
+shows-less : (side : Side) {sheet sheet′ : String} {c d : Carried} {u v : ℤ}
+    → (reading (bytes sheet) ≡ Accepted c) × (extreme X side c .total ≡ u)
+    → (reading (bytes sheet′) ≡ Accepted d) × (extreme X side d .total ≡ v)
+    → Faster c d → NoFurther side (pos 0) u → short side v u ≡ true → ShowsLess X side sheet sheet′ c d
+shows-less side r q faster out less =
+    record {
+      accepted = r .0;
+      accepted′ = q .0;
+      faster = faster;
+      beyond-zero = subst (NoFurther side (pos 0)) (sym (r .1)) out;
+      less = (λ j. short side (q .1 j) (r .1 j)) ∙ less;
+    }
+
+-- all faces at one height: the least on x is 0 at speed 1 and rises to 15000000 at speed 6
+pub speeds-needed : ShowsLess X Least (lowSheet "1") (lowSheet "6") (low 1) (low 6) × OneHeight (low 1)
+speeds-needed =
+    let r = rows-hold in (
+      shows-less Least (r .0) (r .1 .0) (only-speed _ _ 1 6 (leZ-yes tt)) (leZ-yes tt) refl,
+      (pos 0, refl and refl and tt),
+    )
+
+-- all face speeds above 0: the greatest on x is 2000000 at speed 2 and falls to 500000 at speed 3
 pub heights-needed : ShowsLess X Greatest (twoSheet "2") (twoSheet "3") (two 2) (two 3) × SomeSpeed (two 2)
-heights-needed = ?
+heights-needed =
+    let r = rows-hold .1 .1 in (
+      shows-less Greatest (r .0) (r .1 .0) (only-speed _ _ 2 3 (leZ-yes tt)) (leZ-yes tt) refl,
+      two-speeds,
+    )

@@ -71,7 +71,8 @@ pub(crate) fn fill(
     let mut i = 0;
     while i < count {
         let f = faces.entry[i];
-        let factor = factor_at(profile, f.height);
+        let height = f.height;
+        let factor = factor_at(profile, height);
         let part = factor.part;
         let whole = factor.whole;
         parts[i] = part;
