@@ -182,7 +182,7 @@ module _ (j : Job) (o : InOrder (carried j)) where
   later h =
       ⊎-elim (λ y. absurd (true≢false (sym h ∙ ap hasHeights (y .year)))) (λ y. y) (o .form)
 
-  profiled : Profiled (j .year) (j .profile) (j .faces)
+  profiled : Profiled j
   unfolding carried
   profiled =
       record {

@@ -22,12 +22,9 @@ use Rattle.worst.specs.Forces.{factorOf}
 abbrev pub stepsOf : Profile → List Step
 stepsOf p = firstOf noStep (p .count) (p .entry)
 
--- which counts where faces have heights
-abbrev pub profileIn : ℤ → Profile → List Step
-profileIn year p = cond (hasHeights year) (stepsOf p) []
-
+-- that of a job counts where faces have heights
 abbrev pub profileOf : Job → List Step
-profileOf j = profileIn (j .year) (j .profile)
+profileOf j = cond (hasHeights (j .year)) (stepsOf (j .profile)) []
 
 abbrev pub Height : ℤ → Type 0
 Height h = natAbs h ≤ 30000
@@ -41,10 +38,11 @@ pub record ProfileSmall (p : Profile) : Type 0 where
   pub each : (i : ℕ) → i < p .count → StepSmall (getD (p .entry) i noStep)
 
 -- where faces have heights, they and the profile are small
-pub record Profiled (year : ℤ) (p : Profile) (fs : Faces) : Type 0 where
-  pub few : fs .count ≤ 24
-  pub profile : hasHeights year ≡ true → ProfileSmall p
-  pub heights : hasHeights year ≡ true → (i : ℕ) → i < fs .count → Height (getD (fs .entry) i noFace .height)
+pub record Profiled (j : Job) : Type 0 where
+  pub few : j .faces .count ≤ 24
+  pub profile : hasHeights (j .year) ≡ true → ProfileSmall (j .profile)
+  pub heights : hasHeights (j .year) ≡ true → (i : ℕ) → i < j .faces .count
+      → Height (getD (j .faces .entry) i noFace .height)
 
 -- ---- the factors
 

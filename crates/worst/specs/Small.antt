@@ -76,7 +76,7 @@ pub record Ready (j : Job) : Type 0 where
   pub met : (k : ℕ) → k < j .winds .count → AllMet (j .building) (j .faces) (getD (j .winds .entry) k noWind)
   pub someInternal : 0 < j .internals .count
   pub internals : LowInternals (j .internals)
-  pub profiled : Profiled (j .year) (j .profile) (j .faces)
+  pub profiled : Profiled j
   pub factors : (i : ℕ) → i < j .faces .count → Fraction (factorOf (profileOf j) (getD (j .faces .entry) i noFace))
 
 -- the wind of a cell is one of the job's

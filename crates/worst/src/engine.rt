@@ -20,12 +20,11 @@ pub(crate) fn six_of(job: Job) -> Six
     let b = job.building;
     let winds = job.winds;
     let internals = job.internals;
-    let profile = job.profile;
     let faces = job.faces;
     let count = winds.count as usize;
     let mut parts = [1i64; 24];
     let mut wholes = [1i64; 24];
-    fill(job.year, profile, faces, &mut parts, &mut wholes);
+    fill(job, &mut parts, &mut wholes);
     let mut asked = [false; 16];
     let mut first = [0i64; 16];
     let mut last = [0i64; 16];

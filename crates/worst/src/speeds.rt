@@ -4,11 +4,11 @@ ghost use Prim.Native.Nat.{_+_, _*_, _/_, _<_, _≤_};
 ghost use lib.IntN.{pos, natAbs};
 ghost use lib.Signed.{_≤ℤ_};
 ghost use Rattle.worst.specs.Speed.{factorBetween, factorAt, speedAt};
-ghost use Rattle.worst.specs.Factors.{stepsOf, profileIn, Height, StepSmall, ProfileSmall, Profiled};
+ghost use Rattle.worst.specs.Factors.{stepsOf, profileOf, Height, StepSmall, ProfileSmall, Profiled};
 ghost use Rattle.worst.specs.Factors.{Fraction, factorIn, AllOne, FactorsStand};
 use entry::Step;
 use entry::says::has_heights;
-use job::Faces;
+use job::Job;
 use job::Profile;
 
 // The fraction part / whole.
@@ -54,19 +54,15 @@ fn factor_at(profile: Profile, height: i64) -> Factor
 }
 
 // The factors of a job's faces, into two arrays that hold 1 / 1 throughout: so they stay in a year without heights.
-pub(crate) fn fill(
-    year: i64,
-    profile: Profile,
-    faces: Faces,
-    parts: &mut [i64; 24],
-    wholes: &mut [i64; 24],
-)
-    requires { ⌜ AllOne (now parts) (now wholes) × Profiled year profile faces ⌝ }
-    ensures { λ r. ⌜ FactorsStand (profileIn year profile) faces (now (parts .exit)) (now (wholes .exit)) ⌝ }
+pub(crate) fn fill(job: Job, parts: &mut [i64; 24], wholes: &mut [i64; 24])
+    requires { ⌜ AllOne (now parts) (now wholes) × Profiled job ⌝ }
+    ensures { λ r. ⌜ FactorsStand (profileOf job) (job .faces) (now (parts .exit)) (now (wholes .exit)) ⌝ }
 {
-    if !has_heights(year) {
+    if !has_heights(job.year) {
         return;
     }
+    let profile = job.profile;
+    let faces = job.faces;
     let count = faces.count as usize;
     let mut i = 0;
     while i < count {

@@ -7,9 +7,6 @@ use native.Mathlib.Omega.{arith}
 use borrow.Author.Needs.{needs}
 use lib.IntN.{ℤ}
 use lib.ListN.{getD}
-use mir.Syntax.{w64}
-use mir.Val.{SFits}
-use mir.ValLaws.{toZ-ofZ}
 use Rattle.entry.specs.declared.Wind.{Wind}
 use Rattle.job.specs.declared.Job.{Job}
 use Rattle.job.specs.Carried.{carried, noWind}
@@ -22,7 +19,7 @@ use Rattle.worst.specs.Quick.{over}
 use Rattle.worst.specs.Table.{Filled}
 use Rattle.worst.specs.Engine.{axesUnder, sumsOn, topOf, topAt, windNumbered, cellsBest, windBest}
 use Rattle.worst.specs.Engine.{bestUpTo}
-use Rattle.worst.specs.Factors.{profileIn, profileOf, Profiled, Fraction, FactorsStand, Fractions}
+use Rattle.worst.specs.Factors.{profileOf, Fraction, FactorsStand, Fractions}
 use Rattle.worst.specs.Small.{AllMet, Ready, StandForAll}
 use Rattle.worst.proofs.Lists.{below-next, at-number}
 use Rattle.worst.proofs.Better.{over-next}
@@ -55,32 +52,25 @@ loop-holds c =
 
 -- the factors of the faces, once they are found
 abbrev from-fill : tie.After-fill Inv-loop μ-loop → tie.Start Inv-loop μ-loop
-from-fill f = f .before .before .before .before .before .before .before .before .before
+from-fill f = f .before .before .before .before .before .before .before
 
 fill-requires : tie.Need-fill-requires Inv-loop μ-loop
 fill-requires c κs =
-    let a = c .before .before .before .before .before .before .before .before in
-    let j = a .args .job in
-    let fits : SFits w64 (j .year) = search needs in (
-      (refl, refl),
-      subst (λ y. Profiled y (j .profile) (j .faces)) (sym (toZ-ofZ w64 (j .year) fits)) (job-ready j (a .pre) .profiled),
-    )
+    let a = c .before .before .before .before .before .before in
+    ((refl, refl), job-ready (a .args .job) (a .pre) .profiled)
 
 module _ (f : tie.After-fill Inv-loop μ-loop) where
   abbrev j : Job
   j = from-fill f .args .job
 
   abbrev parts : List ℤ
-  parts = f .fill .last .1 .1 .1 .0
+  parts = f .fill .last .1 .0
 
   abbrev wholes : List ℤ
-  wholes = f .fill .last .1 .1 .1 .1 .0
+  wholes = f .fill .last .1 .1 .0
 
   stand : FactorsStand (profileOf j) (j .faces) parts wholes
-  stand =
-      let fits : SFits w64 (j .year) = search needs in
-      subst (λ y. FactorsStand (profileIn y (j .profile)) (j .faces) parts wholes) (toZ-ofZ w64 (j .year) fits)
-      (f .fill .ensures)
+  stand = f .fill .ensures
 
   fractions : Fractions (j .faces) parts wholes
   fractions i t = subst Fraction (sym (stand i t)) (job-ready j (from-fill f .pre) .factors i t)

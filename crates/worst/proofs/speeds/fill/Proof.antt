@@ -27,39 +27,42 @@ use Rattle.worst.proofs.speeds.fill.Statement.{statement}
 use Rattle.worst.proofs.speeds.fill.Tie as tie
 
 abbrev Inv-loop : tie.InvT-loop
-Inv-loop year profile parts₀ wholes₀ faces count i₀ parts wholes i =
+Inv-loop parts₀ wholes₀ profile faces count i₀ parts wholes i =
     (i ≤ count) × FirstStand (stepsOf profile) (faces .entry) i parts wholes
 
 abbrev μ-loop : tie.MeasureT-loop
-μ-loop year profile parts₀ wholes₀ faces count i₀ parts wholes i = count - i
+μ-loop parts₀ wholes₀ profile faces count i₀ parts wholes i = count - i
 
 -- whether there are heights
-known : (c : tie.After-has-heights Inv-loop μ-loop) → c .has-heights .result ≡ hasHeights (c .before .args .year)
-known c = c .has-heights .ensures ∙ ap hasHeights (toZ-ofZ w64 _ (c .before .fits .year))
+known : (c : tie.After-has-heights Inv-loop μ-loop)
+    → c .has-heights .result ≡ hasHeights (c .before .before .args .job .year)
+known c =
+    let fits : SFits w64 (c .before .before .args .job .year) = search needs in
+    c .has-heights .ensures ∙ ap hasHeights (toZ-ofZ w64 _ fits)
 
-has : (c : tie.Else1 Inv-loop μ-loop) → hasHeights (c .before .before .args .year) ≡ true
+has : (c : tie.Else1 Inv-loop μ-loop) → hasHeights (c .before .before .before .args .job .year) ≡ true
 has c = sym (known (c .before)) ∙ not-false _ (c .if1 .left)
 
 returns : tie.Need-returns Inv-loop μ-loop
 returns c =
     let h = c .before in
-    let a = h .before in
+    let a = h .before .before in
     rw (sym (known h) ∙ not-true _ (c .if1 .taken))
-    (ones-stand (a .args .t3) _ _ (a .pre .0) (omega (arith, a .pre .1 .few)))
+    (ones-stand (a .args .job .faces) _ _ (a .pre .0) (omega (arith, a .pre .1 .few)))
 
 loop-holds : tie.Need-loop-holds Inv-loop μ-loop
-loop-holds c = (search needs, none-stand _ _ _ _ (c .before .before .pre .0))
+loop-holds c = (search needs, none-stand _ _ _ _ (c .before .before .before .before .before .pre .0))
 
 abbrev steps : tie.Start Inv-loop μ-loop → List Step
-steps a = stepsOf (a .args .profile)
+steps a = stepsOf (a .args .job .profile)
 
 -- face i
 module _ (d : tie.In-loop Inv-loop μ-loop) where
   abbrev a : tie.Start Inv-loop μ-loop
-  a = d .before .before .before .before
+  a = d .before .before .before .before .before .before .before
 
-  heights : hasHeights (a .args .year) ≡ true
-  heights = has (d .before .before)
+  heights : hasHeights (a .args .job .year) ≡ true
+  heights = has (d .before .before .before .before)
 
   abbrev i : ℕ
   i = d .before .loop .i
@@ -68,7 +71,7 @@ module _ (d : tie.In-loop Inv-loop μ-loop) where
   room = let t = d .loop-test .taken in omega (arith, a .pre .1 .few)
 
   abbrev face : Face
-  face = getD (a .args .t3 .entry) i noFace
+  face = getD (a .args .job .faces .entry) i noFace
 
   low : Height (face .height)
   low = a .pre .1 .heights heights i (d .loop-test .taken)
@@ -76,11 +79,11 @@ module _ (d : tie.In-loop Inv-loop μ-loop) where
   height : toZ w64 (ofZ w64 (face .height)) ≡ face .height
   height = back w64 (num≤ (face .height) low) tt .same
 
-abbrev asked : tie.After-struct-told Inv-loop μ-loop → tie.In-loop Inv-loop μ-loop
+abbrev asked : tie.After-struct-told2 Inv-loop μ-loop → tie.In-loop Inv-loop μ-loop
 asked c = c .before .before
 
 -- its factor, read back
-module _ (c : tie.After-struct-told3 Inv-loop μ-loop) where
+module _ (c : tie.After-struct-told4 Inv-loop μ-loop) where
   abbrev k : tie.After-factor-at Inv-loop μ-loop
   k = c .before .before
 
@@ -107,13 +110,13 @@ loop-again : tie.Need-loop-again Inv-loop μ-loop
 loop-again c =
     let t = d c .loop-test .taken in (
       omega arith,
-      next-stands (steps (a (d c))) (a (d c) .args .t3 .entry) (i (d c)) _ _ (read c) (d c .before .loop .inv .1)
+      next-stands (steps (a (d c))) (a (d c) .args .job .faces .entry) (i (d c)) _ _ (read c) (d c .before .loop .inv .1)
           (room (d c)) (read-is c ∙ found c),
     )
 
 returns-2 : tie.Need-returns-2 Inv-loop μ-loop
 returns-2 c =
-    let e = c .before .before in
+    let e = c .before .before .before .before in
     let inv = c .before .loop .inv in
     rw (has e)
     (λ m t. inv .1 .stand m (omega (arith, c .loop-test .left)))
