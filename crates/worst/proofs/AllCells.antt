@@ -1,7 +1,7 @@
 -- The best cell that the engine finds is the worst of all cases of the job.
-use mathlib.Core.Path.{_≡_, refl, sym, ap, ap₂, _∙_}
-use mathlib.Core.Bool.{Bool, true}
-use mathlib.Core.List.{List, [], _∷_, map, List·Memᴰ}
+use mathlib.Core.Path.{_≡_, refl, sym, ap, _∙_}
+use mathlib.Core.Bool.{true}
+use mathlib.Core.List.{List, map, List·Memᴰ}
 use Prim.Native.Nat.{ℕ, _-_, _<_}
 use native.Mathlib.Omega.{arith}
 use lib.IntN.{ℤ, pos, _-ℤ_, _*ℤ_}
@@ -54,48 +54,6 @@ cell-total Y Greatest b p w fs i = refl
 cell-total Y Least b p w fs i = refl
 cell-total Z Greatest b p w fs i = refl
 cell-total Z Least b p w fs i = refl
-
--- ---- a height that is not carried weighs nothing
-
-module _ {A : Type 0} (value : Face → A) (h : Bool) (same : (f : Face) → value (carriedFace h f) ≡ value f) where
-  map-aside : (l : List Face) → map value (map (carriedFace h) l) ≡ map value l
-  map-aside [] = refl
-  map-aside (f ∷ l) = ap₂ _∷_ (same f) (map-aside l)
-
-sum-aside : (value : Face → ℤ) (h : Bool) → ((f : Face) → value (carriedFace h f) ≡ value f) → (l : List Face)
-    → sum value (map (carriedFace h) l) ≡ sum value l
-unfolding sum
-sum-aside value h same [] = refl
-sum-aside value h same (f ∷ l) = ap₂ _+ℤ_ (same f) (sum-aside value h same l)
-
-weight-aside : (axis : Axis) (b : Building) (w : Wind) (h : Bool) (f : Face)
-    → weight axis b w (carriedFace h f) ≡ weight axis b w f
-weight-aside X b w h f = refl
-weight-aside Y b w h f = refl
-weight-aside Z b w h f = refl
-
-module _ (b : Building) (w : Wind) (h : Bool) (l : List Face) where
-  reach-aside : (s : Side) (axis : Axis) → sum (reachOf s axis b w) (map (carriedFace h) l) ≡ sum (reachOf s axis b w) l
-  reach-aside s axis =
-      sum-aside (reachOf s axis b w) h
-      (λ f. ap (reach s (outsideAt b (w .direction) (f .zone))) (weight-aside axis b w h f)) l
-
-  picks-aside : (s : Side) (axis : Axis)
-      → map (pickOf s axis b w) (map (carriedFace h) l) ≡ map (pickOf s axis b w) l
-  picks-aside s axis =
-      map-aside (pickOf s axis b w) h
-      (λ f. ap (pick s (outsideAt b (w .direction) (f .zone))) (weight-aside axis b w h f)) l
-
-  sums-aside : (axis : Axis) → sumsOf axis b w (map (carriedFace h) l) ≡ sumsOf axis b w l
-  sums-aside axis =
-      λ k. record {
-        greatest = reach-aside Greatest axis k;
-        least = reach-aside Least axis k;
-        weight = sum-aside (weight axis b w) h (weight-aside axis b w h) l k;
-      }
-
-  axes-aside : axesOf b w (map (carriedFace h) l) ≡ axesOf b w l
-  axes-aside = λ k. record { x = sums-aside X k; y = sums-aside Y k; z = sums-aside Z k }
 
 module _ (j : Job) (axis : Axis) (s : Side) where
   abbrev g : Given
@@ -202,10 +160,6 @@ module _ (j : Job) (axis : Axis) (s : Side) where
       ∙ over-same-in s _ _ (numbers (length (g .winds)) 1) wind-cells
       ∙ sym (tagged-over s caseAt _ (numbers (length (g .winds)) 1))
       ∙ (λ k. tagged caseAt (allCells (winds k) (internals k)))
-      ∙ (λ k. tagged caseAt
-      (over s (λ w. cellsBest s (sumsOn axis
-      (axes-aside (j .building) (windNumbered (j .winds) w) (hasHeights (j .year)) (facesOf (j .faces)) k))
-      (j .internals) w) (numbers (j .winds .count) 1)))
 
   -- ---- as it is shown
 

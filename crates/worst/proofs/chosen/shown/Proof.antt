@@ -251,11 +251,6 @@ returns c =
       z = both d Z (z .result) (c .extremes3 .ensures) (z .ensures) (inv .4) (inv .5) j;
     }
 
-cast-count : tie.Need-cast-count Inv-loop μ-loop
-cast-count c =
-    let ready = c .before .before .before .pre .0 in
-    record { fits = omega (arith, ready .met 0 (ready .someWind) .few) }
-
 pub shown-spec : {M : Type 1} → statement M
 shown-spec =
     tie.close
