@@ -4,10 +4,12 @@ use book::Cited;
 use book::Values;
 use building::Building;
 use entry::Face;
+use entry::Step;
 use entry::Wind;
 use job::Faces;
 use job::Internals;
 use job::Job;
+use job::Profile;
 use job::Winds;
 use page::Writing;
 use verdict::Verdict;
@@ -153,6 +155,7 @@ fn record(winds: u32, faces: u32, zone: u8, mark: i64) -> Job {
     let face = Face {
         zone,
         mark,
+        height: 0,
         x: 1000,
         y: 0,
         z: 0,
@@ -165,14 +168,24 @@ fn record(winds: u32, faces: u32, zone: u8, mark: i64) -> Job {
         count: 1,
         entry: [20; 4],
     };
+    let step = Step {
+        height: 0,
+        factor: 1000,
+    };
+    let p = Profile {
+        count: 0,
+        entry: [step; 16],
+    };
     let f = Faces {
         count: faces,
         entry: [face; 24],
     };
     Job {
+        year: 1,
         building: building(2000, 0, 0),
         winds: w,
         internals: i,
+        profile: p,
         faces: f,
     }
 }

@@ -12,29 +12,29 @@ use Rattle.job.specs.declared.Job.{Job}
 use Rattle.job.specs.Carried.{Carried, nothing, carried}
 use Rattle.job.specs.Lines.{linesOf}
 use Rattle.job.specs.FirstFault.{Answers, in-order, faulty}
-use Rattle.job.specs.Walk.{Reading, Accepted, Refused, sheet, readLines, judged}
+use Rattle.job.specs.Walk.{Reading, Accepted, Refused, opening, sheet, readLines, judged}
 use Rattle.job.proofs.FirstFault.{lines-answer, first-unique}
 use Rattle.job.proofs.RoundTrip.{accepted-lines, judged-carried}
 use Rattle.sheet.specs.Sheet.{reading}
 use Rattle.claims.specs.Fault.{Faulty, at, Faultless}
 
 pub faulty-unique : (xs : List (List Field)) {v w : Verdict} → Faulty xs v → Faulty xs w → v ≡ w
-faulty-unique xs (at f) (at g) = let u = first-unique sheet nothing xs f g in rw (u .0, u .1)
+faulty-unique xs (at f) (at g) = let u = first-unique (sheet (opening xs)) nothing xs f g in rw (u .0, u .1)
 
 module _ (xs : List (List Field)) where
-  faulty-answer : (r : Reading) → Answers sheet nothing xs 1 r → {v : Verdict} → Faulty xs v → r ≡ Refused v
+  faulty-answer : (r : Reading) → Answers (sheet (opening xs)) nothing xs 1 r → {v : Verdict} → Faulty xs v → r ≡ Refused v
   faulty-answer r (in-order d none) (at {n} {i} f) = absurd (none i n (f .some) (f .has))
-  faulty-answer r (faulty m h g) (at f) = let u = first-unique sheet nothing xs g f in rw (u .0, u .1)
+  faulty-answer r (faulty m h g) (at f) = let u = first-unique (sheet (opening xs)) nothing xs g f in rw (u .0, u .1)
 
-  faultless-answer : (r : Reading) → Answers sheet nothing xs 1 r → Faultless xs → (c : Carried) × (r ≡ Accepted c)
+  faultless-answer : (r : Reading) → Answers (sheet (opening xs)) nothing xs 1 r → Faultless xs → (c : Carried) × (r ≡ Accepted c)
   faultless-answer r (in-order d none) f = (d, refl)
   faultless-answer r (faulty n i g) f = absurd (f i n (g .some) (g .has))
 
-  accepted-answer : (r : Reading) → Answers sheet nothing xs 1 r → (c : Carried) → r ≡ Accepted c → Faultless xs
+  accepted-answer : (r : Reading) → Answers (sheet (opening xs)) nothing xs 1 r → (c : Carried) → r ≡ Accepted c → Faultless xs
   accepted-answer r (in-order d none) c e = none
   accepted-answer r (faulty n i g) c e = let z : _≡_ {A = ℕ} 0 1 = cc in absurd (omega arith)
 
-  either : (r : Reading) → Answers sheet nothing xs 1 r → Faultless xs ⊎ ((v : Verdict) × Faulty xs v)
+  either : (r : Reading) → Answers (sheet (opening xs)) nothing xs 1 r → Faultless xs ⊎ ((v : Verdict) × Faulty xs v)
   either r (in-order d none) = inl none
   either r (faulty n i f) = inr (_, at f)
 

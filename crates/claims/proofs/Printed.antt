@@ -52,7 +52,7 @@ alone density speed net area =
     force X
     (record { density = pos density; outside = λ direction zone. net ∷ []; winds = []; internals = []; faces = [] })
     (record { direction = pos 0; speed = pos speed }) (pos 0)
-    (record { zone = 65; mark = both; x = area; y = pos 0; z = pos 0 }) 1
+    (record { zone = 65; mark = both; height = pos 0; x = area; y = pos 0; z = pos 0 }) 1
 
 abbrev pub Holds : Row → Type 0
 Holds (gives g direction place values lower upper part whole) = (outsideOf g (pos direction) place

@@ -7,16 +7,16 @@ use Rattle.verdict.specs.declared.Verdict.{Verdict}
 use Rattle.verdict.specs.Verdict.{refusal}
 use Rattle.field.specs.declared.Field.{Field}
 use Rattle.job.specs.Carried.{nothing}
-use Rattle.job.specs.Walk.{sheet}
+use Rattle.job.specs.Walk.{opening, sheet}
 use Rattle.job.specs.FirstFault.{FirstFault, NoFault}
 use Rattle.claims.specs.Contract.{Always}
 
 -- the line is that of the first faulty line, counted from 1, and the number the lowest of its faults
 pub data Faulty (xs : List (List Field)) : Verdict → Type 0 where
-  at : {n i : ℕ} → FirstFault sheet nothing xs n i → Faulty xs (refusal n (1 + i))
+  at : {n i : ℕ} → FirstFault (sheet (opening xs)) nothing xs n i → Faulty xs (refusal n (1 + i))
 
 abbrev pub Faultless : List (List Field) → Type 0
-Faultless xs = NoFault sheet nothing xs
+Faultless xs = NoFault (sheet (opening xs)) nothing xs
 
 module _ {L : Type 0} {A R S : L → Type 0} (Post : (κ : L) → A κ → R κ → S κ → Type 0)
     (lines : (κ : L) → A κ → List (List Field)) where
