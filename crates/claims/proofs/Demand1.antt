@@ -16,7 +16,7 @@ use Rattle.lines.specs.Lines.{linesIn}
 use Rattle.page.specs.declared.Writing.the-variants as written
 use Rattle.page.specs.Writing.{writing}
 use Rattle.job.specs.declared.Job.{Job}
-use Rattle.job.specs.Carried.{Carried, nothing, carried, recorded}
+use Rattle.job.specs.Carried.{Carried, nothing, carried, noJob}
 use Rattle.job.specs.Lines.{linesOf}
 use Rattle.job.specs.Walk.{Accepted, verdict, judged}
 use Rattle.sheet.specs.Sheet.{reading, answer, sheetText, jobWriting}
@@ -39,7 +39,7 @@ use Rattle.claims.proofs.Fault as fault
 pub record BadGetsFirstFault : Type 0 where
   -- a sheet
   pub read-sheet : GetsFault of.read-sheet.Post (λ κ a. linesIn (now (a .0)))
-      (λ κ a v. record { verdict = v; job = recorded nothing })
+      (λ κ a v. record { verdict = v; job = noJob })
   pub write-totals : GetsFault of.write-totals.Post (λ κ a. linesIn (now (a .0)))
       (λ κ a v. writing (refusedText v) (now (a .1 .0)))
   pub aral-read : GetsFault of.aral-read.Post (λ κ a. linesIn (now (a .0))) (λ κ a v. v)
