@@ -46,6 +46,16 @@ wind line = "B 1\n500 1200 1000 1250 2 0\nW 1\n" & line & "\nI 1\n0\nF 1\nA 0 1 
 abbrev face : String → String
 face line = "B 1\n500 1200 1000 1250 2 0\nW 1\n0 400\nI 1\n0\nF 1\n" & line & "\n"
 
+-- a sheet of year 2: up to its profile, around the lines of its profile, and around one face line
+abbrev tall : String → String
+tall year = "V 1\n" & year & "\nB 1\n500 1200 1000 1250 2 0\nW 1\n0 400\nI 1\n0\n"
+
+abbrev profile : String → String
+profile lines = tall "2" & lines & "F 1\nA 0 600 1 0 0\n"
+
+abbrev high : String → String
+high line = tall "2" & "P 2\n100 800\n1200 1000\nF 1\n" & line & "\n"
+
 -- the longest sheet
 abbrev times : ℕ → String → String
 times zero s = ""
@@ -53,14 +63,16 @@ times (suc n) s = s & times n s
 
 abbrev longest : String
 longest =
-    "B 1\n30000 30000 10000 1000 4 6000\nW 8\n"
+    "V 1\n2\nB 1\n30000 30000 10000 1000 4 6000\nW 8\n"
     & times 8 "90 1000\n"
     & "I 4\n"
     & times 4 "-100\n"
+    & "P 16\n10000 1000\n10001 1000\n10002 1000\n10003 1000\n10004 1000\n10005 1000\n10006 1000\n10007 1000\n"
+    & "10008 1000\n10009 1000\n10010 1000\n10011 1000\n10012 1000\n10013 1000\n10014 1000\n30000 1000\n"
     & "F 24\n"
-    & times 24 "A 90 -100000 -100000 -100000\n"
+    & times 24 "A 90 30000 -100000 -100000 -100000\n"
 
-longest-is : length (bytes longest) ≡ 827
+longest-is : length (bytes longest) ≡ 1158
 longest-is = refl
 
 abbrev cases : List Case
@@ -123,6 +135,37 @@ cases =
     ∷ case (face "G 45 1 0 0") 3 8
     ∷ case (face "G 0 1 0 -100001") 3 8
     ∷ case (face "F 0 1 0 -100000") 0 0
+    -- a sheet that opens with the letter V is of a later year
+    ∷ case "V\n" 1 1
+    ∷ case "VX 1\n" 1 1
+    ∷ case "V 2\n" 2 1
+    ∷ case "V 1\n" 1 2
+    ∷ case (tall "1") 3 2
+    ∷ case (tall "0") 3 2
+    ∷ case (tall "3") 3 2
+    ∷ case (tall "2 2") 1 2
+    -- it has a profile, whose heights rise
+    ∷ case (tall "2" & "F 1\nA 0 600 1 0 0\n") 1 9
+    ∷ case (profile "P 0\n") 2 9
+    ∷ case (profile "P 17\n") 2 9
+    ∷ case (profile "P 1\n600 500\n") 0 0
+    ∷ case (profile "P 1\n600 0\n") 3 10
+    ∷ case (profile "P 1\n600 1001\n") 3 10
+    ∷ case (profile "P 1\n30001 500\n") 3 10
+    ∷ case (profile "P 1\n-1 500\n") 3 10
+    ∷ case (profile "P 2\n0 500\n600 500\n") 0 0
+    ∷ case (profile "P 2\n600 500\n600 500\n") 3 11
+    ∷ case (profile "P 2\n600 500\n599 500\n") 3 11
+    -- and a height on each face line, within the profile: 1, then 3, then 6, then 8
+    ∷ case (high "A 0 100 1 0 0") 0 0
+    ∷ case (high "A 0 1200 1 0 0") 0 0
+    ∷ case (high "A 0 1 0 0") 1 13
+    ∷ case (high "A 0 99 1 0 0") 8 13
+    ∷ case (high "A 0 1201 1 0 0") 8 13
+    ∷ case (high "G 0 1201 1 0 0") 6 13
+    ∷ case (high "G 0 30001 1 0 0") 3 13
+    ∷ case (high "A 0 -1 1 0 0") 3 13
+    ∷ case (high "I 0 30001 1 0 0") 1 13
     ∷ []
 
 cases-right : map (λ c. verdict (reading (bytes (c .text)))) cases ≡ map
