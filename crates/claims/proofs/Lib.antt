@@ -11,6 +11,7 @@ pub mod Item12
 pub mod Printed
 pub mod RowsWorked
 pub mod Sample
+pub mod SpeedsWorked
 -- ---- the lists, with a line for each public function
 pub mod Contracts
 pub mod NothingAsked

@@ -157,9 +157,11 @@ one-height c o h speeds =
     record {
       one = record { factor = factorAt (c .profile) (h .0); each = same };
       some = λ w m.
-          let all = every-member (λ u. Every (λ f. pos 0 <ℤ faceSpeed (c .profile) u f) (c .faces)) (c .winds) speeds m in
+          let all =
+          every-member (λ u. Every (λ f. pos 0 <ℤ faceSpeed (c .profile) u f) (c .faces)) (c .winds) speeds m in
           let above = every-member (λ f. pos 0 <ℤ faceSpeed (c .profile) w f) (c .faces) all in-faces in
-          subst (λ k. 0 < natAbs (speedAt k (w .speed))) (same first in-faces) (size-grows (pos 0) _ (leZ-yes tt) above);
+          subst (λ k. 0 < natAbs (speedAt k (w .speed))) (same first in-faces)
+          (size-grows (pos 0) _ (leZ-yes tt) above);
     }
 
 at-one-factor : (c : Carried) → InOrder c → OneSpeed c → AtOneFactor c
@@ -189,7 +191,8 @@ raised k g (w ∷ ws) (v ∷ vs) o s r x m =
 module _ {c d : Carried} (o : InOrder c) (p : InOrder d) (axis : Axis) (side : Side) where
   pub more-no-less : More c d → NoFurther side (extreme axis side c .total) (extreme axis side d .total)
   more-no-less m =
-      extreme-more c d (m .building) (m .profile) (m .faces) o p (included (m .winds)) (included (m .internals)) axis side
+      extreme-more c d (m .building) (m .profile) (m .faces) o p (included (m .winds)) (included (m .internals)) axis
+      side
 
   pub faster-no-less : faster.Faster c d → OneSpeed c → NoFurther side (pos 0) (extreme axis side c .total)
       → NoFurther side (extreme axis side c .total) (extreme axis side d .total)

@@ -32,8 +32,7 @@ use Rattle.job.specs.InOrder.{InOrder}
 use Rattle.worst.specs.Worst.{given}
 use Rattle.worst.specs.Forces.{factorOf}
 use Rattle.worst.specs.Factors.{StepSmall, Profiled, Fraction}
-use Rattle.worst.specs.Small.{OutsideSmall, FaceSmall, Met, AllMet, Ready}
-use Rattle.worst.specs.Table.{outsideAt}
+use Rattle.worst.specs.Small.{FaceSmall, Met, AllMet, Ready}
 use Rattle.worst.specs.Engine.{facesOf}
 use Rattle.worst.proofs.Climb.{fraction-none, fraction-at}
 use Rattle.worst.proofs.CarriedFaces.{asCarried, same-factor}

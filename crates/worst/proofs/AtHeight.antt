@@ -1,6 +1,6 @@
 -- The factor at a height, and a wind's speed there: what the walk up a profile finds, and that a speed is raised by no
 -- factor and lowered by none that is 1.
-use mathlib.Core.Path.{_≡_, refl, sym, ap, _∙_}
+use mathlib.Core.Path.{_≡_, sym, ap, _∙_}
 use mathlib.Core.Bool.{true, false}
 use mathlib.Core.List.{List, [], _∷_}
 use Prim.Native.Nat.{ℕ, suc, _+_, _*_, _≤_, _<_}
@@ -8,7 +8,7 @@ use native.Mathlib.Nat.{mul-le-mul-left, mul-le-mul-right}
 use native.Mathlib.Omega.{arith}
 use lib.IntN.{ℤ, pos, natAbs}
 use lib.Signed.{leZ, _≤ℤ_, yes-nonNeg, pos-natAbs}
-use lib.ListN.{length, getD, drop, drop-of-length-le}
+use lib.ListN.{getD, drop, drop-of-length-le}
 use lib.Seq.{drop-cons}
 use Rattle.whole.specs.Lists.{firstOf}
 use Rattle.whole.specs.Round.{halfUp}

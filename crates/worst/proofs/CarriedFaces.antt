@@ -1,9 +1,8 @@
--- Faces as a sheet carries them, in year 1 without their heights, come to the same as the faces of the record: a height
--- tells only the factor, and where there are no heights there is no profile.
+-- Faces as a sheet carries them, in year 1 without their heights, come to the same as the faces of the record: a
+-- height tells only the factor, and where there are no heights there is no profile.
 use mathlib.Core.Path.{_≡_, refl, ap, _∙_, fun-ext}
 use mathlib.Core.Bool.{Bool, true, false, cond}
 use mathlib.Core.List.{List, [], _∷_, map, map-map}
-use Prim.Native.Nat.{ℕ}
 use lib.IntN.{ℤ, pos, _+ℤ_}
 use Rattle.building.specs.declared.Building.{Building}
 use Rattle.entry.specs.declared.Wind.{Wind}

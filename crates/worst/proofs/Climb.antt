@@ -1,7 +1,7 @@
 -- The factor at a height within a rising profile is what it should be, and a fraction from 0 to 1.
 use mathlib.Core.Path.{_≡_, refl, sym, ap, _∙_, subst}
 use mathlib.Core.Logic.{⊎-elim}
-use mathlib.Core.List.{List, [], _∷_, _++_, List·Memᴰ·head, List·Memᴰ·tail}
+use mathlib.Core.List.{List, [], _∷_, List·Memᴰ·head, List·Memᴰ·tail}
 use Prim.Native.Nat.{ℕ, _+_, _-_, _*_, _≤_, _<_}
 use native.Mathlib.Nat.{mul-le-mul-right}
 use native.Mathlib.Omega.{arith}
@@ -67,7 +67,8 @@ fraction-between s t h o p low high up =
     (λ j. factorBetween (record { height = size-plain (s .height) h₁ j; factor = size-plain (s .factor) f₁ j })
     (record { height = size-plain (t .height) h₂ j; factor = size-plain (t .factor) f₂ j }) (size-plain h hₕ j))
     (between-numbers (natAbs (s .height)) (natAbs (t .height)) (natAbs h) (natAbs (s .factor)) (natAbs (t .factor))
-    (size-rises _ _ h₁ low) (size-rises _ _ hₕ high) (size-grows _ _ h₁ up) (size-rises _ _ h₂ (p .height .high)) (size-rises _ _ f₁ (o .factor .high))
+    (size-rises _ _ h₁ low) (size-rises _ _ hₕ high) (size-grows _ _ h₁ up) (size-rises _ _ h₂ (p .height .high))
+    (size-rises _ _ f₁ (o .factor .high))
     (size-rises _ _ f₂ (p .factor .high)))
 
 fraction-step : (s : Step) → StepInOrder s → Fraction (stepFactor s)

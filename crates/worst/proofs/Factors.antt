@@ -1,5 +1,5 @@
--- The factors of a job's faces in their two arrays: at first each is 1 / 1, and with face i those of the first i become
--- those of one more.
+-- The factors of a job's faces in their two arrays: at first each is 1 / 1, and with face i those of the first i
+-- become those of one more.
 use mathlib.Core.Path.{_≡_, refl, sym, ap, _∙_, subst}
 use mathlib.Core.List.{List, []}
 use Prim.Native.Nat.{ℕ, suc, zero, _+_, _<_}
@@ -15,7 +15,7 @@ use Rattle.entry.specs.declared.Face.{Face}
 use Rattle.job.specs.declared.Faces.{Faces}
 use Rattle.job.specs.Carried.{noFace}
 use Rattle.worst.specs.declared.speeds.Factor.{Factor}
-use Rattle.worst.specs.Speed.{unchanged, factorAt}
+use Rattle.worst.specs.Speed.{factorAt}
 use Rattle.worst.specs.Forces.{factorOf}
 use Rattle.worst.specs.Factors.{factorIn, FactorsStand, AllOne}
 

@@ -8,14 +8,14 @@ use Rattle.whole.specs.Round.{halfUp}
 use Rattle.entry.specs.declared.Step.{Step}
 use Rattle.worst.specs.declared.speeds.Factor.{Factor}
 
--- a factor is a fraction: part / whole; that of a line of the profile is in thousandths
+-- a factor is a fraction: part / whole; that of a step of the profile is in thousandths
 abbrev pub unchanged : Factor
 unchanged = record { part = pos 1; whole = pos 1 }
 
 abbrev pub stepFactor : Step → Factor
 stepFactor s = record { part = s .factor; whole = pos 1000 }
 
--- on the straight line from one line of the profile to the next
+-- on the straight line from one step of the profile to the next
 abbrev pub factorBetween : Step → Step → ℤ → Factor
 factorBetween s t h =
     record {

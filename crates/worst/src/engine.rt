@@ -1,5 +1,5 @@
-// The six extremes of a job: first the factor of each face, then for each wind in order one pass over the faces and then every internal coefficient, and
-// at the end the alternatives of the six cases that were found.
+// The six extremes of a job: first the factor of each face, then for each wind in order one pass over the faces and
+// every internal coefficient, and at the end the alternatives of the six cases that were found.
 ghost use mathlib.Core.Path.{_≡_};
 ghost use Rattle.job.specs.Carried.{carried};
 ghost use Rattle.job.specs.InOrder.{InOrder};

@@ -17,7 +17,7 @@ pub struct Factor {
     pub whole: i64,
 }
 
-// On the straight line from one line of the profile to the next.
+// On the straight line from one step of the profile to the next.
 fn factor_between(s: Step, t: Step, height: i64) -> Factor
     requires { ⌜ StepSmall s × StepSmall t × Height height ⌝ }
     ensures { λ r. ⌜ r ≡ factorBetween s t height ⌝ }

@@ -81,7 +81,8 @@ fn with_pressure(sums: Axes, f: Face, o: Outside, pressure: i64) -> Axes
     Axes { x, y, z }
 }
 
-// One face more under a wind, at its factor. One that does not take part adds nothing, and nothing is looked up for it.
+// One face more under a wind, at its factor. One that does not take part adds nothing, and nothing is looked up for
+// it.
 fn with_face(
     sums: Axes,
     b: Building,

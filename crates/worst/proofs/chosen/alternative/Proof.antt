@@ -1,8 +1,7 @@
 -- `chosen::alternative` meets its contract: a face that takes part goes by its coefficients, which stand in the
 -- table, and another has weight 0.
-use mathlib.Core.Path.{_≡_, sym, ap, _∙_, subst}
+use mathlib.Core.Path.{_≡_, sym, _∙_, subst}
 use mathlib.Core.Bool.{true}
-use lib.IntN.{ℤ, _*ℤ_}
 use mir.Syntax.{w64}
 use borrow.Author.Needs.{needs}
 use denote.Ref.{now}

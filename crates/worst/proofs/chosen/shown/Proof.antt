@@ -33,7 +33,8 @@ abbrev HoldsFirst : Axis → Side → Building → List Step → List Face → W
 HoldsFirst axis s b profile faces w i l = l ≡ alternativesOf axis s b profile w (firstOf noFace i faces)
 
 abbrev Inv-loop : tie.InvT-loop
-Inv-loop ends parts wholes first last b faces count x y z h₀ l₀ m₀ n₀ p₀ q₀ i₀ x-high x-low y-high y-low z-high z-low i =
+Inv-loop ends parts wholes first last b faces count x y z h₀ l₀ m₀ n₀ p₀ q₀ i₀ x-high x-low y-high y-low z-high z-low
+    i =
     (i ≤ count)
     × ((profile : List Step) → FactorsStand profile faces parts wholes
     → HoldsFirst X Greatest b profile (faces .entry) (x .greatest) i x-high
@@ -257,5 +258,6 @@ shown-spec =
     (tie.spec Inv-loop μ-loop (λ c. search needs) winds-on-x winds-on-y winds-on-z loop-holds
     (λ c. record { fits = omega (arith, room c) }) room (λ c κs. room (c .before)) asks-1 (λ c. roomy (f1 c)) asks-2
     (λ c. roomy (f2 c)) asks-3 (λ c. roomy (f3 c)) asks-4 (λ c. roomy (f4 c)) asks-5 (λ c. roomy (f5 c)) asks-6
-    (λ c. roomy (f6 c)) (λ c. record { fits = omega (arith, roomy (f6 c)) }) loop-less loop-again (λ c κs. search needs)
+    (λ c. roomy (f6 c)) (λ c. record { fits = omega (arith, roomy (f6 c)) }) loop-less loop-again
+    (λ c κs. search needs)
     (λ c κs. search needs) (λ c κs. search needs) returns)

@@ -120,10 +120,11 @@ loop-again c =
     let t = d .loop-test .taken in
     let j = job d in
     let inv = d .before .loop .inv in
-    let e = u .added .ensures in (
+    let e = u .added .ensures in
+    let sums = summed d (e .1 (profileOf j) (stand (d .before .before .before))) in (
       omega arith,
       λ axis s. c .over-internals .ensures axis s
-          ∙ (λ k. better s (inv .1 axis s k) (cellsBest s (sumsOn axis (summed d (e .1 (profileOf j) (stand (d .before .before .before))) k)) (j .internals) (w d + 1)))
+          ∙ (λ k. better s (inv .1 axis s k) (cellsBest s (sumsOn axis (sums k)) (j .internals) (w d + 1)))
           ∙ over-next s (windBest axis s j) (w d),
       e .2,
       below-next (λ k. StandForAll (j .building) (getD (j .winds .entry) k noWind) (j .faces) _ _) (w d)

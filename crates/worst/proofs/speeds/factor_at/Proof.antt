@@ -1,9 +1,9 @@
 -- `speeds::factor_at` meets its contract: before line i the walk stands above line i - 1.
-use mathlib.Core.Path.{_≡_, refl, sym, ap, _∙_, subst}
-use Prim.Native.Nat.{ℕ, _-_, _≤_, _<_}
+use mathlib.Core.Path.{_≡_, sym, ap, _∙_, subst}
+use Prim.Native.Nat.{_-_, _≤_, _<_}
 use native.Mathlib.Omega.{arith}
 use mathlib.Core.Bool.{Bool}
-use lib.IntN.{ℤ, pos}
+use lib.IntN.{pos}
 use lib.Signed.{leZ}
 use lib.ListN.{getD}
 use mir.Syntax.{w64}
@@ -13,7 +13,7 @@ use Rattle.whole.specs.Lists.{firstOf}
 use Rattle.whole.proofs.Size.{num≤, back}
 use Rattle.entry.specs.declared.Step.{Step}
 use Rattle.job.specs.Carried.{noStep}
-use Rattle.worst.specs.Speed.{factorBetween, factorAt}
+use Rattle.worst.specs.Speed.{factorAt}
 use Rattle.worst.specs.Factors.{stepsOf, StepSmall, Height}
 use Rattle.worst.proofs.AtHeight.{walked, walk-begins, walk-ends, walk-stops, walk-goes-on}
 use Rattle.worst.proofs.speeds.factor_at.Statement.{statement}
@@ -65,7 +65,8 @@ module _ (d : tie.In-loop Inv-loop μ-loop) where
       → leZ (toZ w64 (ofZ w64 (start l .args .height))) (toZ w64 (ofZ w64 (upper .height))) ≡ t
       → leZ (toZ w64 (ofZ w64 (start l .args .height))) (upper .height) ≡ t
   tested e =
-      sym (ap (leZ (toZ w64 (ofZ w64 (start l .args .height)))) (back w64 (num≤ (upper .height) (small .height)) tt .same))
+      sym
+      (ap (leZ (toZ w64 (ofZ w64 (start l .args .height)))) (back w64 (num≤ (upper .height) (small .height)) tt .same))
       ∙ e
 
 factor-between-requires : tie.Need-factor-between-requires Inv-loop μ-loop
@@ -79,7 +80,8 @@ returns-2 c =
     let d = t .before .before .before .before in
     let p = start (l d) .args .t1 in
     c .factor-between .ensures
-    ∙ walk-stops (p .count) (p .entry) _ (l d .loop .i) (l d .loop .lower) (d .loop-test .taken) (tested d (t .if2 .taken))
+    ∙ walk-stops (p .count) (p .entry) _ (l d .loop .i) (l d .loop .lower) (d .loop-test .taken)
+    (tested d (t .if2 .taken))
     ∙ sym (l d .loop .inv .2)
     ∙ ap (factorAt (stepsOf p)) (read (l d))
 

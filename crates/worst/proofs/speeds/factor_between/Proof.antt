@@ -1,8 +1,7 @@
 -- `speeds::factor_between` meets its contract: each number is built as the code builds it, with the most that it is in
 -- size.
-use lib.IntN.{ℤ, pos}
+use lib.IntN.{pos}
 use mir.Syntax.{w64}
-use borrow.Author.Needs.{needs}
 use Rattle.whole.proofs.Size.{Num, num, num≤, back, fit, _⊕_, _⊖_, _⊗_}
 use Rattle.entry.specs.declared.Step.{Step}
 use Rattle.worst.specs.Factors.{StepSmall}

@@ -1,18 +1,16 @@
--- `speeds::fill` meets its contract: in year 1 nothing is changed, and otherwise after i faces the factors of the first
--- i stand in the arrays.
+-- `speeds::fill` meets its contract: in year 1 nothing is changed, and otherwise after i faces the factors of the
+-- first i stand in the arrays.
 use mathlib.Core.Path.{_≡_, sym, ap, _∙_, subst}
 use Prim.Native.Nat.{ℕ, _-_, _≤_, _<_}
 use native.Mathlib.Omega.{arith}
 use mathlib.Core.Bool.{true}
 use mathlib.Core.List.{List}
-use lib.IntN.{ℤ, pos}
 use lib.ListN.{getD}
 use mir.Syntax.{w64}
 use mir.Val.{SFits, toZ, ofZ}
 use mir.ValLaws.{toZ-ofZ}
 use borrow.Author.Needs.{needs}
 use borrow.Author.Tests.{not-true, not-false}
-use denote.Ref.{now}
 use Rattle.whole.proofs.Size.{num≤, back}
 use Rattle.entry.specs.declared.Step.{Step}
 use Rattle.entry.specs.declared.Face.{Face}
@@ -110,7 +108,8 @@ loop-again : tie.Need-loop-again Inv-loop μ-loop
 loop-again c =
     let t = d c .loop-test .taken in (
       omega arith,
-      next-stands (steps (a (d c))) (a (d c) .args .job .faces .entry) (i (d c)) _ _ (read c) (d c .before .loop .inv .1)
+      next-stands (steps (a (d c))) (a (d c) .args .job .faces .entry) (i (d c)) _ _ (read c)
+          (d c .before .loop .inv .1)
           (room (d c)) (read-is c ∙ found c),
     )
 

@@ -1,12 +1,11 @@
 -- `speeds::speed_at` meets its contract: a factor of 1 leaves the speed as it is, and another is rounded as the
 -- definition says.
 use mathlib.Core.Path.{_≡_, sym, ap, _∙_}
-use Prim.Native.Nat.{ℕ, _*_, _≤_}
+use Prim.Native.Nat.{_*_, _≤_}
 use native.Mathlib.Omega.{arith}
-use lib.IntN.{ℤ, pos, natAbs}
+use lib.IntN.{pos, natAbs}
 use mir.Syntax.{w64}
 use mir.Val.{toZ}
-use borrow.Author.Needs.{needs}
 use Rattle.whole.specs.Round.{halfUp}
 use Rattle.whole.proofs.Size.{Num, nat, num≤, back, fit, natAbs-mul, size, times-small, unsigned}
 use Rattle.worst.specs.Speed.{speedAt}
@@ -42,7 +41,9 @@ rounded-requires c κs =
     let product =
     times-small (a .args .speed) (a .args .factor .part) {k = 1000} {l = 30000000} (a .pre .2)
     (omega (arith, f .within, f .small)) in
-    rw (size (speed a), size (part a), size (whole a)) (omega (arith, product, natAbs-mul (a .args .speed) (a .args .factor .part)), f .some, omega (arith, f .small))
+    let sizes = natAbs-mul (a .args .speed) (a .args .factor .part) in
+    rw (size (speed a), size (part a), size (whole a))
+    (omega (arith, product, sizes), f .some, omega (arith, f .small))
 
 module _ (c : tie.After-rounded) where
   abbrev a : tie.Start

@@ -1,7 +1,7 @@
 -- `sums::pressure_of` meets its contract: a speed squared is at most a million.
 use mathlib.Core.Path.{sym, ap, _∙_, subst}
 use Prim.Native.Nat.{_≤_}
-use lib.IntN.{ℤ, pos, natAbs}
+use lib.IntN.{ℤ, pos}
 use lib.Signed.{_≤ℤ_}
 use mir.Syntax.{w64}
 use Rattle.whole.proofs.Size.{Num, num≤, back, bound, fit, _⊗_}

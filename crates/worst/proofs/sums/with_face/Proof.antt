@@ -1,6 +1,6 @@
 -- `sums::with_face` meets its contract: a face that takes part is added at its pressure number, and another leaves
 -- all as it is.
-use mathlib.Core.Path.{_≡_, sym, ap, _∙_, subst}
+use mathlib.Core.Path.{_≡_, sym, _∙_, subst}
 use mathlib.Core.Bool.{true, true≢false}
 use borrow.Author.Needs.{needs}
 use Rattle.whole.proofs.Size.{Num, bound}
