@@ -11,8 +11,8 @@
 #include <stdlib.h>
 #include <string.h>
 
-enum { OUT = 1024, WALKED = 4096 };
-static struct { unsigned long sheets, accepted, refused[8], walked, questions, answered, numbers, calls; } tally;
+enum { OUT = 2048, WALKED = 4096 };
+static struct { unsigned long sheets, high, accepted, refused[9], walked, questions, answered, numbers, calls; } tally;
 static dice die;
 
 static void show(const text *t)
@@ -97,8 +97,9 @@ static aral_answer compare_sheet(const text *t)
         printf("library %u %u, plain %u %u\n", p.number, p.line, q.number, q.line);
         differ("reading", t);
     }
+    tally.high += t->length > 0 && t->byte[0] == 'V';
     if (p.number == 0) tally.accepted++;
-    else tally.refused[p.number]++;
+    else if (p.number <= 8) tally.refused[p.number]++;
     compare_rooms("a sheet written again", aral_rewrite, plain_rewrite, t);
     compare_rooms("a report", aral_report, plain_report, t);
     if (p.number) compare_total(t, pick(&die, 0, 7));
@@ -306,8 +307,10 @@ int main(int argc, char **argv)
     compare_sheets(strtoul(argv[2], NULL, 10));
     compare_questions(strtoul(argv[3], NULL, 10));
     compare_numbers(strtoul(argv[4], NULL, 10));
-    printf("%lu sheets: %lu accepted, refused by number", tally.sheets, tally.accepted);
-    for (int number = 1; number < 7; number++) printf(" %d: %lu", number, tally.refused[number]);
+    printf("%lu sheets, %lu of them opening with V: %lu accepted, refused by number", tally.sheets, tally.high,
+           tally.accepted);
+    for (int number = 1; number <= 8; number++)
+        if (number != ARAL_ROOM) printf(" %d: %lu", number, tally.refused[number]);
     printf("\n%lu jobs walked through every case\n", tally.walked);
     printf("%lu questions, %lu of them answered; %lu numbers; %lu calls compared: all the same\n", tally.questions,
            tally.answered, tally.numbers, tally.calls);

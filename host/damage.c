@@ -26,7 +26,7 @@ static size_t some(dice *d, const text *t, int lines, size_t *n)
 
 static uint8_t slip_byte(dice *d)
 {
-    static const char often[] = " \n\r\t+-0123456789ABCDEFGHIWa.,";
+    static const char often[] = " \n\r\t+-0123456789ABCDEFGHIPVWa.,";
     return pick(d, 0, 4) ? (uint8_t)often[pick(d, 0, (int64_t)sizeof often - 1)] : (uint8_t)roll(d);
 }
 
@@ -46,11 +46,11 @@ static void damage_byte(dice *d, text *t)
 static void damage_field(dice *d, text *t)
 {
     static const char *const word[] = {
-        "0", "1", "2", "3", "4", "5", "6", "8", "9", "24", "25", "45", "89", "90", "91", "99", "100", "101", "180",
-        "299", "300", "600", "601", "900", "901", "999", "1000", "1001", "1500", "1501", "29999", "30000", "30001",
-        "100000", "100001", "9999999", "10000000", "12345678", "99999999", "4294967297", "18446744073709551617",
-        "-1", "-90", "-100", "-101", "-100000", "-100001", "-9999999", "-10000000", "-0", "00", "01", "-01", "+0",
-        "+1", "+90", "-", "--", "", "A", "B", "D", "E", "F", "G", "H", "I", "W", "a", "0x1", "1.5", "1e3",
+        "0", "1", "2", "3", "4", "5", "6", "8", "9", "16", "17", "24", "25", "45", "89", "90", "91", "99", "100",
+        "101", "180", "299", "300", "600", "601", "900", "901", "999", "1000", "1001", "1500", "1501", "29999",
+        "30000", "30001", "100000", "100001", "9999999", "10000000", "12345678", "99999999", "4294967297",
+        "18446744073709551617", "-1", "-90", "-100", "-101", "-100000", "-100001", "-9999999", "-10000000", "-0", "00", "01", "-01", "+0",
+        "+1", "+90", "-", "--", "", "A", "B", "D", "E", "F", "G", "H", "I", "P", "V", "W", "a", "0x1", "1.5", "1e3",
         "1,5", "AA", "-A"};
     size_t n, at = some(d, t, 0, &n);
     splice_word(t, at, n, word[pick(d, 0, (int64_t)(sizeof word / sizeof *word) - 1)]);
@@ -60,13 +60,24 @@ static void damage_field(dice *d, text *t)
 static void damage_count(dice *d, text *t)
 {
     static const char *const word[] = {
-        "0", "1", "2", "3", "4", "5", "8", "9", "24", "25", "-1", "100", "9999999", "10000000"};
+        "0", "1", "2", "3", "4", "5", "8", "9", "16", "17", "24", "25", "-1", "100", "9999999", "10000000"};
     for (int tries = 0; tries < 40; tries++) {
         size_t n, at = some(d, t, 1, &n);
-        if (n < 3 || t->byte[at + 1] != ' ' || !memchr("BWIF", t->byte[at], 4)) continue;
-        splice_word(t, at + 2, n - 2, word[pick(d, 0, 13)]);
+        if (n < 3 || t->byte[at + 1] != ' ' || !memchr("VBWIPF", t->byte[at], 6)) continue;
+        splice_word(t, at + 2, n - 2, word[pick(d, 0, 15)]);
         return;
     }
+}
+
+/* Section V taken off, put before, or not as it should be. */
+static void damage_year(dice *d, text *t)
+{
+    static const char *const opening[] = {
+        "", "2\n", "V 1\n", "V 1\n2\n", "V 1\n1\n", "V 1\n3\n", "V 1\n-2\n", "V 1\n02\n", "V 1\n2 \n", "V 1\n\n",
+        "V 1\n9999999\n", "V 1\n10000000\n", "V 0\n", "V 2\n2\n", "V 2\n2\n2\n", "V 1 2\n", "V\n2\n", "VX 1\n2\n",
+        "v 1\n2\n", "V 1\n2\nV 1\n2\n", "V 1\n2\nP 1\n0 1\n"};
+    size_t gone = t->length > 6 && t->byte[0] == 'V' && pick(d, 0, 7) ? 6 : 0;
+    splice_word(t, 0, gone, opening[pick(d, 0, 20)]);
 }
 
 static void damage_spelling(dice *d, text *t)
@@ -95,11 +106,12 @@ static void damage_line(dice *d, text *t)
 
 static void damage_end(dice *d, text *t)
 {
-    static const char *const tail[] = {"\n", " ", "\r\n", "A - 0 0 0\n", "B 1\n", "F 1\nA - 0 0 0\n", "x", "\x1a", "0"};
+    static const char *const tail[] = {
+        "\n", " ", "\r\n", "A - 0 0 0\n", "A - 0 0 0 0\n", "B 1\n", "F 1\nA - 0 0 0\n", "x", "\x1a", "0"};
     switch (pick(d, 0, 3)) {
     case 0: t->length--; break;
     case 1: t->length = (size_t)pick(d, 0, (int64_t)t->length - 1); break;
-    case 2: splice_word(t, t->length, 0, tail[pick(d, 0, 8)]); break;
+    case 2: splice_word(t, t->length, 0, tail[pick(d, 0, 9)]); break;
     default: splice(t, t->length, 0, "", 1); break;
     }
 }
@@ -134,7 +146,7 @@ static void nonsense(dice *d, text *t)
 void damage(dice *d, text *t)
 {
     if (t->length == 0) return;
-    switch (pick(d, 0, 16)) {
+    switch (pick(d, 0, 17)) {
     case 0: case 1: case 2: damage_byte(d, t); break;
     case 3: case 4: case 5: case 6: case 7: damage_field(d, t); break;
     case 8: case 9: damage_spelling(d, t); break;
@@ -142,6 +154,7 @@ void damage(dice *d, text *t)
     case 12: case 13: damage_end(d, t); break;
     case 14: damage_whole(d, t); break;
     case 15: damage_count(d, t); break;
+    case 16: damage_year(d, t); break;
     default: nonsense(d, t); break;
     }
 }

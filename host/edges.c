@@ -117,8 +117,8 @@ static void read_at(const uint8_t *bytes, size_t n, int after)
     calls += 2;
     if (p.number != q.number || p.line != q.line) fail("reading at an edge");
     if (e.number != f.number || e.line != f.line || e.total != f.total) fail("a total at an edge");
-    write_at(aral_rewrite, plain_rewrite, sheet, n, 900, after);
-    write_at(aral_report, plain_report, sheet, n, 900, after);
+    write_at(aral_rewrite, plain_rewrite, sheet, n, ARAL_SHEET_MOST, after);
+    write_at(aral_report, plain_report, sheet, n, ARAL_SHEET_MOST, after);
     write_at(aral_report, plain_report, sheet, n, 0, after);
 }
 
@@ -149,16 +149,21 @@ static void every_digit(void)
 /* The longest acceptable sheet: every count and every field as long as it may be. */
 static void longest(text *t)
 {
-    static sample s = {.h = 12000, .a = 12000, .b = 10000, .density = 1250, .kind = 4, .x = 1200, .winds = 8,
-                       .internals = 4, .faces = 24};
+    static sample s = {.h = 12000, .a = 12000, .b = 10000, .density = 1250, .kind = 4, .x = 1200, .year = 2,
+                       .winds = 8, .internals = 4, .steps = 16, .faces = 24};
     for (int i = 0; i < 8; i++) {
         s.direction[i] = 90;
         s.speed[i] = 1000;
     }
     for (int i = 0; i < 4; i++) s.internal[i] = -100;
+    for (int i = 0; i < 16; i++) {
+        s.step[i].height = 10000 + i;
+        s.step[i].factor = 1000;
+    }
     for (int i = 0; i < 24; i++) {
         s.zone[i] = 'F';
         s.mark[i] = 90;
+        s.height[i] = 10015;
         for (int axis = 0; axis < 3; axis++) s.area[i][axis] = -100000;
     }
     write_sample(&s, t);
@@ -184,7 +189,7 @@ static void very_long(const text *t)
 {
     size_t n = (size_t)64 << 20;
     fence big = make_fence(n);
-    for (const char *byte = "B1 \n-0\r9"; *byte; byte++) {
+    for (const char *byte = "BV1 \n-0\r9"; *byte; byte++) {
         memset(big.start, *byte, n);
         aral_answer a = aral_read(big.start, n);
         if (a.number != 1 || a.line != 1) fail("a very long text");

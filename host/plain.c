@@ -11,21 +11,28 @@
 #define ENTRY(name) plain_##name
 #endif
 
-enum { WINDS = 8, INTERNALS = 4, FACES = 24 };
+enum { WINDS = 8, INTERNALS = 4, STEPS = 16, FACES = 24 };
+enum { LAST_YEAR = 2 };   /* the sheets of years 2 to here open with V and have one form */
 enum { BOTH = 99999999 }; /* a face's mark `-`: no number in form is so large */
-enum { FORM = 1, COUNT, RANGE, RATIO, ROOF, PLACE, ROOM };
+enum { FORM = 1, COUNT, RANGE, RATIO, ROOF, PLACE, ROOM, HEIGHT };
 enum { NO_ROOF, GABLE, STRAIGHT, PARAPET, CURVED, MANSARD };
 
 typedef struct { int64_t h, a, b, density, kind, x; } building;
-typedef struct { char zone; int mark, area[3]; } face;
+typedef struct { int height, factor; } step; /* a line of the profile */
+typedef struct { char zone; int mark, height, area[3]; } face;
 typedef struct {
+    int year;
     building house;
-    int winds, internals, faces;
+    int winds, internals, steps, faces;
     int direction[WINDS], speed[WINDS], internal[INTERNALS];
+    step step[STEPS];
     face face[FACES];
 } job;
 
 static int within(int64_t value, int64_t least, int64_t greatest) { return least <= value && value <= greatest; }
+
+/* Whether the job has a profile, and a height for each face. */
+static int profiled(const job *j) { return j->year >= 2; }
 
 /* ---- The printed tables, in hundredths ---- */
 
@@ -215,6 +222,19 @@ static int read_count(reader *r, char letter, int greatest, int *count)
     return within(*count, 1, greatest) ? 0 : COUNT;
 }
 
+/* A sheet is of year 1 unless its first line begins with V. */
+static int read_year(reader *r, job *j)
+{
+    int count, fault;
+    j->year = 1;
+    if (peek(r) != 'V') return 0;
+    fault = read_count(r, 'V', 1, &count);
+    if (fault) return fault;
+    r->line++;
+    if (!numbers(r, 1, &j->year)) return FORM;
+    return within(j->year, 2, LAST_YEAR) ? 0 : RANGE;
+}
+
 static int read_building(reader *r, building *house)
 {
     int value[6];
@@ -249,6 +269,22 @@ static int read_internals(reader *r, job *j)
     return fault;
 }
 
+static int read_profile(reader *r, job *j)
+{
+    j->steps = 0;
+    if (!profiled(j)) return 0;
+    int fault = read_count(r, 'P', STEPS, &j->steps);
+    for (int i = 0; !fault && i < j->steps; i++) {
+        int value[2];
+        r->line++;
+        if (!numbers(r, 2, value)) return FORM;
+        if (!within(value[0], 0, 30000) || !within(value[1], 1, 1000)) return RANGE;
+        if (i > 0 && value[0] <= j->step[i - 1].height) return RANGE;
+        j->step[i] = (step){value[0], value[1]};
+    }
+    return fault;
+}
+
 /* A mark is a number, or a dash before a space. */
 static int read_mark(reader *r, int *mark)
 {
@@ -260,32 +296,47 @@ static int read_mark(reader *r, int *mark)
     return number(r, mark);
 }
 
-static int read_face(reader *r, const building *house, face *f)
+/* What a face line says, in its form: without a profile no height, which is then 0. */
+static int take_face(reader *r, int high, face *f)
+{
+    int value[4] = {0}, first = high ? 0 : 1;
+    if (!within(peek(r), 'A', 'H')) return 0;
+    f->zone = (char)r->text[r->at++];
+    if (!take(r, ' ') || !read_mark(r, &f->mark) || !take(r, ' ') || !numbers(r, 4 - first, value + first)) return 0;
+    f->height = value[0];
+    for (int axis = 0; axis < 3; axis++) f->area[axis] = value[1 + axis];
+    return 1;
+}
+
+static int read_face(reader *r, const job *j, face *f)
 {
     r->line++;
-    if (!within(peek(r), 'A', 'H')) return FORM;
-    f->zone = (char)r->text[r->at++];
-    if (!take(r, ' ') || !read_mark(r, &f->mark) || !take(r, ' ') || !numbers(r, 3, f->area)) return FORM;
+    if (!take_face(r, profiled(j), f)) return FORM;
     if (f->mark != 0 && f->mark != 90 && f->mark != BOTH) return RANGE;
+    if (!within(f->height, 0, 30000)) return RANGE;
     for (int axis = 0; axis < 3; axis++)
         if (!within(f->area[axis], -100000, 100000)) return RANGE;
-    return zone_exists(house, f->zone) ? 0 : PLACE;
+    if (!zone_exists(&j->house, f->zone)) return PLACE;
+    if (profiled(j) && !within(f->height, j->step[0].height, j->step[j->steps - 1].height)) return HEIGHT;
+    return 0;
 }
 
 static int read_faces(reader *r, job *j)
 {
     int fault = read_count(r, 'F', FACES, &j->faces);
-    for (int i = 0; !fault && i < j->faces; i++) fault = read_face(r, &j->house, &j->face[i]);
+    for (int i = 0; !fault && i < j->faces; i++) fault = read_face(r, j, &j->face[i]);
     return fault;
 }
 
 static aral_answer read_job(const uint8_t *sheet, size_t n, job *j)
 {
     reader r = {sheet, n, 0, 0};
-    int count, fault = read_count(&r, 'B', 1, &count);
+    int count, fault = read_year(&r, j);
+    if (!fault) fault = read_count(&r, 'B', 1, &count);
     if (!fault) fault = read_building(&r, &j->house);
     if (!fault) fault = read_winds(&r, j);
     if (!fault) fault = read_internals(&r, j);
+    if (!fault) fault = read_profile(&r, j);
     if (!fault) fault = read_faces(&r, j);
     if (!fault && r.at < n) {
         r.line++;
@@ -296,7 +347,7 @@ static aral_answer read_job(const uint8_t *sheet, size_t n, job *j)
 
 /* ---- Writing ---- */
 
-typedef struct { char text[1024]; size_t length; } writer;
+typedef struct { char text[ARAL_SHEET_MOST]; size_t length; } writer;
 
 static void put(writer *w, char byte) { w->text[w->length++] = byte; }
 
@@ -339,12 +390,13 @@ static aral_text hand_over(const writer *w, uint8_t *out, size_t room)
     return (aral_text){0, 0, w->length};
 }
 
-static void put_face(writer *w, const face *f)
+static void put_face(writer *w, const face *f, int high)
 {
     put(w, f->zone);
     put(w, ' ');
     if (f->mark == BOTH) put(w, '-');
     else put_number(w, f->mark);
+    if (high) put_after_space(w, f->height);
     put(w, ' ');
     put_numbers(w, 3, (int64_t[]){f->area[0], f->area[1], f->area[2]});
 }
@@ -352,14 +404,20 @@ static void put_face(writer *w, const face *f)
 static void put_sheet(writer *w, const job *j)
 {
     const building *house = &j->house;
+    if (profiled(j)) {
+        put_count(w, 'V', 1);
+        put_numbers(w, 1, (int64_t[]){j->year});
+    }
     put_count(w, 'B', 1);
     put_numbers(w, 6, (int64_t[]){house->h, house->a, house->b, house->density, house->kind, house->x});
     put_count(w, 'W', j->winds);
     for (int i = 0; i < j->winds; i++) put_numbers(w, 2, (int64_t[]){j->direction[i], j->speed[i]});
     put_count(w, 'I', j->internals);
     for (int i = 0; i < j->internals; i++) put_numbers(w, 1, (int64_t[]){j->internal[i]});
+    if (profiled(j)) put_count(w, 'P', j->steps);
+    for (int i = 0; i < j->steps; i++) put_numbers(w, 2, (int64_t[]){j->step[i].height, j->step[i].factor});
     put_count(w, 'F', j->faces);
-    for (int i = 0; i < j->faces; i++) put_face(w, &j->face[i]);
+    for (int i = 0; i < j->faces; i++) put_face(w, &j->face[i], profiled(j));
 }
 
 /* ---- The worst cases ---- */
@@ -367,7 +425,7 @@ static void put_sheet(writer *w, const job *j)
 /* What a face offers under one direction: no alternative where it is marked for the other. */
 typedef struct { int count, value[2]; } offer;
 typedef struct { int64_t total; int wind, internal; } best;
-typedef struct { offer offer[FACES][2]; best best[6]; } worst;
+typedef struct { offer offer[FACES][2]; int64_t weight[WINDS][FACES][3]; best best[6]; } worst;
 
 static void gather_offers(const job *j, worst *w)
 {
@@ -383,7 +441,39 @@ static void gather_offers(const job *j, worst *w)
     }
 }
 
-/* The greatest and the least sum of net coefficient times area on each axis: each face chooses by itself. */
+/* The factor at a height of the profile, on the straight line between its lines and not rounded. */
+typedef struct { int64_t part, whole; } ratio;
+
+static ratio factor_at(const job *j, int height)
+{
+    const step *s = j->step;
+    if (!profiled(j)) return (ratio){1, 1};
+    if (j->steps == 1) return (ratio){s->factor, 1000};
+    while (height > s[1].height) s++;
+    int64_t span = s[1].height - s[0].height, way = height - s[0].height;
+    return (ratio){s[0].factor * (span - way) + s[1].factor * way, 1000 * span};
+}
+
+/* The speed at a face: the wind's times the factor, rounded once to a tenth, a half up. */
+static int64_t face_speed(int64_t speed, ratio factor)
+{
+    if (factor.whole == 1) return speed;
+    return (2 * speed * factor.part + factor.whole) / (2 * factor.whole);
+}
+
+/* What a thousandth of a net coefficient brings in each wind on each axis: the pressure at the face times its area. */
+static void weigh(const job *j, worst *w)
+{
+    for (int i = 0; i < j->faces; i++) {
+        ratio factor = factor_at(j, j->face[i].height);
+        for (int wind = 0; wind < j->winds; wind++) {
+            int64_t speed = face_speed(j->speed[wind], factor), pressure = j->house.density * speed * speed;
+            for (int axis = 0; axis < 3; axis++) w->weight[wind][i][axis] = pressure * j->face[i].area[axis];
+        }
+    }
+}
+
+/* The greatest and the least total on each axis under one wind and internal: each face chooses by itself. */
 static void sum_case(const job *j, const worst *w, int wind, int internal, int64_t sum[6])
 {
     int ninety = j->direction[wind] == 90, inside = 10 * j->internal[internal];
@@ -392,8 +482,8 @@ static void sum_case(const job *j, const worst *w, int wind, int internal, int64
         const offer *o = &w->offer[i][ninety];
         if (o->count == 0) continue;
         for (int axis = 0; axis < 3; axis++) {
-            int64_t area = j->face[i].area[axis], first = (o->value[0] - inside) * area, second = first;
-            if (o->count == 2) second = (o->value[1] - inside) * area;
+            int64_t weight = w->weight[wind][i][axis], first = (o->value[0] - inside) * weight, second = first;
+            if (o->count == 2) second = (o->value[1] - inside) * weight;
             sum[2 * axis] += first > second ? first : second;
             sum[2 * axis + 1] += first < second ? first : second;
         }
@@ -406,17 +496,16 @@ static int beats(int k, int64_t total, int64_t than) { return k % 2 == 0 ? total
 static void find_worst(const job *j, worst *w)
 {
     gather_offers(j, w);
-    for (int wind = 0; wind < j->winds; wind++) {
-        int64_t pressure = j->house.density * j->speed[wind] * j->speed[wind];
+    weigh(j, w);
+    for (int wind = 0; wind < j->winds; wind++)
         for (int internal = 0; internal < j->internals; internal++) {
             int64_t sum[6];
             sum_case(j, w, wind, internal, sum);
             for (int k = 0; k < 6; k++) {
-                best found = {sum[k] * pressure, wind, internal};
+                best found = {sum[k], wind, internal};
                 if ((wind == 0 && internal == 0) || beats(k, found.total, w->best[k].total)) w->best[k] = found;
             }
         }
-    }
 }
 
 /* The alternative that face i takes in the case found for report line k: the first that is as good as any. */
@@ -425,8 +514,8 @@ static int alternative(const job *j, const worst *w, int k, int i)
     const best *b = &w->best[k];
     const offer *o = &w->offer[i][j->direction[b->wind] == 90];
     if (o->count < 2) return 1;
-    int64_t area = j->face[i].area[k / 2], inside = 10 * j->internal[b->internal];
-    int64_t first = (o->value[0] - inside) * area, second = (o->value[1] - inside) * area;
+    int64_t weight = w->weight[b->wind][i][k / 2], inside = 10 * j->internal[b->internal];
+    int64_t first = (o->value[0] - inside) * weight, second = (o->value[1] - inside) * weight;
     return beats(k, second, first) ? 2 : 1;
 }
 

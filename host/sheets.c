@@ -100,6 +100,41 @@ static void building_of_kind(dice *d, sample *s, int64_t kind)
 
 void make_building(dice *d, sample *s) { building_of_kind(d, s, pick(d, 0, 5)); }
 
+/* ---- Profiles ---- */
+
+/* A height for a line of the profile: straight above the one before, as high as may be, or on the way there. */
+static int64_t rising(dice *d, int64_t least, int64_t most, int left)
+{
+    switch (pick(d, 0, 15)) {
+    case 0: return most;
+    case 1:
+    case 2: return least;
+    default: return pick(d, least, least + (most - least) / left);
+    }
+}
+
+/* Lines of a profile, from year 2 on; none is year 1. */
+static void make_profile(dice *d, sample *s, int steps)
+{
+    int64_t least = 0;
+    s->year = steps ? 2 : 1;
+    s->steps = steps;
+    for (int i = 0; i < steps; i++) {
+        s->step[i].height = (int)rising(d, least, 30000 - (steps - 1 - i), steps - i);
+        s->step[i].factor = (int)(pick(d, 0, 2) ? pick(d, 1, 1000) : ONE_OF(d, 1, 2, 499, 500, 501, 999, 1000));
+        least = s->step[i].height + 1;
+    }
+}
+
+/* A height on one of the profile's lines, beside it, or anywhere up to the ends; 0 without a profile. */
+static int face_height(dice *d, const sample *s)
+{
+    if (s->steps == 0) return 0;
+    int least = s->step[0].height, greatest = s->step[s->steps - 1].height;
+    int on = s->step[pick(d, 0, s->steps - 1)].height;
+    return (int)(pick(d, 0, 1) ? pick(d, least, greatest) : clamp(on + ONE_OF(d, 0, 0, -1, 1), least, greatest));
+}
+
 /* ---- Jobs ---- */
 
 static int area(dice *d)
@@ -117,9 +152,10 @@ static char zone(dice *d, int64_t kind)
     return (char)('A' + pick(d, 0, kind == 0 ? 3 : kind == 1 ? 7 : 5));
 }
 
-void make_sized(dice *d, sample *s, int64_t kind, int winds, int internals, int faces)
+void make_sized(dice *d, sample *s, int64_t kind, int winds, int internals, int steps, int faces)
 {
     building_of_kind(d, s, kind);
+    make_profile(d, s, steps);
     s->winds = winds;
     s->internals = internals;
     s->faces = faces;
@@ -132,15 +168,16 @@ void make_sized(dice *d, sample *s, int64_t kind, int winds, int internals, int 
     for (int i = 0; i < faces; i++) {
         s->zone[i] = zone(d, s->kind);
         s->mark[i] = (int)ONE_OF(d, DASH, DASH, 0, 90);
+        s->height[i] = face_height(d, s);
         for (int axis = 0; axis < 3; axis++) s->area[i][axis] = area(d);
     }
 }
 
 void make_sample(dice *d, sample *s)
 {
-    int small = (int)pick(d, 0, 1);
+    int small = (int)pick(d, 0, 1), first_year = (int)pick(d, 0, 1);
     make_sized(d, s, pick(d, 0, 5), (int)pick(d, 1, small ? 2 : 8), (int)pick(d, 1, small ? 2 : 4),
-               (int)pick(d, 1, small ? 5 : 24));
+               first_year ? 0 : (int)pick(d, 1, small ? 3 : 16), (int)pick(d, 1, small ? 5 : 24));
 }
 
 static void spoil_building(dice *d, sample *s)
@@ -155,10 +192,24 @@ static void spoil_building(dice *d, sample *s)
     }
 }
 
+static void spoil_profile(dice *d, sample *s)
+{
+    int i = (int)pick(d, 0, s->steps - 1), before = i > 0 ? s->step[i - 1].height : 0;
+    int face = (int)pick(d, 0, s->faces - 1), end = pick(d, 0, 1) ? 0 : s->steps - 1;
+    switch (pick(d, 0, 5)) {
+    case 0: s->year = (int)ONE_OF(d, 0, 1, 3, 4, 5, 20, -2, 9999999); break;
+    case 1: s->step[i].height = before - (int)pick(d, 0, 1); break;
+    case 2: s->step[i].height = (int)ONE_OF(d, -1, 30001, 9999999, -9999999); break;
+    case 3: s->step[i].factor = (int)ONE_OF(d, 0, -1, 1001, 9999999); break;
+    case 4: s->height[face] = (int)ONE_OF(d, -1, 0, 30000, 30001, 9999999); break;
+    default: s->height[face] = s->step[end].height + (end ? 1 : -1); break;
+    }
+}
+
 void spoil(dice *d, sample *s)
 {
     int face = (int)pick(d, 0, s->faces - 1), wind = (int)pick(d, 0, s->winds - 1);
-    switch (pick(d, 0, 8)) {
+    switch (pick(d, 0, s->steps ? 12 : 8)) {
     case 0: s->direction[wind] = (int)ONE_OF(d, 1, 9, 45, 89, 91, 135, 180, 270, -90, 9000000); break;
     case 1: s->speed[wind] = (int)ONE_OF(d, 0, 1001, -1, 9999999, -9999999); break;
     case 2: s->internal[pick(d, 0, s->internals - 1)] = (int)ONE_OF(d, 101, -101, 1000, -9999999); break;
@@ -166,7 +217,9 @@ void spoil(dice *d, sample *s)
     case 4: s->area[face][pick(d, 0, 2)] = (int)ONE_OF(d, 100001, -100001, 9999999, -9999999); break;
     case 5:
     case 6: s->zone[face] = (char)('A' + pick(d, 0, 7)); break;
-    default: spoil_building(d, s); break;
+    case 7:
+    case 8: spoil_building(d, s); break;
+    default: spoil_profile(d, s); break;
     }
 }
 
@@ -178,15 +231,19 @@ void spoil(dice *d, sample *s)
 void write_sample(const sample *s, text *t)
 {
     t->length = 0;
+    if (s->steps) ADD(t, "V 1\n%d\n", s->year);
     ADD(t, "B 1\n%lld %lld %lld ", (long long)s->h, (long long)s->a, (long long)s->b);
     ADD(t, "%lld %lld %lld\nW %d\n", (long long)s->density, (long long)s->kind, (long long)s->x, s->winds);
     for (int i = 0; i < s->winds; i++) ADD(t, "%d %d\n", s->direction[i], s->speed[i]);
     ADD(t, "I %d\n", s->internals);
     for (int i = 0; i < s->internals; i++) ADD(t, "%d\n", s->internal[i]);
+    if (s->steps) ADD(t, "P %d\n", s->steps);
+    for (int i = 0; i < s->steps; i++) ADD(t, "%d %d\n", s->step[i].height, s->step[i].factor);
     ADD(t, "F %d\n", s->faces);
     for (int i = 0; i < s->faces; i++) {
         if (s->mark[i] == DASH) ADD(t, "%c - ", s->zone[i]);
         else ADD(t, "%c %d ", s->zone[i], s->mark[i]);
+        if (s->steps) ADD(t, "%d ", s->height[i]);
         ADD(t, "%d %d %d\n", s->area[i][0], s->area[i][1], s->area[i][2]);
     }
 }

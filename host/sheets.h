@@ -7,12 +7,13 @@
 
 typedef struct { uint64_t state; } dice;
 
-/* A job as a test holds it. A mark is a number, or DASH. */
+/* A job as a test holds it. Without a line of the profile it is of year 1. A mark is a number, or DASH. */
 enum { DASH = 99999999 };
 typedef struct {
     int64_t h, a, b, density, kind, x;
-    int winds, internals, faces;
-    int direction[8], speed[8], internal[4], mark[24], area[24][3];
+    int year, winds, internals, steps, faces;
+    int direction[8], speed[8], internal[4], mark[24], height[24], area[24][3];
+    struct { int height, factor; } step[16];
     char zone[24];
 } sample;
 
@@ -25,7 +26,7 @@ int64_t edge_of(dice *d, int64_t usual);                      /* `usual`, or a 6
 
 void make_building(dice *d, sample *s);                       /* an acceptable building */
 void make_sample(dice *d, sample *s);                         /* an acceptable job */
-void make_sized(dice *d, sample *s, int64_t kind, int winds, int internals, int faces);
+void make_sized(dice *d, sample *s, int64_t kind, int winds, int internals, int steps, int faces);
 void spoil(dice *d, sample *s);                               /* one number or letter, mostly not allowed */
 void write_sample(const sample *s, text *t);                  /* its sheet */
 void damage(dice *d, text *t);                                /* one slip, which may leave the sheet acceptable */

@@ -6,10 +6,28 @@
 
 typedef struct { int count; int64_t force[2][3]; } part; /* a face in one wind and internal: its alternatives' forces */
 
+/* The speed at a face: without a profile the wind's. From the profile's top down, then rounded down, and one more from
+   a half on. */
+static int64_t speed_at(const sample *s, int wind, int i)
+{
+    int64_t speed = s->speed[wind], over, way = 0, span = 1;
+    int k = s->steps - 1;
+    if (s->steps == 0) return speed;
+    while (s->step[k].height > s->height[i]) k--;
+    over = s->step[k].factor;
+    if (s->step[k].height < s->height[i]) {
+        span = s->step[k + 1].height - s->step[k].height;
+        way = s->height[i] - s->step[k].height;
+        over = span * s->step[k].factor + way * (s->step[k + 1].factor - s->step[k].factor);
+    }
+    int64_t whole = speed * over / (1000 * span), rest = speed * over % (1000 * span);
+    return rest >= 500 * span ? whole + 1 : whole;
+}
+
 static void face_part(const sample *s, int wind, int internal, int i, part *p)
 {
     int direction = s->direction[wind];
-    int64_t pressure = s->density * s->speed[wind] * s->speed[wind];
+    int64_t speed = speed_at(s, wind, i), pressure = s->density * speed * speed;
     memset(p, 0, sizeof *p);
     p->count = 1;
     if (s->mark[i] != DASH && s->mark[i] != direction) return;

@@ -6,12 +6,18 @@
    number  given when
    0       accepted; the line is 0 too
    1       the line is missing, unended, extra or not in the sheet's form
-   2       a count is not 1 for B, or not 1 to 8 for W, 1 to 4 for I, 1 to 24 for F
-   3       a number is outside its range, or a direction or a mark is a number other than 0 and 90
+   2       a count is not 1 for V and B, or not 1 to 8 for W, 1 to 4 for I, 1 to 16 for P, 1 to 24 for F
+   3       a number is outside its range, the year is not 2, a direction or a mark is a number other than 0 and 90, or
+           a height of the profile does not rise
    4       h/b is over 6, or a/b is not over 1, or a/b is over 4
    5       the roof number x is outside its kind's range
    6       the zone or local is not on this building
    7       the lent buffer is too short (line 0)
+   8       the face's height is outside the profile
+
+   A sheet of year 1 opens with section B. One of year 2 opens with section V and the year; it has a section P after I,
+   the profile, and a height after each face's mark. A face's speed is then the wind's times the profile's factor at its
+   height, rounded once to a tenth, a half up.
 
    `line` is the sheet's line, counted from 1: the first faulty line, and in it the lowest number. It is 0 where
    no line is at fault. The sheet is bytes, not a C string: a zero byte is a byte like another, and none ends it.
@@ -39,11 +45,12 @@ enum {
     ARAL_WALLS = 4,
     ARAL_ROOF = 5,
     ARAL_ZONE = 6,
-    ARAL_ROOM = 7
+    ARAL_ROOM = 7,
+    ARAL_HEIGHT = 8
 };
 
 /* The greatest lengths: in bytes of an acceptable sheet, a report and the digits of a number; and of a job's faces. */
-#define ARAL_SHEET_MOST 827
+#define ARAL_SHEET_MOST 1158
 #define ARAL_REPORT_MOST 474
 #define ARAL_DIGITS_MOST 20
 #define ARAL_FACES_MOST 24
@@ -88,11 +95,11 @@ typedef struct { uint32_t exact; double low, high; } aral_double;
 /* A chart point: for each axis the low and the high double of a total, the same where exact. */
 typedef struct { double x_low, x_high, y_low, y_high, z_low, z_high; } aral_point;
 
-/* Reads the n bytes of a sheet. Answers accepted, or refuses with 1 to 6 and the line. */
+/* Reads the n bytes of a sheet. Answers accepted, or refuses with 1 to 6 or 8 and the line. */
 aral_answer aral_read(const uint8_t *sheet, size_t n);
 
 /* Reads a sheet and writes the job that was read as a sheet again.
-   Refuses with 1 to 6 and the line as aral_read does; then with 7, line 0, where the text is longer than `room`.
+   Refuses with 1 to 6 or 8 and the line as aral_read does; then with 7, line 0, where the text is longer than `room`.
    The text stands at the buffer's start and the bytes after it stay as they were; a refused call changes no byte.
    No text is longer than ARAL_SHEET_MOST bytes. */
 aral_text aral_rewrite(const uint8_t *sheet, size_t n, uint8_t *out, size_t room);
@@ -103,7 +110,7 @@ aral_text aral_rewrite(const uint8_t *sheet, size_t n, uint8_t *out, size_t room
 aral_text aral_report(const uint8_t *sheet, size_t n, uint8_t *out, size_t room);
 
 /* Reads a sheet and answers one line of its report as numbers: line 1 is `x max`, 2 `x min`, to 6 `z min`.
-   Refuses with 1 to 6 and the sheet's line as aral_read does; then with 3, line 0, for another report line. */
+   Refuses with 1 to 6 or 8 and the sheet's line as aral_read does; then with 3, line 0, for another report line. */
 aral_extreme aral_total(const uint8_t *sheet, size_t n, int64_t line);
 
 /* Writes the decimal digits of any number, most significant first, after a `-` where it is negative.
@@ -113,7 +120,7 @@ aral_text aral_digits(int64_t number, uint8_t *out, size_t room);
 
 /* The outside coefficient of one place on a building under one wind direction, in thousandths, and its rows.
    Height h, longer side a and shorter side b in cm, density in g/m3, the roof's kind and its number x, as on line 2 of
-   a sheet. `place` is the letter of a zone, `A` to `H`, or `w` for the wall local, `1` for L1, `2` for L2.
+   a sheet of year 1. `place` is the letter of a zone, `A` to `H`, or `w` for the wall local, `1` for L1, `2` for L2.
    Refuses, in this order: the building with 1, 3, 4 or 5 at line 2, as its sheet would be (1 for a number of more than
    seven digits); a direction other than 0 and 90 with 3, line 0, for locals too; a place that this building has not, or
    a byte that names none, with 6, line 0. */
