@@ -80,6 +80,10 @@ static const row questions[] = {
 #define SAMPLE "B 1\n500 1200 1000 1250 2 0\nW 1\n0 400\nI 2\n20\n-30\n" \
                "F 3\nA 0 1000 0 0\nB - -1000 0 0\nF 0 0 0 -2000\n"
 #define START "B 1\n500 1200 1000 1250 0 0\nW 1\n0 400\nI 1\n0\nF 1\n"
+/* Year 2: section V stands before the building, section P on line 9. */
+#define HIGH "V 1\n2\nB 1\n500 1200 1000 1250 0 0\nW 1\n0 400\nI 1\n0\n"
+#define SLOPING HIGH "P 2\n0 800\n1200 1000\nF 1\n"
+#define LEVEL HIGH "P 1\n600 1000\nF 1\n"
 typedef struct { const char *sheet; uint32_t number, line; } verdict;
 static const verdict sheets[] = {
     {SAMPLE, 0, 0},
@@ -113,6 +117,55 @@ static const verdict sheets[] = {
     {START "A - 0 0 -0\n", 1, 8},
     {START "A - 0 0 +1\n", 1, 8},
     {START "A - 0 0 100001\n", 3, 8},
+    {START "A - 600 0 0 0\n", 1, 8},
+    {"V", 1, 1},
+    {"V 2", 1, 1},
+    {"V 2\n", 2, 1},
+    {"V 0\n", 2, 1},
+    {"V -1\n", 2, 1},
+    {"VX 1\n", 1, 1},
+    {"v 1\n2\n", 1, 1},
+    {"V 1\n", 1, 2},
+    {"V 1\n2", 1, 2},
+    {"V 1\n02\n", 1, 2},
+    {"V 1\n2 \n", 1, 2},
+    {"V 1\n10000000\n", 1, 2},
+    {"V 1\n0\n", 3, 2},
+    {"V 1\n1\n", 3, 2},
+    {"V 1\n3\n", 3, 2},
+    {"V 1\n-2\n", 3, 2},
+    {"V 1\n2\n", 1, 3},
+    {"V 1\n2\nB 2\n", 2, 3},
+    {"V 1\n2\nB 1\n500 1000 1000 1250 0 0\n", 4, 4},
+    {HIGH "F 1\n", 1, 9},
+    {HIGH "P 0\n", 2, 9},
+    {HIGH "P 17\n", 2, 9},
+    {HIGH "P 16\n", 1, 10},
+    {HIGH "P 1\n0\n", 1, 10},
+    {HIGH "P 1\n0 1 1\n", 1, 10},
+    {HIGH "P 1\n- 1\n", 1, 10},
+    {HIGH "P 1\n-1 1\n", 3, 10},
+    {HIGH "P 1\n30001 1\n", 3, 10},
+    {HIGH "P 1\n0 0\n", 3, 10},
+    {HIGH "P 1\n0 1001\n", 3, 10},
+    {HIGH "P 2\n5 1\n5 1\n", 3, 11},
+    {HIGH "P 2\n5 1\n4 1\n", 3, 11},
+    {HIGH "P 2\n5 1\n4 1 \n", 1, 11},
+    {SLOPING "A - 0 0 0\n", 1, 13},
+    {SLOPING "A - 0 0 0 0\n", 0, 0},
+    {SLOPING "A - 1200 0 0 0\n", 0, 0},
+    {SLOPING "A - 1201 0 0 0\n", 8, 13},
+    {SLOPING "A - 30000 0 0 0\n", 8, 13},
+    {SLOPING "A - 30001 0 0 0\n", 3, 13},
+    {SLOPING "A - -1 0 0 0\n", 3, 13},
+    {SLOPING "E - 1201 0 0 0\n", 6, 13},
+    {SLOPING "E - 1201 0 0 100001\n", 3, 13},
+    {SLOPING "E 45 1201 0 0 0\n", 3, 13},
+    {SLOPING "E 45 1201 0 0 00\n", 1, 13},
+    {SLOPING "A - 0 0 0 0\n\n", 1, 14},
+    {LEVEL "A - 599 0 0 0\n", 8, 12},
+    {LEVEL "A - 600 0 0 0\n", 0, 0},
+    {LEVEL "A - 601 0 0 0\n", 8, 12},
 };
 
 static const char report[] = "x max 180000000000000 1 1 1 1 1\nx min 180000000000000 1 1 1 1 1\ny max 0 1 1 1 1 1\n"
@@ -172,14 +225,53 @@ static void check_sheets(const calculator *c)
     expect(c, "P12", t.number == 0 && !memcmp(out, line, strlen(line)));
 }
 
+/* A line of the report that is worked out by hand: 0.7 on A, -0.2 on B and -0.5 on C and D, as thousandths, times 1250,
+   times the square of the face's speed, times the area. */
+typedef struct { const char *name, *sheet, *line; } reckoning;
+#define WIND(speed) "V 1\n2\nB 1\n500 1200 1000 1250 0 0\nW 1\n0 " speed "\nI 1\n0\n"
+#define NEARLY_HALF "P 2\n0 499\n2 500\nF 1\nA 0 1 1000 0 0\n" /* 0.4995 at height 1 */
+#define TWO_WALLS "P 2\n0 398\n10 595\nF 2\nD - 0 -3 0 0\nC - 0 -3 0 0\n"
+#define APART "P 2\n0 774\n10 580\nF 2\nD - 0 -1 0 0\nB - 9 2 0 0\n"
+static const reckoning reckonings[] = {
+    {"0.9 at half the height: speed 360", SLOPING "A 0 600 1000 0 0\n", "x max 113400000000000 1 1 1\n"},
+    {"on the first line: speed 320", SLOPING "A 0 0 1000 0 0\n", "x max 89600000000000 1 1 1\n"},
+    {"on the last line: speed 400", SLOPING "A 0 1200 1000 0 0\n", "x max 140000000000000 1 1 1\n"},
+    {"a profile of one line", LEVEL "A 0 600 1000 0 0\n", "x max 140000000000000 1 1 1\n"},
+    {"0.95 between the second line and the third: speed 380",
+     HIGH "P 3\n0 100\n1000 900\n3000 1000\nF 1\nA 0 2000 1000 0 0\n", "x max 126350000000000 1 1 1\n"},
+    {"each face has its own speed: 320 and 400",
+     HIGH "P 2\n0 800\n1200 1000\nF 2\nA 0 0 1000 0 0\nA 0 1200 1000 0 0\n", "x max 229600000000000 1 1 1 1\n"},
+    {"speed 1 times 0.500 is 1: a half goes up",
+     WIND("1") "P 1\n0 500\nF 1\nA 0 0 1000 0 0\n", "x max 875000000 1 1 1\n"},
+    {"speed 1 times 0.4995 is 0: the factor is not rounded first", WIND("1") NEARLY_HALF, "x max 0 1 1 1\n"},
+    {"speed 1000 times 0.4995 is 500", WIND("1000") NEARLY_HALF, "x max 218750000000000 1 1 1\n"},
+    {"where the speed is 0 the first alternative is shown",
+     "V 1\n2\nB 1\n500 1200 1000 1250 2 0\nW 1\n0 1\nI 1\n0\nP 1\n0 1\nF 1\nF 0 0 0 0 -2000\n", "z max 0 1 1 1\n"},
+    {"no face moves at speed 1", WIND("1") TWO_WALLS, "x min 0 1 1 1 1\n"},
+    {"at speed 6 the least has risen: 2 at both", WIND("6") TWO_WALLS, "x min 15000000 1 1 1 1\n"},
+    {"two heights, speed 2: 2 on D and 1 on B", WIND("2") APART, "x max 2000000 1 1 1 1\n"},
+    {"at speed 3 the greatest has fallen: 2 on both", WIND("3") APART, "x max 500000 1 1 1 1\n"},
+};
+
+static void check_reckonings(const calculator *c)
+{
+    for (size_t i = 0; i < sizeof reckonings / sizeof *reckonings; i++) {
+        char out[ARAL_REPORT_MOST + 1] = "";
+        const char *sheet = reckonings[i].sheet;
+        aral_text t = c->report((const uint8_t *)sheet, strlen(sheet), (uint8_t *)out, ARAL_REPORT_MOST);
+        expect(c, reckonings[i].name, t.number == 0 && strstr(out, reckonings[i].line));
+    }
+}
+
 /* The greatest total there is: a gable's -1.2 less an internal 1 on 24 faces of the largest area. */
-static void check_greatest(const calculator *c)
+static void check_greatest(const calculator *c, const char *year, const char *profile, const char *face)
 {
     static char sheet[1000];
     static const char line[] = "x max 7920000000000000000 1 1 1 1";
     uint8_t out[1000];
-    strcpy(sheet, "B 1\n500 1200 1000 1500 1 100\nW 1\n0 1000\nI 1\n100\nF 24\n");
-    for (int i = 0; i < 24; i++) strcat(sheet, "E 0 -100000 100000 0\n");
+    strcat(strcpy(sheet, year), "B 1\n500 1200 1000 1500 1 100\nW 1\n0 1000\nI 1\n100\n");
+    strcat(strcat(sheet, profile), "F 24\n");
+    for (int i = 0; i < 24; i++) strcat(sheet, face);
     aral_text t = c->report((const uint8_t *)sheet, strlen(sheet), out, sizeof out);
     expect(c, "the greatest total", t.number == 0 && !memcmp(out, line, strlen(line)));
 }
@@ -202,7 +294,9 @@ int main(void)
         check_table(&both[i]);
         check_questions(&both[i]);
         check_sheets(&both[i]);
-        check_greatest(&both[i]);
+        check_reckonings(&both[i]);
+        check_greatest(&both[i], "", "", "E 0 -100000 100000 0\n");
+        check_greatest(&both[i], "V 1\n2\n", "P 1\n30000 1000\n", "E 0 30000 -100000 100000 0\n");
         check_doubles(&both[i]);
     }
     printf("%d worked cases on both calculators, %d failed\n", cases, failures);
