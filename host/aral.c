@@ -25,6 +25,8 @@ static const char help[] =
     "  kind 0 none; 1 gable, x the slope in tenths of a degree; 2 flat, straight eaves; 3 parapet, x its height\n"
     "  in cm; 4 curved eaves, x the radius in cm; 5 mansard, x its angle in tenths of a degree;\n"
     "wind is 0 or 90; zone is A to H, or local is wall, L1 or L2; internal, in hundredths, asks for the net too.\n"
+    "A sheet of year 2 opens with `V 1` and the line `2`. After I it has a section P, the wind's profile: heights in\n"
+    "cm, each with its part of the speed in thousandths; and each face has a height in cm after its mark.\n"
     "\n"
     "The exit status is 0, or 1 where the sheet or the question is refused, or 2 where the command is none of these.\n";
 

@@ -5,21 +5,46 @@
 #include <string.h>
 
 enum { SHOWN = 76, FIELDS = 8, FIELD_ROOM = 24 };
-typedef enum { B_COUNT, BUILDING, W_COUNT, WIND, I_COUNT, INTERNAL, F_COUNT, FACE, AFTER } role;
+typedef enum {
+    V_COUNT, YEAR, B_COUNT, BUILDING, W_COUNT, WIND, I_COUNT, INTERNAL, P_COUNT, STEP, F_COUNT, FACE, HIGH_FACE, AFTER
+} role;
 
-static const struct { const char *what, *form; int fields; } roles[] = {
-    {"opens section B, the building: the letter B, a space and the count, which is always 1", "B 1", 2},
-    {"is the building: height h, longer side a and shorter side b in cm (100 to 30000), air density in g/m3\n"
+/* A count line has its section's letter. */
+static const struct { char letter; const char *what, *form; int fields; } roles[] = {
+    {'V', "opens section V, the year: the letter V, a space and the count, which is always 1", "V 1", 2},
+    {0, "is the year that the sheet is written for", "2", 1},
+    {'B', "opens section B, the building: the letter B, a space and the count, which is always 1", "B 1", 2},
+    {0, "is the building: height h, longer side a and shorter side b in cm (100 to 30000), air density in g/m3\n"
      "(1000 to 1500), roof kind (0 to 5) and roof number x (0 to 30000)", "500 1200 1000 1250 2 0", 6},
-    {"opens section W, the winds: the letter W, a space and how many winds follow (1 to 8)", "W 1", 2},
-    {"is wind %u of %u: its direction (0 or 90) and its speed in tenths of m/s (1 to 1000)", "0 400", 2},
-    {"opens section I, the internal coefficients: the letter I, a space and how many follow (1 to 4)", "I 1", 2},
-    {"is internal coefficient %u of %u, in hundredths (-100 to 100)", "-30", 1},
-    {"opens section F, the faces: the letter F, a space and how many follow (1 to 24)", "F 1", 2},
-    {"is face %u of %u: its zone (A to H), its mark (0, 90, or - for both winds), and its areas on x, y and z in dm2\n"
-     "(-100000 to 100000)", "A 0 1000 0 0", 5},
-    {"is after the last face, where the sheet must end", "", 0},
+    {'W', "opens section W, the winds: the letter W, a space and how many winds follow (1 to 8)", "W 1", 2},
+    {0, "is wind %u of %u: its direction (0 or 90) and its speed in tenths of m/s (1 to 1000)", "0 400", 2},
+    {'I', "opens section I, the internal coefficients: the letter I, a space and how many follow (1 to 4)", "I 1", 2},
+    {0, "is internal coefficient %u of %u, in hundredths (-100 to 100)", "-30", 1},
+    {'P', "opens section P, the wind's profile: the letter P, a space and how many lines follow (1 to 16)", "P 2", 2},
+    {0, "is line %u of %u of the profile: a height in cm (0 to 30000), each above the one before it, and the part of\n"
+     "the wind's speed that blows there, in thousandths (1 to 1000)", "1200 950", 2},
+    {'F', "opens section F, the faces: the letter F, a space and how many follow (1 to 24)", "F 1", 2},
+    {0, "is face %u of %u: its zone (A to H), its mark (0, 90, or - for both winds), and its areas on x, y and z in\n"
+     "dm2 (-100000 to 100000)", "A 0 1000 0 0", 5},
+    {0, "is face %u of %u: its zone (A to H), its mark (0, 90, or - for both winds), its height in cm (within the\n"
+     "profile), and its areas on x, y and z in dm2 (-100000 to 100000)", "A 0 600 1000 0 0", 6},
+    {0, "is after the last face, where the sheet must end", "", 0},
 };
+
+/* The sections of a sheet in order: of year 1, and of one that opens with V. */
+typedef struct { role count, entry; } section;
+static const section first_year[] = {
+    {B_COUNT, BUILDING}, {W_COUNT, WIND}, {I_COUNT, INTERNAL}, {F_COUNT, FACE}, {AFTER, AFTER}};
+static const section later_years[] = {
+    {V_COUNT, YEAR}, {B_COUNT, BUILDING}, {W_COUNT, WIND}, {I_COUNT, INTERNAL}, {P_COUNT, STEP}, {F_COUNT, HIGH_FACE},
+    {AFTER, AFTER}};
+
+static int later_year(const uint8_t *sheet, size_t n) { return n > 0 && sheet[0] == 'V'; }
+
+static const section *sections_of(const uint8_t *sheet, size_t n)
+{
+    return later_year(sheet, n) ? later_years : first_year;
+}
 
 /* ---- Finding the line ---- */
 
@@ -57,14 +82,23 @@ static role role_at(const uint8_t *sheet, size_t n, uint32_t line, uint32_t *ite
 {
     uint32_t opens = 1;
     *item = *count = 0;
-    for (role r = B_COUNT; r < AFTER; r += 2) {
-        if (line == opens) return r;
+    for (const section *s = sections_of(sheet, n); s->count != AFTER; s++) {
+        if (line == opens) return s->count;
         *count = count_at(sheet, n, opens);
         *item = line - opens;
-        if (*item <= *count) return r + 1;
+        if (*item <= *count) return s->entry;
         opens += *count + 1;
     }
     return AFTER;
+}
+
+/* The line that opens a section of the sheet, given that every section before it was accepted. */
+static uint32_t opening_of(const uint8_t *sheet, size_t n, role count)
+{
+    uint32_t opens = 1;
+    for (const section *s = sections_of(sheet, n); s->count != count && s->count != AFTER; s++)
+        opens += count_at(sheet, n, opens) + 1;
+    return opens;
 }
 
 /* ---- Showing it ---- */
@@ -101,6 +135,15 @@ static int cut(const line_text *t, char field[FIELDS][FIELD_ROOM])
     return count;
 }
 
+/* The first numbers of a line that was accepted. */
+static void numbers_at(const uint8_t *sheet, size_t n, uint32_t line, int count, long *value)
+{
+    char field[FIELDS][FIELD_ROOM];
+    line_text t = line_at(sheet, n, line);
+    cut(&t, field);
+    for (int i = 0; i < count; i++) value[i] = strtol(field[i], NULL, 10);
+}
+
 /* ---- 1: the form ---- */
 
 static const char *field_slip(const char *field)
@@ -115,22 +158,30 @@ static const char *field_slip(const char *field)
     return plain > 7 ? "a number has at most 7 digits" : NULL;
 }
 
-static int is_letter(const char *field, char first, char last) { return *field >= first && *field <= last && !field[1]; }
+static int is_letter(const char *field, char first, char last)
+{
+    return *field >= first && *field <= last && !field[1];
+}
+
+static int is_face(role r) { return r == FACE || r == HIGH_FACE; }
 
 static const char *form_slip(const line_text *t, role r, char field[FIELDS][FIELD_ROOM], int count)
 {
-    static const char letters[] = "B.W.I.F";
+    char letter = roles[r].letter;
     if (memchr(t->start, '\r', t->length)) return "a carriage return stands in it: save the sheet with LF line ends";
     if (memchr(t->start, '\t', t->length)) return "fields are parted by one space, not by a tab";
     if (t->length == 0) return "the line is empty";
     for (int i = 0; i < count && i < FIELDS; i++)
         if (!*field[i]) return "there is one space between fields, none before the first and none after the last";
-    if (r % 2 == 0 && !is_letter(field[0], letters[r], letters[r])) return "it must open with another letter";
+    if (letter && !is_letter(field[0], letter, letter))
+        return r == B_COUNT ? "it must open with B, or a sheet of year 2 with V" : "it must open with another letter";
     for (int i = 0; i < count && i < FIELDS; i++)
         if (field_slip(field[i])) return field_slip(field[i]);
+    if (r == FACE && count == 6) return "a face has a height only in a sheet that opens with `V 1`";
+    if (r == HIGH_FACE && count == 5) return "in a sheet that opens with `V 1` each face has a height after its mark";
     if (count < roles[r].fields) return "there are fewer fields than this line needs";
     if (count > roles[r].fields) return "there are more fields than this line has";
-    if (r == FACE && !is_letter(field[0], 'A', 'H')) return "a face opens with a zone letter, A to H";
+    if (is_face(r) && !is_letter(field[0], 'A', 'H')) return "a face opens with a zone letter, A to H";
     return t->ended ? "a field is not a number" : "the line has no line end: press Enter after it, the last line too";
 }
 
@@ -148,7 +199,9 @@ static void say_range(const char *name, const char *field, long least, long grea
 {
     long value = strtol(field, NULL, 10);
     if (value >= least && value <= greatest) return;
-    printf("The %s is %ld; it must be %ld to %ld.\n", name, value, least, greatest);
+    printf("The %s is %ld; it must be %ld", name, value, least);
+    if (least < greatest) printf(" to %ld", greatest);
+    printf(".\n");
 }
 
 static void say_direction(const char *name, const char *field, const char *allowed)
@@ -157,23 +210,54 @@ static void say_direction(const char *name, const char *field, const char *allow
     printf("The %s is %s; it must be %s.\n", name, field, allowed);
 }
 
-static void explain_range(role r, char field[FIELDS][FIELD_ROOM])
+static void explain_year(const char *field)
+{
+    say_range("year", field, 2, 2);
+    if (!strcmp(field, "1")) printf("A sheet of year 1 has no section V: it opens with `B 1`.\n");
+}
+
+/* Line `item` of the profile, after a line that was accepted. */
+static void explain_step(const uint8_t *sheet, size_t n, uint32_t item, char field[FIELDS][FIELD_ROOM])
+{
+    long before, height = strtol(field[0], NULL, 10);
+    say_range("height", field[0], 0, 30000);
+    say_range("factor", field[1], 1, 1000);
+    if (item == 1) return;
+    numbers_at(sheet, n, opening_of(sheet, n, P_COUNT) + item - 1, 1, &before);
+    if (height > before) return;
+    printf("The height is %ld and the line before has %ld: a profile goes up, each height above the last.\n", height,
+           before);
+}
+
+static void explain_face(int high, char field[FIELDS][FIELD_ROOM])
+{
+    static const char *const axis[] = {"area on x", "area on y", "area on z"};
+    say_direction("mark", field[1], "0, 90, or - for both winds");
+    if (high) say_range("height", field[2], 0, 30000);
+    for (int i = 0; i < 3; i++) say_range(axis[i], field[2 + high + i], -100000, 100000);
+}
+
+static void explain_house(char field[FIELDS][FIELD_ROOM])
 {
     static const char *const side[] = {"height h", "longer side a", "shorter side b"};
-    static const char *const axis[] = {"area on x", "area on y", "area on z"};
-    if (r == BUILDING) {
-        for (int i = 0; i < 3; i++) say_range(side[i], field[i], 100, 30000);
-        say_range("air density", field[3], 1000, 1500);
-        say_range("roof kind", field[4], 0, 5);
-        say_range("roof number x", field[5], 0, 30000);
-    } else if (r == WIND) {
+    for (int i = 0; i < 3; i++) say_range(side[i], field[i], 100, 30000);
+    say_range("air density", field[3], 1000, 1500);
+    say_range("roof kind", field[4], 0, 5);
+    say_range("roof number x", field[5], 0, 30000);
+}
+
+static void explain_range(const uint8_t *sheet, size_t n, role r, uint32_t item, char field[FIELDS][FIELD_ROOM])
+{
+    switch (r) {
+    case YEAR: explain_year(field[0]); break;
+    case BUILDING: explain_house(field); break;
+    case WIND:
         say_direction("direction", field[0], "0 or 90");
         say_range("speed", field[1], 1, 1000);
-    } else if (r == INTERNAL) {
-        say_range("internal coefficient", field[0], -100, 100);
-    } else {
-        say_direction("mark", field[1], "0, 90, or - for both winds");
-        for (int i = 0; i < 3; i++) say_range(axis[i], field[2 + i], -100000, 100000);
+        break;
+    case INTERNAL: say_range("internal coefficient", field[0], -100, 100); break;
+    case STEP: explain_step(sheet, n, item, field); break;
+    default: explain_face(r == HIGH_FACE, field); break;
     }
 }
 
@@ -216,25 +300,32 @@ void print_roof(int64_t kind, int64_t x)
     if (kind == 3 || kind == 4) printf(" %d cm", (int)x);
 }
 
-static void building_numbers(const uint8_t *sheet, size_t n, long value[6])
-{
-    char field[FIELDS][FIELD_ROOM];
-    line_text t = line_at(sheet, n, 2);
-    cut(&t, field);
-    for (int i = 0; i < 6; i++) value[i] = strtol(field[i], NULL, 10);
-}
-
 static void explain_building(const uint8_t *sheet, size_t n, uint32_t number, const char *zone)
 {
+    uint32_t line = opening_of(sheet, n, B_COUNT) + 1;
     long value[6];
-    building_numbers(sheet, n, value);
+    numbers_at(sheet, n, line, 6, value);
     if (number == 4) explain_ratio(value[0], value[1], value[2]);
     if (number == 5) explain_roof(value[0], value[4], value[5]);
     if (number == 6) {
         printf("Zone %s is not on this building, which has ", zone);
         print_roof(value[4], value[5]);
-        printf(" (kind %ld on line 2): its zones are %s.\n", value[4], zones_of(value[4]));
+        printf(" (kind %ld on line %u): its zones are %s.\n", value[4], line, zones_of(value[4]));
     }
+}
+
+/* ---- 8: the height ---- */
+
+static void explain_height(const uint8_t *sheet, size_t n, const char *field)
+{
+    uint32_t opens = opening_of(sheet, n, P_COUNT), last = opens + count_at(sheet, n, opens);
+    long height = strtol(field, NULL, 10), least, greatest;
+    numbers_at(sheet, n, opens + 1, 1, &least);
+    numbers_at(sheet, n, last, 1, &greatest);
+    printf("The face stands at %ld cm, %s the profile, which ", height, height < least ? "below" : "above");
+    if (opens + 1 == last) printf("has the one height %ld (line %u).\n", least, last);
+    else printf("goes from %ld (line %u) to %ld (line %u).\n", least, opens + 1, greatest, last);
+    printf("Outside the profile no speed is known: correct the height, or give the profile a line that reaches it.\n");
 }
 
 void explain(const uint8_t *sheet, size_t n, aral_answer refusal)
@@ -242,17 +333,18 @@ void explain(const uint8_t *sheet, size_t n, aral_answer refusal)
     static const char *const title[] = {
         "", "not in form", "a count outside its limits", "a number outside its range",
         "proportions that the tables do not cover", "a roof number that its kind does not allow",
-        "a zone that is not on this building", "no room"};
+        "a zone that is not on this building", "no room", "a height outside the profile"};
     char field[FIELDS][FIELD_ROOM];
     uint32_t item, count;
     role r = role_at(sheet, n, refusal.line, &item, &count);
     line_text t = line_at(sheet, n, refusal.line);
-    printf("refused with %u at line %u: %s\n", refusal.number, refusal.line, title[refusal.number & 7]);
+    printf("refused with %u at line %u: %s\n", refusal.number, refusal.line, title[refusal.number]);
     show_line(refusal.line, &t);
     cut(&t, field);
     if (refusal.number == 1) explain_form(&t, r);
     else if (refusal.number == 2) printf("The count is %s.\n", field[1]);
-    else if (refusal.number == 3) explain_range(r, field);
+    else if (refusal.number == 3) explain_range(sheet, n, r, item, field);
+    else if (refusal.number == 8) explain_height(sheet, n, field[2]);
     else explain_building(sheet, n, refusal.number, field[0]);
     printf("Line %u ", refusal.line);
     printf(roles[r].what, item, count);
@@ -260,14 +352,28 @@ void explain(const uint8_t *sheet, size_t n, aral_answer refusal)
     printf(".\n");
 }
 
+static void describe_profile(const uint8_t *sheet, size_t n)
+{
+    uint32_t opens = opening_of(sheet, n, P_COUNT), count = count_at(sheet, n, opens);
+    long year, first[2], last[2];
+    numbers_at(sheet, n, 2, 1, &year);
+    numbers_at(sheet, n, opens + 1, 2, first);
+    numbers_at(sheet, n, opens + count, 2, last);
+    printf("It is of year %ld: each face has the wind's speed at its own height. Lines of the profile: %u,\n", year,
+           count);
+    printf("from %ld/1000 of the speed at %ld cm to %ld/1000 at %ld cm.\n", first[1], first[0], last[1], last[0]);
+}
+
 void describe(const uint8_t *sheet, size_t n)
 {
+    uint32_t count[3];
+    static const role counted[] = {W_COUNT, I_COUNT, F_COUNT};
     long value[6];
-    uint32_t winds = count_at(sheet, n, 3), internals = count_at(sheet, n, 4 + winds);
-    uint32_t faces = count_at(sheet, n, 5 + winds + internals);
-    building_numbers(sheet, n, value);
-    printf("accepted: winds %u, internal coefficients %u, faces %u\n", winds, internals, faces);
+    for (int i = 0; i < 3; i++) count[i] = count_at(sheet, n, opening_of(sheet, n, counted[i]));
+    numbers_at(sheet, n, opening_of(sheet, n, B_COUNT) + 1, 6, value);
+    printf("accepted: winds %u, internal coefficients %u, faces %u\n", count[0], count[1], count[2]);
     printf("The building is %ld cm high and %ld by %ld cm wide, with ", value[0], value[1], value[2]);
     print_roof(value[4], value[5]);
     printf("; its zones are %s.\n", zones_of(value[4]));
+    if (later_year(sheet, n)) describe_profile(sheet, n);
 }
