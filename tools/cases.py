@@ -10,11 +10,17 @@ between cases.
 import sys
 
 B, W, I, F = 'B 1\n500 1200 1000 1250 0 0\n', 'W 1\n0 400\n', 'I 1\n20\n', 'F 1\nA 0 1000 0 0\n'
+# of year 2, where the building stands on line 4, the profile's count on line 9 and this face on line 13
+V, P, HIGH = 'V 1\n2\n', 'P 2\n0 800\n1200 1000\n', 'F 1\nA 0 600 1000 0 0\n'
 cases = []
 
 
 def sheet(b=B, w=W, i=I, f=F):
     return b + w + i + f
+
+
+def high(v=V, b=B, w=W, i=I, p=P, f=HIGH):
+    return v + b + w + i + p + f
 
 
 def case(title, text, answer):
@@ -66,17 +72,73 @@ case('point 14: one LF more', sheet() + '\n', 'refused 1 9')
 case('point 14: one space more', sheet() + ' ', 'refused 1 9')
 case('the first faulty line counts: line 4 before line 6', sheet(w='W 1\n0 1001\n', i='I 1\n5 5\n'), 'refused 3 4')
 
-# Every line as long as it may be: 41 lines of 827 bytes. Parapet at x/h 0.10, zone F: +0.200, then -0.200; internal -1.000.
+# Year 2: the face's speed is the wind's times the factor at its height, rounded once to a tenth.
+case('year 2: 0.9 at half the height, speed 360', high(), six(500 * 1250 * 360 ** 2 * 1000))
+case('year 2: on the first line of the profile, speed 320', high(f='F 1\nA 0 0 1000 0 0\n'), six(500 * 1250 * 320 ** 2 * 1000))
+case('year 2: on the last line of the profile, speed 400', high(f='F 1\nA 0 1200 1000 0 0\n'), six(500 * 1250 * 400 ** 2 * 1000))
+case('year 2: a profile of one line', high(p='P 1\n600 750\n'), six(500 * 1250 * 300 ** 2 * 1000))
+case('year 2: 0.95 between the second line and the third, speed 380',
+     high(p='P 3\n0 100\n1000 900\n3000 1000\n', f='F 1\nA 0 2000 1000 0 0\n'), six(500 * 1250 * 380 ** 2 * 1000))
+case('year 2: marked for the other direction: adds nothing', high(f='F 1\nA 90 600 1000 0 0\n'), six(0))
+case('speed 1, factor 500: a half goes up', high(w='W 1\n0 1\n', p='P 1\n600 500\n'), six(500 * 1250 * 1 * 1000))
+case('point 31: speed 1, factor 499: 0', high(w='W 1\n0 1\n', p='P 1\n600 499\n'), six(0))
+case('point 31: the factor 499.5 is not rounded up before the product', high(w='W 1\n0 1\n', p='P 2\n599 499\n601 500\n'), six(0))
+case('point 31: nor down, speed 500', high(w='W 1\n0 1000\n', p='P 2\n599 499\n601 500\n'), six(500 * 1250 * 500 ** 2 * 1000))
+case('point 29: V', 'V', 'refused 1 1')
+case('point 29: V 2', 'V 2\n', 'refused 2 1')
+case('point 29: VX 1', 'VX 1\n', 'refused 1 1')
+case('point 29: V 1 and nothing more', 'V 1\n', 'refused 1 2')
+case('point 19: V line 1', high(v='V 1\n1\n'), 'refused 3 2')
+case('V line 0', high(v='V 1\n0\n'), 'refused 3 2')
+case('V line 02', high(v='V 1\n02\n'), 'refused 1 2')
+case('V line 2 2', high(v='V 1\n2 2\n'), 'refused 1 2')
+case('point 19: the building on line 4', high(b='B 1\n500 1000 1000 1250 0 0\n'), 'refused 4 4')
+case('year 2 without a profile', high(p=''), 'refused 1 9')
+case('a profile in year 1', high(v='', f=F), 'refused 1 7')
+case('a height in year 1', sheet(f=HIGH), 'refused 1 8')
+case('no height in year 2', high(f=F), 'refused 1 13')
+for count in ('0', '17', '-1'):
+    case(f'P {count}', high(p=f'P {count}\n'), 'refused 2 9')
+case('P 2 with one line', high(p='P 2\n0 800\n'), 'refused 1 11')
+for line in ('-1 800', '30001 800', '0 0', '0 1001'):
+    case(f'profile line {line}', high(p=f'P 1\n{line}\n'), 'refused 3 10')
+for line in ('0', '0 800 0', '- 800', '00 800'):
+    case(f'profile line {line}', high(p=f'P 1\n{line}\n'), 'refused 1 10')
+case('point 32: a height that stays', high(p='P 2\n600 800\n600 1000\n'), 'refused 3 11')
+case('point 32: a height that falls', high(p='P 2\n600 800\n599 1000\n'), 'refused 3 11')
+case('point 32: a height that falls, in a line that is not in form', high(p='P 2\n600 800\n599 1000 \n'), 'refused 1 11')
+case('a height one above the profile', high(f='F 1\nA 0 1201 1000 0 0\n'), 'refused 8 13')
+case('a height one below the profile', high(p='P 2\n601 800\n1200 1000\n'), 'refused 8 13')
+case('a height out of range', high(f='F 1\nA 0 30001 1000 0 0\n'), 'refused 3 13')
+case('a height below 0', high(f='F 1\nA 0 -1 1000 0 0\n'), 'refused 3 13')
+case('point 32: 6 before 8', high(f='F 1\nE 0 1201 1000 0 0\n'), 'refused 6 13')
+case('point 32: 3 before 6', high(f='F 1\nE 0 1201 1000 0 100001\n'), 'refused 3 13')
+case('year 2: one LF more', high() + '\n', 'refused 1 14')
+
+# Every line as long as it may be: 41 lines of 827 bytes in year 1. Parapet at x/h 0.10, zone F: +0.200, then -0.200; internal -1.000.
 before = 'B 1\n30000 30000 10000 1500 3 3000\n' + 'W 8\n' + '90 1000\n' * 8 + 'I 4\n' + '-100\n' * 4 + 'F 24\n'
 longest = before + 'F 90 -100000 -100000 -100000\n' * 24
 assert len(longest) == 827
 least, greatest = (24 * net * 1500 * 1000 ** 2 * -100000 for net in (1200, 800))
 lines = ''.join(f'{axis} max {greatest} 1 1{" 2" * 24}\n{axis} min {least} 1 1{" 1" * 24}\n' for axis in 'xyz')
-case('point 15: the longest acceptable sheet, 827 bytes', longest, lines)
+case('point 15: the longest acceptable sheet of year 1, 827 bytes', longest, lines)
 case('point 15: a longest line in form behind it is still 1 at its own number',
      longest + '9999999 9999999 9999999 9999999 9999999 -999999\n' * 3, 'refused 1 42')
 case('point 15: the last of 24 faces out of range, the line at its longest',
      before + 'F 90 -100000 -100000 -100000\n' * 23 + 'F 90 -9999999 -9999999 -9999999\n', 'refused 3 41')
+
+# In year 2 there are 6 bytes of section V more, 5 + 16 x 11 of section P and 6 for each of 24 heights. The factor is 1.
+steps = 'P 16\n' + ''.join(f'{height} 1000\n' for height in range(29985, 30001))
+before = V + before.replace('F 24\n', steps + 'F 24\n')
+longest = before + 'F 90 29985 -100000 -100000 -100000\n' * 24
+assert len(longest) == 827 + 6 + 5 + 16 * 11 + 24 * 6 == 1158
+case('point 15: the longest acceptable sheet, of year 2, 1158 bytes', longest, lines)
+case('point 15: a longest line in form behind it too',
+     longest + '9999999 9999999 9999999 9999999 9999999 -999999\n' * 3, 'refused 1 61')
+case('point 15: the last of 24 faces out of range, the line at its longest, in year 2',
+     before + 'F 90 29985 -100000 -100000 -100000\n' * 23 + 'F -9999999 -9999999 -9999999 -9999999 -9999999\n', 'refused 3 60')
+case('point 15: the last of 24 faces one below the profile',
+     before + 'F 90 29985 -100000 -100000 -100000\n' * 23 + 'F 90 29984 -100000 -100000 -100000\n', 'refused 8 60')
 
 # refused sheets, a line each: number, line, and the text with its ends written out
 with open(__file__.replace('cases.py', 'sheets.txt')) as listed:
