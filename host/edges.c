@@ -146,17 +146,19 @@ static void every_digit(void)
     for (int i = 0; i < 58; i++) write_rooms(digits_of, plain_digits_of, (const uint8_t *)&number[i], 8, 20);
 }
 
-/* The longest acceptable sheet: every count and every field as long as it may be. */
-static void longest(text *t)
+/* The longest acceptable sheet of year 1, or of year 2: every count and every field as long as it may be. */
+static void longest(int year, text *t)
 {
-    static sample s = {.h = 12000, .a = 12000, .b = 10000, .density = 1250, .kind = 4, .x = 1200, .year = 2,
-                       .winds = 8, .internals = 4, .steps = 16, .faces = 24};
+    static sample s = {.h = 12000, .a = 12000, .b = 10000, .density = 1250, .kind = 4, .x = 1200, .winds = 8,
+                       .internals = 4, .faces = 24};
+    s.year = year;
+    s.steps = year == 1 ? 0 : 16;
     for (int i = 0; i < 8; i++) {
         s.direction[i] = 90;
         s.speed[i] = 1000;
     }
     for (int i = 0; i < 4; i++) s.internal[i] = -100;
-    for (int i = 0; i < 16; i++) {
+    for (int i = 0; i < s.steps; i++) {
         s.step[i].height = 10000 + i;
         s.step[i].factor = 1000;
     }
@@ -167,7 +169,8 @@ static void longest(text *t)
         for (int axis = 0; axis < 3; axis++) s.area[i][axis] = -100000;
     }
     write_sample(&s, t);
-    if (t->length != ARAL_SHEET_MOST || aral_read(t->byte, t->length).number) fail("the longest sheet");
+    if (t->length != (year == 1 ? 827 : ARAL_SHEET_MOST)) fail("the longest sheet's length");
+    if (aral_read(t->byte, t->length).number) fail("the longest sheet");
 }
 
 static void no_pointers(const text *t)
@@ -215,11 +218,13 @@ int main(int argc, char **argv)
     output = make_fence(PAGE);
     watch_pages();
     printf("seed %s\n", argv[1]);
-    longest(&t);
-    very_long(&t);
-    every_length(&t);
+    for (int year = 1; year <= 2; year++) {
+        longest(year, &t);
+        very_long(&t);
+        every_length(&t);
+        no_pointers(&t);
+    }
     every_digit();
-    no_pointers(&t);
     for (unsigned long i = 0, cases = strtoul(argv[2], NULL, 10); i < cases; i++) {
         make_sample(&die, &s);
         write_sample(&s, &t);
