@@ -23,19 +23,7 @@ use super::walls::wall_number;
 use super::walls::wall_row;
 use super::walls::wall_value;
 use building::Sizes;
-
-// On a wall: A to D, and the wall's local.
-fn wall_place(place: u8) -> bool
-    ensures { λ r. ⌜ r ≡ wallPlace place ⌝ }
-{
-    if place < b'A' {
-        return false;
-    }
-    if place <= b'D' {
-        return true;
-    }
-    place == b'w'
-}
+use building::kinds::wall_place;
 
 fn wall_column(wind: u64, place: u8) -> usize
     requires { ⌜ wallPlace place ≡ true ⌝ }

@@ -11,7 +11,7 @@ use Rattle.building.specs.declared.Building.{Building}
 use Rattle.building.specs.declared.Sizes.{Sizes}
 use Rattle.building.specs.Test.{beyond, tooLong}
 use Rattle.building.specs.Ratio.{_÷_, upTo}
-use Rattle.building.specs.Roof.{roofOf}
+use Rattle.building.specs.Roof.{lastKind, roofOf}
 use Rattle.building.specs.Order.{Ranged, SizesInOrder}
 use Rattle.building.specs.Building.{begun, outOfForm, outOfRange, outOfWalls, outOfRoof, sizes, buildingFault}
 use Rattle.building.specs.Building.{givenFault}
@@ -37,7 +37,7 @@ pub record Fields (g : Building) : Type 0 where
   pub a : Within 100 30000 (g .a)
   pub b : Within 100 30000 (g .b)
   pub density : Within 1000 1500 (g .density)
-  pub kind : Within 0 5 (g .kind)
+  pub kind : Within 0 lastKind (g .kind)
   pub x : Within 0 30000 (g .x)
 
 pub fields : (g : Building) → outOfRange g ≡ false → Fields g
@@ -47,14 +47,14 @@ fields g e =
     let r₂ = or-false (beyond (pos 100) (pos 30000) (g .a)) _ (r₁ .1) in
     let r₃ = or-false (beyond (pos 100) (pos 30000) (g .b)) _ (r₂ .1) in
     let r₄ = or-false (beyond (pos 1000) (pos 1500) (g .density)) _ (r₃ .1) in
-    let r₅ = or-false (beyond (pos 0) (pos 5) (g .kind)) _ (r₄ .1) in
+    let r₅ = or-false (beyond (pos 0) (pos lastKind) (g .kind)) _ (r₄ .1) in
     let r₆ = or-false (beyond (pos 0) (pos 30000) (g .x)) false (r₅ .1) in
     record {
       h = within 100 30000 (g .h) (r₁ .0);
       a = within 100 30000 (g .a) (r₂ .0);
       b = within 100 30000 (g .b) (r₃ .0);
       density = within 1000 1500 (g .density) (r₄ .0);
-      kind = within 0 5 (g .kind) (r₅ .0);
+      kind = within 0 lastKind (g .kind) (r₅ .0);
       x = within 0 30000 (g .x) (r₆ .0);
     }
 

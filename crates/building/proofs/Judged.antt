@@ -1,7 +1,7 @@
 -- A question's four outcomes, in the order of its checks; and that the sizes of one in order are those of a building
 -- in order, with a roof where its place needs one.
 use mathlib.Core.Path.{_≡_, refl, sym, subst}
-use mathlib.Core.Bool.{Bool, true, false, _||_}
+use mathlib.Core.Bool.{Bool, true, false}
 use Prim.Native.Nat.{ℕ, zero, suc, _<_}
 use lib.Dec.{eqb}
 use lib.IntN.{ℤ}
@@ -13,10 +13,10 @@ use Rattle.building.specs.declared.Question.{Question}
 use Rattle.building.specs.declared.Question.the-variants.{Of, Refused}
 use Rattle.building.specs.Order.{SizesInOrder}
 use Rattle.building.specs.Building.{buildingFault, givenFault, sizes}
-use Rattle.building.specs.Places.{zoneOn, localOn, knows, wallPlace}
+use Rattle.building.specs.Places.{knows, wallPlace, placeOn}
 use Rattle.building.specs.Question.{refuse, askedOf}
 use Rattle.building.proofs.Accepted.{in-order, given-none, none-given}
-use Rattle.building.proofs.Places.{needs-roof}
+use Rattle.building.proofs.Places.{needs-roof, place-there}
 
 refuse-some : (n line : ℕ) (a : Question) → (n ≡ 0 → ⊥) → refuse n line a ≡ Refused (refusal n line)
 refuse-some zero line a h = absurd (h refl)
@@ -24,7 +24,7 @@ refuse-some (suc n) line a h = refl
 
 module _ (g : Building) (direction : ℤ) (place : ℕ) where
   abbrev pub On : Bool → Type 0
-  On t = (zoneOn (g .kind) place || localOn (g .kind) place) ≡ t
+  On t = placeOn (g .kind) direction place ≡ t
 
   pub bad-building : (givenFault g ≡ 0 → ⊥) → askedOf g direction place ≡ Refused (refusal (givenFault g) 2)
   unfolding askedOf
@@ -57,7 +57,7 @@ module _ (g : Building) (direction : ℤ) (place : ℕ) where
   pub question-fits : FitIn (askedOf g direction place)
   question-fits =
       go (eqb (givenFault g) 0) (knows (g .kind) direction)
-      (zoneOn (g .kind) place || localOn (g .kind) place) refl refl refl
+      (placeOn (g .kind) direction place) refl refl refl
     where
       go : (t u v : Bool) → eqb (givenFault g) 0 ≡ t → knows (g .kind) direction ≡ u → On v
           → FitIn (askedOf g direction place)
@@ -66,5 +66,6 @@ module _ (g : Building) (direction : ℤ) (place : ℕ) where
       go true true false p q r = subst FitIn (sym (bad-place (none-given g (eqb-true (givenFault g) 0 p)) q r)) tt
       go true true true p q r =
           let e = none-given g (eqb-true (givenFault g) 0 p) in
+          let on = place-there (g .kind) direction place r in
           subst FitIn (sym (in-question e q r))
-          (record { order = in-order g e; roofed = λ w. needs-roof (g .kind) place w r })
+          (record { order = in-order g e; roofed = λ w. needs-roof (g .kind) place w on })

@@ -9,7 +9,7 @@ use Rattle.building.specs.declared.Sizes.{Sizes}
 use Rattle.building.specs.Test.{beyond, tooLong}
 use Rattle.building.specs.Fault.{Fault, fault, first}
 use Rattle.building.specs.Ratio.{_÷_, upTo}
-use Rattle.building.specs.Roof.{roofOf, alongOf, acrossOf}
+use Rattle.building.specs.Roof.{lastKind, roofOf, alongOf, acrossOf}
 
 -- ---- 3: each number by itself
 
@@ -28,7 +28,7 @@ ranges g =
     ∷ range (g .a) 100 30000
     ∷ range (g .b) 100 30000
     ∷ range (g .density) 1000 1500
-    ∷ range (g .kind) 0 5
+    ∷ range (g .kind) 0 lastKind
     ∷ range (g .x) 0 30000
     ∷ []
 

@@ -3,7 +3,7 @@
 use mathlib.Core.Path.{_≡_}
 use Prim.Native.Nat.{_*_, _≤_, _<_}
 use Rattle.building.specs.declared.Sizes.{Sizes}
-use Rattle.building.specs.Roof.{roofOf, acrossOf}
+use Rattle.building.specs.Roof.{lastKind, roofOf, acrossOf}
 
 -- every number in its range, and so what x is compared over
 pub record Ranged (s : Sizes) : Type 0 where
@@ -13,7 +13,7 @@ pub record Ranged (s : Sizes) : Type 0 where
   pub a-most : s .a ≤ 30000
   pub b-least : 100 ≤ s .b
   pub b-most : s .b ≤ 30000
-  pub kind-most : s .kind ≤ 5
+  pub kind-most : s .kind ≤ lastKind
   pub across-least : 0 < s .across
   pub across-most : s .across ≤ 30000
 

@@ -1,6 +1,5 @@
 -- A question about one zone or local, judged: the building, with the line that it has in the sheet; then the
 -- direction; then the zone or local.
-use mathlib.Core.Bool.{_||_}
 use Prim.Native.Nat.{ℕ, zero, suc}
 use lib.IntN.{ℤ}
 use Rattle.verdict.specs.Verdict.{refusal}
@@ -9,7 +8,7 @@ use Rattle.building.specs.declared.Question.{Question}
 use Rattle.building.specs.declared.Question.the-variants.{Of, Refused}
 use Rattle.building.specs.Test.{unless}
 use Rattle.building.specs.Building.{givenFault, sizes}
-use Rattle.building.specs.Places.{zoneOn, localOn, knows}
+use Rattle.building.specs.Places.{knows, placeOn}
 
 -- a number other than 0 refuses, at that line
 abbrev pub refuse : ℕ → ℕ → Question → Question
@@ -20,5 +19,5 @@ unfoldable pub askedOf : Building → ℤ → ℕ → Question
 askedOf g direction place =
     refuse (givenFault g) 2
     (refuse (unless 3 (knows (g .kind) direction)) 0
-    (refuse (unless 6 (zoneOn (g .kind) place || localOn (g .kind) place)) 0
+    (refuse (unless 6 (placeOn (g .kind) direction place)) 0
     (Of (sizes g))))

@@ -13,7 +13,10 @@ pub record Roof : Type 0 where
 abbrev pub roof : ℕ → ℕ → Bool → Roof
 roof least greatest byHeight = record { least = least; greatest = greatest; byHeight = byHeight }
 
--- kinds 0 to 5: none; gable; flat with straight eaves, with parapet, with curved eaves, with mansard
+-- kinds 0 to 6: none; gable; flat with straight eaves, with parapet, with curved eaves, with mansard; single slope
+abbrev pub lastKind : ℕ
+lastKind = 6
+
 abbrev pub roofs : List Roof
 roofs =
     roof 0 0 false
@@ -22,6 +25,7 @@ roofs =
     ∷ roof 25 100 true
     ∷ roof 50 200 true
     ∷ roof 300 900 false
+    ∷ roof 50 300 false
     ∷ []
 
 unfoldable pub roofOf : ℕ → Roof

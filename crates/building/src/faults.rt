@@ -2,7 +2,7 @@
 ghost use mathlib.Core.Path.{_≡_};
 ghost use mathlib.Core.Bool.{false, _||_};
 ghost use Prim.Native.Nat.{_≤_};
-ghost use Rattle.building.specs.Roof.{roofOf, alongOf, acrossOf};
+ghost use Rattle.building.specs.Roof.{lastKind, roofOf, alongOf, acrossOf};
 ghost use Rattle.building.specs.Order.{Ranged};
 ghost use Rattle.building.specs.Building.{outOfForm, outOfRange, outOfWalls, outOfRoof, sizes};
 use super::Building;
@@ -35,34 +35,34 @@ pub(crate) fn out_of_range(g: Building) -> bool
         beyond(100, 30000, g.a),
         beyond(100, 30000, g.b),
         beyond(1000, 1500, g.density),
-        beyond(0, 5, g.kind),
+        beyond(0, 6, g.kind),
         beyond(0, 30000, g.x),
     )
 }
 
 // The least and the greatest x of each kind, and whether they are thousandths of h.
-const LEAST: [u64; 6] = [0, 0, 0, 25, 50, 300];
+const LEAST: [u64; 7] = [0, 0, 0, 25, 50, 300, 50];
 
-const GREATEST: [u64; 6] = [0, 600, 0, 100, 200, 900];
+const GREATEST: [u64; 7] = [0, 600, 0, 100, 200, 900, 300];
 
-const BY_HEIGHT: [bool; 6] = [false, false, false, true, true, false];
+const BY_HEIGHT: [bool; 7] = [false, false, false, true, true, false, false];
 
 fn least(kind: usize) -> u64
-    requires { ⌜ kind ≤ 5 ⌝ }
+    requires { ⌜ kind ≤ lastKind ⌝ }
     ensures { λ r. ⌜ r ≡ roofOf kind .least ⌝ }
 {
     LEAST[kind]
 }
 
 fn greatest(kind: usize) -> u64
-    requires { ⌜ kind ≤ 5 ⌝ }
+    requires { ⌜ kind ≤ lastKind ⌝ }
     ensures { λ r. ⌜ r ≡ roofOf kind .greatest ⌝ }
 {
     GREATEST[kind]
 }
 
 fn by_height(kind: usize) -> bool
-    requires { ⌜ kind ≤ 5 ⌝ }
+    requires { ⌜ kind ≤ lastKind ⌝ }
     ensures { λ r. ⌜ r ≡ roofOf kind .byHeight ⌝ }
 {
     BY_HEIGHT[kind]
@@ -70,7 +70,7 @@ fn by_height(kind: usize) -> bool
 
 // x, or 1000 x where it is compared with h.
 fn along(kind: u64, x: u64) -> u64
-    requires { ⌜ (kind ≤ 5) × (x ≤ 30000) ⌝ }
+    requires { ⌜ (kind ≤ lastKind) × (x ≤ 30000) ⌝ }
     ensures { λ r. ⌜ r ≡ alongOf kind x ⌝ }
 {
     if by_height(kind as usize) {
@@ -80,7 +80,7 @@ fn along(kind: u64, x: u64) -> u64
 }
 
 fn across(kind: u64, h: u64) -> u64
-    requires { ⌜ kind ≤ 5 ⌝ }
+    requires { ⌜ kind ≤ lastKind ⌝ }
     ensures { λ r. ⌜ r ≡ acrossOf kind h ⌝ }
 {
     if by_height(kind as usize) {

@@ -74,7 +74,10 @@ pub fn zone_on(kind: i64, zone: u8) -> bool
     tests::either(
         tests::among(b'A', b'D', zone),
         tests::either(
-            tests::both(kinds::gable(kind), tests::among(b'E', b'H', zone)),
+            tests::both(
+                tests::either(kinds::gable(kind), kinds::single(kind)),
+                tests::among(b'E', b'H', zone),
+            ),
             tests::both(kinds::flat(kind), tests::among(b'E', b'F', zone)),
         ),
     )
@@ -91,7 +94,7 @@ pub fn asked(g: Building, direction: i64, place: u8) -> Question
     if !kinds::knows(g.kind, direction) {
         return Question::Refused(Verdict { number: 3, line: 0 });
     }
-    if !tests::either(zone_on(g.kind, place), kinds::local_on(g.kind, place)) {
+    if !kinds::place_on(g.kind, direction, place) {
         return Question::Refused(Verdict { number: 6, line: 0 });
     }
     Question::Of(faults::sizes_of(g))

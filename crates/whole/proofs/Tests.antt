@@ -45,5 +45,9 @@ pub or-none : (t : Bool) → t ≡ (t || false)
 or-none true = refl
 or-none false = refl
 
+pub or-assoc : (s t u : Bool) → (s || (t || u)) ≡ ((s || t) || u)
+or-assoc true t u = refl
+or-assoc false t u = refl
+
 -- what a branch knows of two numbers, said of the tests: `search tests` closes a return that goes by cases
 pub ruleset tests = (lt-ltb, le-ltb, le-leb, lt-leb, eq-eqb, ne-eqb)

@@ -1,6 +1,6 @@
 -- `asked`: the checks in their order.
-use mathlib.Core.Path.{_≡_, sym, ap, ap₂, _∙_}
-use mathlib.Core.Bool.{true, _||_}
+use mathlib.Core.Path.{_≡_, sym, ap, _∙_}
+use mathlib.Core.Bool.{true}
 use Prim.Native.Nat.{ℕ}
 use lib.IntN.{ℤ}
 use borrow.Author.Tests.{not-true, not-false}
@@ -8,8 +8,8 @@ use borrow.Author.Needs.{needs}
 use Rattle.verdict.specs.Verdict.{refusal}
 use Rattle.building.specs.declared.Question.the-variants.{Of, Refused}
 use Rattle.building.specs.Building.{buildingFault}
-use Rattle.building.specs.Places.{knows, zoneOn, localOn}
-use Rattle.whole.proofs.Size.{said, said₂}
+use Rattle.building.specs.Places.{knows, placeOn}
+use Rattle.whole.proofs.Size.{said₂}
 use Rattle.building.proofs.Accepted.{in-range, none-given}
 use Rattle.building.proofs.Judged.{bad-building, bad-direction, bad-place, in-question}
 use Rattle.building.proofs.asked.Statement.{statement}
@@ -22,8 +22,8 @@ good c = none-given (c .before .before .args .g) (sym (c .before .given-fault .e
 abbrev start : tie.After-knows → tie.Start
 start c = c .before .before .before .before
 
-abbrev known : tie.After-either → tie.Else2
-known c = c .before .before .before .before .before
+abbrev known : tie.After-place-on → tie.Else2
+known c = c .before .before
 
 -- what the tests answered, said of the question
 direction : (c : tie.After-knows)
@@ -37,17 +37,14 @@ known-direction : (c : tie.Else2)
     → let a = start (c .before) .args in knows (a .g .kind) (a .direction) ≡ true
 known-direction c = sym (direction (c .before)) ∙ not-false _ (c .if2 .left)
 
-where-it-is : (c : tie.After-either)
-    → let a = start (known c .before) .args in
-    c .either .result ≡ (zoneOn (a .g .kind) (a .place) || localOn (a .g .kind) (a .place))
+where-it-is : (c : tie.After-place-on)
+    → let a = start (known c .before) .args in c .place-on .result ≡ placeOn (a .g .kind) (a .direction) (a .place)
 where-it-is c =
-    let l = c .before in
-    let z = l .before .before in
-    let a = start (known c .before) .args in
-    let bounds = l .before .struct-told3 .given .1 .1 .1 .1 .0 .1 in
-    c .either .ensures
-    ∙ ap₂ _||_ (said (λ (k : ℤ). zoneOn k (a .place)) (a .g .kind) (z .zone-on .ensures) bounds)
-    (said (λ (k : ℤ). localOn k (a .place)) (a .g .kind) (l .local-on .ensures) bounds)
+    let s = start (known c .before) in
+    let a = s .args in
+    let bounds = c .before .struct-told2 .given .1 .1 .1 .1 .0 .1 in
+    said₂ (λ (k z : ℤ). placeOn k z (a .place)) (a .g .kind) (a .direction) (c .place-on .ensures) bounds
+    (s .fits .direction .sfits)
 
 returns : tie.Need-returns
 returns c =
@@ -93,5 +90,5 @@ returns-4 c =
 pub asked-spec : {M : Type 1} → statement M
 asked-spec =
     tie.close
-    (tie.spec (λ c κs. search needs) returns (λ c κs. search needs) returns-2 (λ c κs. search needs)
-    (λ c κs. search needs) (λ c κs. search needs) returns-3 sizes-of-requires returns-4)
+    (tie.spec (λ c κs. search needs) returns (λ c κs. search needs) returns-2 (λ c κs. search needs) returns-3
+    sizes-of-requires returns-4)

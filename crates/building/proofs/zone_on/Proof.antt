@@ -2,7 +2,7 @@
 use mathlib.Core.Path.{ap₂, _∙_}
 use mathlib.Core.Bool.{_&&_, _||_}
 use borrow.Author.Needs.{needs}
-use Rattle.building.specs.Places.{gable, flat, zoneOn}
+use Rattle.building.specs.Places.{gable, single, flat, zoneOn}
 use Rattle.whole.proofs.Size.{said}
 use Rattle.building.proofs.zone_on.Statement.{statement}
 use Rattle.building.proofs.zone_on.Tie as tie
@@ -17,13 +17,17 @@ returns c =
     let c₆ = c₅ .before in
     let c₇ = c₆ .before in
     let c₈ = c₇ .before in
-    let s = c₈ .before in
+    let c₉ = c₈ .before in
+    let c₁₀ = c₉ .before in
+    let s = c₁₀ .before in
     let k = s .args .kind in
     let f = s .fits .kind .sfits in
-    c .either2 .ensures
-    ∙ ap₂ _||_ (c₈ .among .ensures)
-    (c .before .either .ensures
-    ∙ ap₂ _||_ (c₅ .both .ensures ∙ ap₂ _&&_ (said gable k (c₇ .gable .ensures) f) (c₆ .among2 .ensures))
+    let sloped =
+    c₇ .either .ensures ∙ ap₂ _||_ (said gable k (c₉ .gable .ensures) f) (said single k (c₈ .single .ensures) f) in
+    c .either3 .ensures
+    ∙ ap₂ _||_ (c₁₀ .among .ensures)
+    (c .before .either2 .ensures
+    ∙ ap₂ _||_ (c₅ .both .ensures ∙ ap₂ _&&_ sloped (c₆ .among2 .ensures))
     (c₂ .both2 .ensures ∙ ap₂ _&&_ (said flat k (c₄ .flat .ensures) f) (c₃ .among3 .ensures)))
 
 pub zone-on-spec : {M : Type 1} → statement M
@@ -31,4 +35,4 @@ zone-on-spec =
     tie.close
     (tie.spec (λ c κs. search needs) (λ c κs. search needs) (λ c κs. search needs) (λ c κs. search needs)
     (λ c κs. search needs) (λ c κs. search needs) (λ c κs. search needs) (λ c κs. search needs) (λ c κs. search needs)
-    returns)
+    (λ c κs. search needs) (λ c κs. search needs) returns)

@@ -2,6 +2,7 @@
 use borrow.Author.Needs.{needs}
 use lib.IntN.{pos}
 use Rattle.building.specs.Test.{beyond}
+use Rattle.building.specs.Roof.{lastKind}
 use Rattle.building.specs.Building.{outOfRange}
 use Rattle.whole.proofs.Size.{said}
 use Rattle.building.proofs.Six.{any-same}
@@ -24,7 +25,7 @@ returns c =
     (said (beyond (pos 100) (pos 30000)) (g .a) (c₂ .beyond2 .ensures) (bounds .1 .0 .1))
     (said (beyond (pos 100) (pos 30000)) (g .b) (c₃ .beyond3 .ensures) (bounds .1 .1 .0 .1))
     (said (beyond (pos 1000) (pos 1500)) (g .density) (c₄ .beyond4 .ensures) (bounds .1 .1 .1 .0 .1))
-    (said (beyond (pos 0) (pos 5)) (g .kind) (c₅ .beyond5 .ensures) (bounds .1 .1 .1 .1 .0 .1))
+    (said (beyond (pos 0) (pos lastKind)) (g .kind) (c₅ .beyond5 .ensures) (bounds .1 .1 .1 .1 .0 .1))
     (said (beyond (pos 0) (pos 30000)) (g .x) (c₆ .beyond6 .ensures) (bounds .1 .1 .1 .1 .1 .0 .1))
 
 pub out-of-range-spec : {M : Type 1} → statement M

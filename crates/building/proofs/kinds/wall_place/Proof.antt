@@ -1,9 +1,9 @@
--- `question::wall_place`: by the definition's own tests; no letter below A is the wall's local.
+-- `kinds::wall_place`: by the definition's own tests; no letter below A is the wall's local.
 use native.Mathlib.Omega.{arith}
 use borrow.Author.Tests.{le-leb, lt-leb, ne-eqb}
 use Rattle.building.specs.Places.{A, D, wallLocal}
-use Rattle.book.proofs.question.wall_place.Statement.{statement}
-use Rattle.book.proofs.question.wall_place.Tie as tie
+use Rattle.building.proofs.kinds.wall_place.Statement.{statement}
+use Rattle.building.proofs.kinds.wall_place.Tie as tie
 
 returns : tie.Need-returns
 returns c =
