@@ -1,7 +1,6 @@
 -- The answers: which case a place comes to, and how large its alternatives can be.
-use mathlib.Core.Path.{_≡_, sym, _∙_, subst}
-use mathlib.Core.Logic.{⊎-elim}
-use mathlib.Core.Bool.{Bool, true, false, _||_, true≢false}
+use mathlib.Core.Path.{_≡_, refl, sym, _∙_, subst}
+use mathlib.Core.Bool.{true, false}
 use mathlib.Core.List.{List}
 use Prim.Native.Nat.{ℕ, _≤_, _<_}
 use native.Mathlib.Omega.{arith}
@@ -17,9 +16,10 @@ use Rattle.building.specs.declared.Question.{Question}
 use Rattle.building.specs.declared.Question.the-variants as asked
 use Rattle.building.specs.Order.{SizesInOrder}
 use Rattle.building.specs.Building.{buildingFault, sizes}
-use Rattle.building.specs.Places.{E, F, wallPlace, zoneOn, localOn, knows}
+use Rattle.building.specs.Places.{E, F, wallPlace, zoneOn, knows, placeOn}
 use Rattle.building.specs.Question.{askedOf}
-use Rattle.building.proofs.Places.{among-yes, among-is, needs-roof, roof-zone}
+use Rattle.building.proofs.Places.{among-yes, among-is, needs-roof, place-there, RoofZone, of-gable}
+use Rattle.building.proofs.Places.{of-single, of-flat, roof-zone}
 use Rattle.building.proofs.Judged.{FitIn, question-fits, in-question}
 use Rattle.building.proofs.Accepted.{in-order}
 use Rattle.book.specs.declared.Answer.the-variants.{Answered}
@@ -33,7 +33,7 @@ use Rattle.book.specs.Question.{wallColumn, flatColumn, roofColumn, twoS
 use Rattle.book.specs.Question.{coefficientOf, answerTo, outsideOf}
 use Rattle.book.proofs.Between.{line-small}
 use Rattle.book.proofs.Rows.{wallRow-small}
-use Rattle.book.proofs.Roofed.{roofValue-small, flatValue-small, gableValue-small}
+use Rattle.book.proofs.Roofed.{roofValue-small, gableValue-small, singleValue-small, flatValue-small}
 
 -- ---- the three cases of a coefficient
 
@@ -59,18 +59,15 @@ signs-where kind place e =
     let r = and-true (flatRoof kind) (eqb place F) e in
     (r .0, eqb-true place F (r .1))
 
-signs-there : (kind place : ℕ) → flatRoof kind ≡ true → twoSigns kind place ≡ false → place ≡ F → ⊥
-unfolding twoSigns
-signs-there kind place f e p = true≢false (sym (rw (f, eq-eqb place F p)) ∙ e)
-
 -- the columns of E and F there
 flat-columns : (kind wind place : ℕ) → flatRoof kind ≡ true → E ≤ place → place ≤ F → roofColumn kind wind place < 2
 unfolding roofColumn flatColumn
 flat-columns kind wind place f from to =
     let k = among-yes 2 5 kind f in
-    by-test (eqb place E) (λ e. rw (ne-eqb kind 1 (λ p. omega arith), e) (lit< tt))
-    (λ e. let n = eqb-false place E e in
-    rw (ne-eqb kind 1 (λ p. omega arith), e, eq-eqb place F (omega arith)) (lit< tt))
+    let one = ne-eqb kind 1 (λ p. omega arith) in
+    let six = ne-eqb kind 6 (λ p. omega arith) in
+    by-test (eqb place E) (λ e. rw (one, six, e) (lit< tt))
+    (λ e. let n = eqb-false place E e in rw (one, six, e, eq-eqb place F (omega arith)) (lit< tt))
 
 -- ---- how large they can be
 
@@ -108,10 +105,18 @@ module _ (s : Sizes) (o : SizesInOrder s) (wind place k : ℕ) (enough : 1200 �
       (one (omega (arith, wallValue-small s (wallColumn wind place)))))
       off-wall
 
--- ---- the question
+-- that of a zone on a roof is 1.200 at most
+small-zone : (s : Sizes) → SizesInOrder s → (kind : ℤ) → s .kind ≡ natAbs kind → (wind zone : ℕ) → 0 < s .kind
+    → RoofZone kind zone → natAbs (valueAt (roofWay s) (roofColumn (s .kind) wind zone)) ≤ 1200
+small-zone s o kind e wind zone roofed (of-gable k) =
+    gableValue-small s o roofed (e ∙ k) (roofColumn (s .kind) wind zone)
+small-zone s o kind e wind zone roofed (of-single k) =
+    singleValue-small s o roofed (e ∙ k) (roofColumn (s .kind) wind zone)
+small-zone s o kind e wind zone roofed (of-flat k from to) =
+    let flat : flatRoof (s .kind) ≡ true = rw e (among-is (k .from) (k .to)) in
+    flatValue-small s o roofed flat (roofColumn (s .kind) wind zone) (flat-columns (s .kind) wind zone flat from to)
 
-or-true : (t u : Bool) → t ≡ true → (t || u) ≡ true
-or-true t u e = rw e
+-- ---- the question
 
 -- each alternative is 2.500 in size at most
 abbrev pub Small : List ℤ → Type 0
@@ -122,27 +127,24 @@ small-of (one h) = (h, tt)
 small-of (two h k e f) = (h, (k, tt))
 
 module _ (g : Building) (direction : ℤ) (place : ℕ) where
-  pub answered : buildingFault g ≡ 0 → knows (g .kind) direction ≡ true
-      → (zoneOn (g .kind) place || localOn (g .kind) place) ≡ true
+  pub answered : buildingFault g ≡ 0 → knows (g .kind) direction ≡ true → placeOn (g .kind) direction place ≡ true
       → outsideOf g direction place ≡ Answered (coefficientOf (sizes g) (natAbs direction) place)
   unfolding outsideOf
   answered e f k = rw (in-question g direction place e f k)
 
   -- a zone that is on the building, under a direction that it knows, has its alternatives, and none is above 1.200
-  pub zone-answered : buildingFault g ≡ 0 → knows (g .kind) direction ≡ true → zoneOn (g .kind) place ≡ true
+  pub zone-answered : buildingFault g ≡ 0 → knows (g .kind) direction ≡ true
+      → placeOn (g .kind) direction place ≡ true → zoneOn (g .kind) place ≡ true
       → Alternatives 1200 (natAbs (g .kind)) place (valuesOf (outsideOf g direction place))
-  zone-answered e f z =
+  zone-answered e f p z =
       let o = in-order g e in
-      let on = or-true (zoneOn (g .kind) place) (localOn (g .kind) place) z in
-      let roofed : wallPlace place ≡ false → 0 < natAbs (g .kind) = λ w. needs-roof (g .kind) place w on in
-      rw (answered e f on)
+      let kind = natAbs (g .kind) in
+      let col = roofColumn kind (natAbs direction) place in
+      let roofed : wallPlace place ≡ false → 0 < kind =
+      λ w. needs-roof (g .kind) place w (place-there (g .kind) direction place p) in
+      rw (answered e f p)
       (alternatives (sizes g) o (natAbs direction) place 1200 (lit≤ tt) roofed
-      (λ w h.
-      ⊎-elim (λ i. gableValue-small (sizes g) o (roofed w) i (roofColumn (natAbs (g .kind)) (natAbs direction) place))
-      (λ k. let flat = among-is (k .0 .from) (k .0 .to) in
-      flatValue-small (sizes g) o (roofed w) flat (roofColumn (natAbs (g .kind)) (natAbs direction) place)
-      (flat-columns (natAbs (g .kind)) (natAbs direction) place flat (k .1) (k .2)))
-      (roof-zone (g .kind) place z w)))
+      (λ w h. small-zone (sizes g) o (g .kind) refl (natAbs direction) place (roofed w) (roof-zone (g .kind) place z w)))
 
   -- any answer: no alternative is above 2.500
   small-answer : (q : Question) → FitIn g direction place q → Small (valuesOf (answerTo q (natAbs direction) place))

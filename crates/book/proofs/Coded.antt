@@ -1,10 +1,10 @@
 -- The tables as the code has them are the printed ones.
-use mathlib.Core.Path.{_≡_, refl, sym, ap, _∙_}
+use mathlib.Core.Path.{_≡_, refl, sym, ap, _∙_, subst}
 use mathlib.Core.Bool.{Bool, true}
 use mathlib.Core.List.{List, [], _∷_, _++_, map}
 use Prim.Native.Nat.{ℕ, zero, suc, _+_, _-_, _^_, _≤_, _<_}
 use native.Mathlib.Omega.{arith}
-use lib.Dec.{T, leb, ltb, eqb, leb→le, ltb→lt}
+use lib.Dec.{T, leb, ltb, eqb, leb→le, lit<}
 use lib.IntN.{ℤ, pos, natAbs}
 use lib.ListN.{length, getD, take, drop, List·getD-map, List·getD-append}
 use lib.Seq.{getD-take, getD-drop, getD-append-add}
@@ -18,10 +18,13 @@ use Rattle.whole.proofs.Joined.{joined, begins, joined-at}
 use Rattle.building.specs.Ratio.{Limit, _÷_}
 use Rattle.book.specs.declared.roofs.Limit as coded-limits
 use Rattle.book.specs.declared.roofs.Row as coded-rows
+use Rattle.book.specs.declared.roofs.Slope as coded-slopes
 use Rattle.book.specs.declared.walls.Wall as coded
 use Rattle.book.specs.Row.{Row, noRow, hundredths, rowNumbered, Standing, rowsOf}
 use Rattle.book.specs.Gable.{gableParts, gableTable, heights}
 use Rattle.book.specs.Flat.{flatParts, flatTable}
+use Rattle.book.specs.SingleSlope.{singleSlope, singleTable}
+use Rattle.book.specs.Spot.{roofParts}
 use Rattle.book.specs.Walls.{Wall, noWall, walls}
 use Rattle.book.proofs.Ways.{noStanding}
 
@@ -78,19 +81,31 @@ limit-is i = List·getD-map coded-limit heights i (0 ÷ 0)
 
 -- ---- the roofs' rows, part after part: a row's number, the number at which it stands, and its hundredths
 
-abbrev pub parts : List (List Standing)
+-- those of the gables and the flat roofs, which one table of the code holds
+abbrev parts : List (List Standing)
 parts = gableParts ++ flatParts
 
 abbrev pub part : ℕ → List Standing
-part k = getD parts k []
+part k = getD roofParts k []
+
+held-among : (k : ℕ) → k < 7 → part k ≡ getD parts k []
+held-among k h = List·getD-append parts (singleSlope ∷ []) [] k h
 
 pub gable-among : (k : ℕ) → k < 3 → part k ≡ getD gableParts k []
-gable-among k h = List·getD-append gableParts flatParts [] k h
+gable-among k h = held-among k (omega arith) ∙ List·getD-append gableParts flatParts [] k h
 
-pub flat-among : (kind : ℕ) → 2 ≤ kind → part (kind + 1) ≡ getD flatParts (kind - 2) []
-flat-among kind h =
+pub flat-among : (kind : ℕ) → 2 ≤ kind → kind ≤ 5 → part (kind + 1) ≡ getD flatParts (kind - 2) []
+flat-among kind h g =
     let e : kind + 1 ≡ 3 + (kind - 2) = omega arith in
-    rw e (getD-append-add gableParts flatParts (kind - 2) [])
+    held-among (kind + 1) (omega arith) ∙ rw e (getD-append-add gableParts flatParts (kind - 2) [])
+
+-- every part has rows
+abbrev Some-rows : ℕ → Type 0
+Some-rows k = 0 < length (part k)
+
+pub some-rows : (k : ℕ) → k < 8 → Some-rows k
+some-rows =
+    each-at Some-rows 8 (lit< tt, (lit< tt, (lit< tt, (lit< tt, (lit< tt, (lit< tt, (lit< tt, (lit< tt, tt))))))))
 
 abbrev coded-row : Standing → coded-rows.Row
 coded-row s = (s .row .number, s .at, s .row .cells)
@@ -106,29 +121,40 @@ pub record Placed (k : ℕ) : Type 0 where
   pub begun : getD firsts k 0 ≡ begins parts k
   pub ended : getD firsts (k + 1) 0 ≡ getD firsts k 0 + length (part k)
   pub most : getD firsts (k + 1) 0 ≤ 33
-  pub some : 0 < length (part k)
 
 place : (k : ℕ) → getD firsts k 0 ≡ begins parts k → getD firsts (k + 1) 0 ≡ getD firsts k 0 + length (part k)
-    → T (leb (getD firsts (k + 1) 0) 33) → T (ltb 0 (length (part k))) → Placed k
-place k begun ended most some =
-    record { begun = begun; ended = ended; most = leb→le _ 33 most; some = ltb→lt 0 _ some }
+    → T (leb (getD firsts (k + 1) 0) 33) → Placed k
+place k begun ended most = record { begun = begun; ended = ended; most = leb→le _ 33 most }
 
 pub placed : (k : ℕ) → k < 7 → Placed k
 placed =
     each-at Placed 7 (
-      place 6 refl refl tt tt,
-      (place 5 refl refl tt tt, (place 4 refl refl tt tt, (place 3 refl refl tt tt, three))),
+      place 6 refl refl tt,
+      (place 5 refl refl tt, (place 4 refl refl tt, (place 3 refl refl tt, three))),
     )
   where
     three : Each Placed 3
-    three = (place 2 refl refl tt tt, (place 1 refl refl tt tt, (place 0 refl refl tt tt, tt)))
+    three = (place 2 refl refl tt, (place 1 refl refl tt, (place 0 refl refl tt, tt)))
 
 pub row-is : (k i : ℕ) → k < 7 → i < length (part k)
     → codedRow (getD firsts k 0 + i) ≡ coded-row (getD (part k) i noStanding)
 row-is k i h g =
+    let held = held-among k h in
     List·getD-map coded-row (joined parts) (getD firsts k 0 + i) noStanding
     ∙ ap coded-row
-    (ap (λ (n : ℕ). getD (joined parts) (n + i) noStanding) (placed k h .begun) ∙ joined-at parts k i noStanding g)
+    (ap (λ (n : ℕ). getD (joined parts) (n + i) noStanding) (placed k h .begun)
+    ∙ joined-at parts k i noStanding (subst (λ (rows : List Standing). i < length rows) held g)
+    ∙ ap (λ (rows : List Standing). getD rows i noStanding) (sym held))
+
+-- the rows of single slopes, which another table holds
+abbrev coded-slope : Standing → coded-slopes.Slope
+coded-slope s = (s .row .number, s .at, s .row .cells)
+
+abbrev codedSlope : ℕ → coded-slopes.Slope
+codedSlope n = getD (map coded-slope singleSlope) n (coded-slope noStanding)
+
+pub slope-is : (i : ℕ) → codedSlope i ≡ coded-slope (getD singleSlope i noStanding)
+slope-is i = List·getD-map coded-slope singleSlope i noStanding
 
 -- a number of a row, as a contract has it
 pub number-in : (f : Standing → ℕ) → f noStanding ≡ 0 → (k i : ℕ)
@@ -139,7 +165,7 @@ pub stands-small : (k i : ℕ) → getD (part k) i noStanding .at ≤ 900
 stands-small k i =
     leb→le _ 900
     (all-at (λ (s : Standing). leb (s .at) 900) (part k) noStanding tt
-    (all-at (λ (l : List Standing). all (λ (s : Standing). leb (s .at) 900) l) parts [] tt tt k) i)
+    (all-at (λ (l : List Standing). all (λ (s : Standing). leb (s .at) 900) l) roofParts [] tt tt k) i)
 
 -- ---- the rows of a table by their numbers
 
@@ -191,3 +217,15 @@ flat-cell i col from to =
     let e : 22 + (i - 1) ≡ i + 21 = omega arith in
     let rows = rowsOf flatParts in
     rw e at (cell-is (rowsOf gableParts) (take 10 rows) (drop 10 rows) (drop 10 rows) tt refl i col from to)
+
+pub single-cell : (i col : ℕ) → 0 < i → i ≤ 5
+    → getD (codedSlope (i - 1) .2) col (pos 0) ≡ hundredths (rowNumbered i singleTable) col
+unfolding singleTable
+single-cell i col from to =
+    let n = i - 1 in
+    let e : 1 + n ≡ i = omega arith in
+    let rows = map (λ (s : Standing). s .row) singleSlope in
+    ap (λ (r : coded-slopes.Slope). getD (r .2) col (pos 0)) (slope-is n)
+    ∙ ap (λ (r : Row). hundredths r col)
+    (sym (List·getD-map (λ (s : Standing). s .row) singleSlope n noStanding)
+    ∙ sym (rw e at (run-at 1 n rows [] tt (omega arith))))

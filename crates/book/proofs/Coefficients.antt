@@ -1,19 +1,17 @@
 -- What is answered is the coefficient with its rows, and there is one only.
 use mathlib.Core.Path.{_≡_, sym, ap, subst, _∙_}
-use mathlib.Core.Bool.{true, false, _||_}
+use mathlib.Core.Bool.{true, false}
 use Prim.Native.Nat.{ℕ, _<_}
-use native.Mathlib.Omega.{arith}
-use lib.Dec.{eqb, lit<}
+use lib.Dec.{lit<}
 use lib.IntN.{ℤ, negℤ, natAbs}
-use borrow.Author.Tests.{eqb-true, eqb-false}
 use Rattle.whole.proofs.Tests.{by-test}
 use Rattle.building.specs.declared.Building.{Building}
 use Rattle.building.specs.declared.Sizes.{Sizes}
 use Rattle.building.specs.Order.{SizesInOrder}
 use Rattle.building.specs.Building.{buildingFault, sizes}
-use Rattle.building.specs.Places.{F, wallPlace, zoneOn, localOn, knows}
+use Rattle.building.specs.Places.{wallPlace, knows, placeOn}
 use Rattle.building.proofs.Accepted.{in-order}
-use Rattle.building.proofs.Places.{needs-roof}
+use Rattle.building.proofs.Places.{needs-roof, place-there}
 use Rattle.book.specs.declared.Answer.the-variants.{Answered}
 use Rattle.book.specs.declared.Cited.{Cited}
 use Rattle.book.specs.declared.Values.{Values}
@@ -69,10 +67,10 @@ module _ (s : Sizes) (o : SizesInOrder s) (wind place : ℕ) where
 
 module _ (g : Building) (direction : ℤ) (place : ℕ) where
   pub outside-is : buildingFault g ≡ 0 → knows (g .kind) direction ≡ true
-      → (zoneOn (g .kind) place || localOn (g .kind) place) ≡ true
+      → placeOn (g .kind) direction place ≡ true
       → (c : Cited) × (outsideOf g direction place ≡ Answered c) × IsCoefficient (sizes g) (natAbs direction) place c
   outside-is good known on = (
     coefficientOf (sizes g) (natAbs direction) place,
     answered g direction place good known on,
-    coefficient-is (sizes g) (in-order g good) (natAbs direction) place (λ w. needs-roof (g .kind) place w on),
+    coefficient-is (sizes g) (in-order g good) (natAbs direction) place (λ w. needs-roof (g .kind) place w (place-there (g .kind) direction place on)),
   )

@@ -4,13 +4,14 @@ use mathlib.Core.Bool.{Bool, true, false, cond, _||_}
 use Prim.Native.Nat.{ℕ, _+_, _-_, _≤_, _<_}
 use native.Mathlib.Omega.{arith}
 use lib.Dec.{leb, eqb, lit<}
-use borrow.Author.Tests.{eqb-false, ne-eqb}
-use Rattle.whole.proofs.Tests.{or-left}
+use borrow.Author.Tests.{eqb-true, eqb-false, ne-eqb}
+use Rattle.whole.proofs.Tests.{by-test, or-left}
 use Rattle.building.specs.Test.{among}
 use Rattle.building.specs.Places.{A, D, E, F, G, L1, wallLocal, wallPlace}
 use Rattle.building.proofs.Places.{among-yes}
 use Rattle.book.specs.Roofs.{width}
-use Rattle.book.specs.Question.{wallColumn, gableColumn, flatColumn, roofColumn}
+use Rattle.book.specs.Question.{wallColumn, halfOf, flankOf, gableColumn, singleColumn, flatColumn}
+use Rattle.book.specs.Question.{roofColumn}
 
 pub wall-letter : (place : ℕ) → wallPlace place ≡ true → (place ≡ wallLocal → ⊥) → (A ≤ place) × (place ≤ D)
 wall-letter place e n = among-yes A D place (or-left (among A D place) (ne-eqb place wallLocal n) e)
@@ -28,11 +29,27 @@ pick-below : (t : Bool) {m n k : ℕ} → m < k → n < k → cond t m n < k
 pick-below true h g = h
 pick-below false h g = g
 
+pub half-below : (zone : ℕ) → halfOf zone < 2
+half-below zone = pick-below (leb zone F) (lit< tt) (lit< tt)
+
+pub flank-below : (zone : ℕ) → flankOf zone < 2
+flank-below zone = pick-below (eqb zone E || eqb zone G) (lit< tt) (lit< tt)
+
 gableColumn-below : (wind zone : ℕ) → gableColumn wind zone < 4
 unfolding gableColumn
 gableColumn-below wind zone =
-    pick-below (eqb wind 0) (pick-below (leb zone F) (lit< tt) (lit< tt))
-    (pick-below (eqb zone E || eqb zone G) (lit< tt) (lit< tt))
+    let h = half-below zone in
+    let f = flank-below zone in
+    pick-below (eqb wind 0) (omega arith) (omega arith)
+
+singleColumn-below : (wind zone : ℕ) → singleColumn wind zone < 10
+unfolding singleColumn
+singleColumn-below wind zone =
+    let h = half-below zone in
+    let f = flank-below zone in
+    pick-below (eqb wind 0) (omega arith)
+    (pick-below (eqb wind 45) (omega arith)
+    (pick-below (eqb wind 90) (omega arith) (pick-below (eqb wind 135) (omega arith) (omega arith))))
 
 flatColumn-below : (place : ℕ) → flatColumn place < 4
 unfolding flatColumn
@@ -43,4 +60,7 @@ flatColumn-below place =
 pub roofColumn-below : (kind wind place : ℕ) → roofColumn kind wind place < width kind
 unfolding roofColumn
 roofColumn-below kind wind place =
-    pick-below (eqb kind 1) (gableColumn-below wind place) (flatColumn-below place)
+    by-test (eqb kind 1)
+    (λ e. let k = eqb-true kind 1 e in rw (e, ne-eqb kind 6 (λ p. omega arith)) (gableColumn-below wind place))
+    (λ e. by-test (eqb kind 6) (λ f. rw (e, f) (singleColumn-below wind place))
+    (λ f. rw (e, f) (flatColumn-below place)))

@@ -24,7 +24,7 @@ use Rattle.book.specs.Roofs.{flatRoof, partOf, roofTable, lastNumber, ro
 use Rattle.book.proofs.Ways.{noStanding, way-rows, Proper, way-proper, way-small}
 use Rattle.book.proofs.Walked.{lastAt, lies-walked, lies-only}
 use Rattle.book.proofs.Tables.{SmallRow, SmallZones, Listed, Part, gable-part, flat-part, gable-small}
-use Rattle.book.proofs.Tables.{flat-small}
+use Rattle.book.proofs.Tables.{single-part, single-small, flat-small}
 use Rattle.book.proofs.Rows.{blockOf-most}
 use Rattle.book.proofs.Between.{line-small}
 use Rattle.book.proofs.Slopes.{gable-no-half}
@@ -44,10 +44,13 @@ module _ (s : Sizes) (o : SizesInOrder s) (roofed : 0 < s .kind) where
       (λ e.
       let block = blockOf-most (s .h) (s .b) (o .h-over-b) in
       rw (e, eqb-true (s .kind) 1 e) (gable-part (blockOf (s .h) (s .b)) (omega arith)))
-      (λ e. let q = eqb-false (s .kind) 1 e in
+      (λ e. by-test (eqb (s .kind) 6)
+      (λ f. rw (e, f, eqb-true (s .kind) 6 f) single-part)
+      (λ f. let q = eqb-false (s .kind) 1 e in
+      let t = eqb-false (s .kind) 6 f in
       let most = o .ranged .kind-most in
       let two : s .kind - 2 + 2 ≡ s .kind = omega arith in
-      rw e (rw two at (flat-part (s .kind - 2) (omega arith))))
+      rw (e, f) (rw two at (flat-part (s .kind - 2) (omega arith)))))
 
   pub way-few : roofWay s .whole ≤ 27000001
   unfolding roofWay
@@ -71,16 +74,15 @@ module _ (s : Sizes) (o : SizesInOrder s) (roofed : 0 < s .kind) where
   rows-small = way-rows-of (SmallRow 250) (part-is .small)
 
   -- x lies there, and nowhere else
-  lies-so : (rows : List Standing) → 0 < length rows → getD rows 0 noStanding .at * s .across ≤ s .along
-      → s .along ≤ lastAt rows * s .across → LiesAt rows (s .along) (s .across) (wayIn rows (s .along) (s .across))
-  lies-so [] some from to = absurd (omega arith)
-  lies-so (r ∷ rows) some from to = lies-walked (s .along) (s .across) (o .ranged .across-least) r rows from to
+  lies-so : (rows : List Standing) → 0 < length rows → s .along ≤ lastAt rows * s .across
+      → LiesAt rows (s .along) (s .across) (wayIn rows (s .along) (s .across))
+  lies-so [] some to = absurd (omega arith)
+  lies-so (r ∷ rows) some to = lies-walked (s .along) (s .across) (o .ranged .across-least) r rows to
 
   pub roof-lies : LiesAt (partOf s) (s .along) (s .across) (roofWay s)
   unfolding roofWay
   roof-lies =
       lies-so (partOf s) (part-is .some)
-      (subst (λ (n : ℕ). n * s .across ≤ s .along) (sym (part-is .begins)) (o .x-from))
       (subst (λ (n : ℕ). s .along ≤ n * s .across) (sym (part-is .ends)) (o .x-to))
 
   pub roof-only : {w : Way} → LiesAt (partOf s) (s .along) (s .across) w → w ≡ roofWay s
@@ -108,7 +110,7 @@ module _ (s : Sizes) (o : SizesInOrder s) (roofed : 0 < s .kind) where
   pub roofValue-small : (col : ℕ) → natAbs (valueAt (roofWay s) col) ≤ 2500
   roofValue-small col = value-small 250 col (rows-small .0 .at col) (rows-small .1 .at col)
 
-  -- a zone's: any column of a gable, and a flat roof's E and F
+  -- a zone's: any column of a gable or a single slope, and a flat roof's E and F
   pub gableValue-small : s .kind ≡ 1 → (col : ℕ) → natAbs (valueAt (roofWay s) col) ≤ 1200
   gableValue-small e col =
       let small : Every (λ (r : Standing). SmallRow 120 (r .row)) (partOf s) =
@@ -116,10 +118,17 @@ module _ (s : Sizes) (o : SizesInOrder s) (roofed : 0 < s .kind) where
       let r = way-rows-of (SmallRow 120) small in
       value-small 120 col (r .0 .at col) (r .1 .at col)
 
+  pub singleValue-small : s .kind ≡ 6 → (col : ℕ) → natAbs (valueAt (roofWay s) col) ≤ 1200
+  singleValue-small e col =
+      let small : Every (λ (r : Standing). SmallRow 120 (r .row)) (partOf s) =
+      rw (ne-eqb (s .kind) 1 (λ p. omega arith), eq-eqb (s .kind) 6 e) single-small in
+      let r = way-rows-of (SmallRow 120) small in
+      value-small 120 col (r .0 .at col) (r .1 .at col)
+
   pub flatValue-small : flatRoof (s .kind) ≡ true → (col : ℕ) → col < 2 → natAbs (valueAt (roofWay s) col) ≤ 1200
   flatValue-small f col h =
       let k = among-yes 2 5 (s .kind) f in
       let small : Every (λ (r : Standing). SmallZones 120 (r .row)) (partOf s) =
-      rw (ne-eqb (s .kind) 1 (λ e. omega arith)) (flat-small (s .kind - 2)) in
+      rw (ne-eqb (s .kind) 1 (λ e. omega arith), ne-eqb (s .kind) 6 (λ e. omega arith)) (flat-small (s .kind - 2)) in
       let r = way-rows-of (SmallZones 120) small in
       value-small 120 col (r .0 .at col h) (r .1 .at col h)

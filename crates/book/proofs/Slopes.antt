@@ -9,7 +9,7 @@ use native.Mathlib.Nat.{dvd-of-mod-eq-zero}
 use native.Mathlib.Omega.{arith}
 use lib.Dec.{T, eqb, lit<}
 use lib.IntN.{ℤ, pos, natAbs}
-use lib.ListN.{length, getD}
+use lib.ListN.{length}
 use borrow.Author.Tests.{eqb-true}
 use Rattle.whole.specs.Lists.{Every}
 use Rattle.whole.proofs.Lowest.{whole-some}
@@ -18,11 +18,11 @@ use Rattle.whole.proofs.Tests.{is-true, or-true}
 use Rattle.whole.proofs.Lists.{every-by, every-member}
 use Rattle.book.specs.Row.{Row, hundredths, Standing}
 use Rattle.book.specs.Line.{Way, wayIn}
-use Rattle.book.specs.Interpolated.{Neighbours, first, later, LiesBetween, LiesAt, alone, onRow, betweenRows}
+use Rattle.book.specs.Interpolated.{Neighbours, first, later, LiesBetween, LiesAt}
+use Rattle.book.specs.Interpolated.{alone, upToFirst, onRow, betweenRows}
 use Rattle.book.specs.NoHalf.{NoHalf, NoHalfOn, InTens, DegreesApart, five, ten, fifteen}
 use Rattle.book.specs.Gable.{low, middle, tall, gableParts}
 use Rattle.book.proofs.Neighbours.{lower-among, upper-among}
-use Rattle.book.proofs.Ways.{noStanding}
 use Rattle.book.proofs.Walked.{lastAt, lies-walked}
 use Rattle.book.proofs.Tables.{passed}
 use Rattle.book.proofs.NoHalf.{no-half, no-half-on}
@@ -68,17 +68,15 @@ neighbours-apart (r ∷ s ∷ rows) t (later n) =
 
 record Sloped (rows : List Standing) : Type 0 where
   some : 0 < length rows
-  begins : getD rows 0 noStanding .at ≡ 0
   ends : lastAt rows ≡ 600
   tens : Every (λ r. InTens (r .row)) rows
   apart : (lower upper : Standing) → Neighbours rows lower upper → DegreesApart lower upper
 
-sloped : (rows : List Standing) → 0 < length rows → getD rows 0 noStanding .at ≡ 0 → lastAt rows ≡ 600
+sloped : (rows : List Standing) → 0 < length rows → lastAt rows ≡ 600
     → T (all (λ (r : Standing). all inTens (r .row .cells)) rows) → T (allApart rows) → Sloped rows
-sloped rows some begins ends t u =
+sloped rows some ends t u =
     record {
       some = some;
-      begins = begins;
       ends = ends;
       tens = every-by (λ (r : Standing) h. tens-row (r .row) h) rows
           (passed (λ (r : Standing). all inTens (r .row .cells)) rows t);
@@ -87,8 +85,8 @@ sloped rows some begins ends t u =
 
 blocks : Every Sloped gableParts
 blocks = (
-  sloped low (lit< tt) refl refl tt tt,
-  (sloped middle (lit< tt) refl refl tt tt, (sloped tall (lit< tt) refl refl tt tt, tt)),
+  sloped low (lit< tt) refl tt tt,
+  (sloped middle (lit< tt) refl tt tt, (sloped tall (lit< tt) refl tt tt, tt)),
 )
 
 module _ (rows : List Standing) (block : Sloped rows) where
@@ -109,6 +107,7 @@ module _ (rows : List Standing) (block : Sloped rows) where
 
   lies-no-half : (x : ℕ) (w : Way) → LiesAt rows x 1 w → NoHalfOn w
   lies-no-half x w (alone {r} e) = no-half-on (r .row)
+  lies-no-half x w (upToFirst {r} e h) = no-half-on (r .row)
   lies-no-half x w (onRow {r} m e) = no-half-on (r .row)
   lies-no-half x w (betweenRows {lower} {upper} {part} {whole} n from to low) =
       let part-of = x - lower .at * 1 in
@@ -122,7 +121,7 @@ module _ (rows : List Standing) (block : Sloped rows) where
 lies-in : (rows : List Standing) → Sloped rows → (x : ℕ) → x ≤ 600 → LiesAt rows x 1 (wayIn rows x 1)
 lies-in [] b x h = absurd (omega (arith, b .some))
 lies-in (r ∷ rows) b x h =
-    lies-walked x 1 (lit< tt) r rows (omega (arith, b .begins)) (omega (arith, b .ends))
+    lies-walked x 1 (lit< tt) r rows (omega (arith, b .ends))
 
 abbrev pub Throughout : List Standing → Type 0
 Throughout rows = (x : ℕ) → x ≤ 600 → (w : Way) × LiesAt rows x 1 w × NoHalfOn w

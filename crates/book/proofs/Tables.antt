@@ -18,6 +18,7 @@ use Rattle.book.specs.Interpolated.{Rising}
 use Rattle.book.specs.Walls.{Wall, noWall, walls, wallTable}
 use Rattle.book.specs.Gable.{low, middle, tall, gableParts, gableTable}
 use Rattle.book.specs.Flat.{straight, parapet, curved, mansard, flatParts, flatTable}
+use Rattle.book.specs.SingleSlope.{singleSlope, singleTable}
 use Rattle.book.proofs.Ways.{noStanding}
 use Rattle.book.proofs.Walked.{lastAt}
 
@@ -40,6 +41,9 @@ gable-in-order = refl
 pub flat-in-order : map numbers flatParts
     ≡ ((1 ∷ []) ∷ (2 ∷ 3 ∷ 4 ∷ []) ∷ (5 ∷ 6 ∷ 7 ∷ []) ∷ (8 ∷ 9 ∷ 10 ∷ 1 ∷ []) ∷ [])
 flat-in-order = refl
+
+pub single-in-order : numbers singleSlope ≡ (1 ∷ 2 ∷ 3 ∷ 4 ∷ 5 ∷ [])
+single-in-order = refl
 
 -- ---- a test of each row
 
@@ -102,7 +106,6 @@ pub record Part (table : List Row) (n : ℕ) (roof : Roof) (rows : List Standing
   pub some : 0 < length rows
   pub few : length rows ≤ 8
   pub rises : Rising rows
-  pub begins : getD rows 0 noStanding .at ≡ roof .least
   pub ends : lastAt rows ≡ roof .greatest
   pub most : Every (λ s. s .at ≤ 900) rows
   pub listed : Every (λ s. Listed table n (s .row)) rows
@@ -142,16 +145,15 @@ listed-by table n (s ∷ rows) t e =
 
 module _ (table : List Row) (n : ℕ) (roof : Roof) (rows : List Standing) where
   part-by : T (ltb 0 (length rows)) → T (leb (length rows) 8) → T (rising rows) → T (all (numbered n) rows)
-      → T (all entered rows) → getD rows 0 noStanding .at ≡ roof .least → lastAt rows ≡ roof .greatest
+      → T (all entered rows) → lastAt rows ≡ roof .greatest
       → map (λ (s : Standing). rowNumbered (s .row .number) table) rows ≡ map (λ (s : Standing). s .row) rows
       → Part table n roof rows
-  part-by some few rises numbers fine begins ends listed =
+  part-by some few rises numbers fine ends listed =
       let each = passed entered rows fine in
       record {
         some = ltb→lt 0 (length rows) some;
         few = leb→le (length rows) 8 few;
         rises = rises-by rows rises;
-        begins = begins;
         ends = ends;
         most = every-by (λ s t. leb→le (s .at) 900 (both-left (leb (s .at) 900) (all (small 250) (s .row .cells)) t))
             rows each;
@@ -165,23 +167,27 @@ pub gable-part : (k : ℕ) → k < 3 → Part gableTable 22 (roofOf 1) (getD gab
 unfolding gableTable roofOf
 gable-part =
     each-at (λ (k : ℕ). Part gableTable 22 (roofOf 1) (getD gableParts k [])) 3 (
-      part-by _ _ _ tall tt tt tt tt tt refl refl refl,
-      (part-by _ _ _ middle tt tt tt tt tt refl refl refl, (part-by _ _ _ low tt tt tt tt tt refl refl refl, tt)),
+      part-by _ _ _ tall tt tt tt tt tt refl refl,
+      (part-by _ _ _ middle tt tt tt tt tt refl refl, (part-by _ _ _ low tt tt tt tt tt refl refl, tt)),
     )
 
 pub flat-part : (k : ℕ) → k < 4 → Part flatTable 10 (roofOf (k + 2)) (getD flatParts k [])
 unfolding flatTable roofOf
 flat-part =
     each-at (λ (k : ℕ). Part flatTable 10 (roofOf (k + 2)) (getD flatParts k [])) 4 (
-      part-by _ _ _ mansard tt tt tt tt tt refl refl refl,
+      part-by _ _ _ mansard tt tt tt tt tt refl refl,
       (
-        part-by _ _ _ curved tt tt tt tt tt refl refl refl,
+        part-by _ _ _ curved tt tt tt tt tt refl refl,
         (
-          part-by _ _ _ parapet tt tt tt tt tt refl refl refl,
-          (part-by _ _ _ straight tt tt tt tt tt refl refl refl, tt),
+          part-by _ _ _ parapet tt tt tt tt tt refl refl,
+          (part-by _ _ _ straight tt tt tt tt tt refl refl, tt),
         ),
       ),
     )
+
+pub single-part : Part singleTable 5 (roofOf 6) singleSlope
+unfolding singleTable roofOf
+single-part = part-by _ _ _ singleSlope tt tt tt tt tt refl refl
 
 -- a row of a table, whatever its number
 numbered-small : (k i : ℕ) (table : List Row) → T (all (λ (r : Row). all (small k) (r .cells)) table)
@@ -201,7 +207,11 @@ pub flat-row-small : (i : ℕ) → SmallRow 250 (rowNumbered i flatTable)
 unfolding flatTable
 flat-row-small i = numbered-small 250 i flatTable tt
 
--- no coefficient of a zone is above 1.20: none of a gable, and none of the columns E and F
+pub single-row-small : (i : ℕ) → SmallRow 250 (rowNumbered i singleTable)
+unfolding singleTable
+single-row-small i = numbered-small 250 i singleTable tt
+
+-- no coefficient of a zone is above 1.20: none of a gable or a single slope, and none of the columns E and F
 abbrev every : Standing → Bool
 every s = all (small 120) (s .row .cells)
 
@@ -215,6 +225,9 @@ pub gable-small : (k : ℕ) → Every (λ s. SmallRow 120 (s .row)) (getD gableP
 gable-small k =
     every-by (λ (s : Standing) t. small-row 120 (s .row) t) (getD gableParts k [])
     (passed every (getD gableParts k []) (gable-test k))
+
+pub single-small : Every (λ s. SmallRow 120 (s .row)) singleSlope
+single-small = every-by (λ (s : Standing) t. small-row 120 (s .row) t) singleSlope (passed every singleSlope tt)
 
 flat-test : (k : ℕ) → T (all first-two (getD flatParts k []))
 flat-test = all-at (all first-two) flatParts [] tt tt

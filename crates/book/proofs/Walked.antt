@@ -12,7 +12,7 @@ use Rattle.whole.proofs.Tests.{by-test}
 use Rattle.whole.proofs.Lowest.{lowest-terms, lowest-unique}
 use Rattle.book.specs.Row.{Standing}
 use Rattle.book.specs.Line.{Way, on, between, wayIn}
-use Rattle.book.specs.Interpolated.{Neighbours, first, later, Rising, LiesAt, alone, onRow, betweenRows}
+use Rattle.book.specs.Interpolated.{Neighbours, first, later, Rising, LiesAt, alone, upToFirst, onRow, betweenRows}
 use Rattle.book.proofs.Neighbours.{neighbours-from, row-from}
 
 -- the number at which the last row stands
@@ -69,6 +69,7 @@ module _ (x d : ℕ) where
     pub lies-only : (rows : List Standing) → Rising rows → {w : Way} → LiesAt rows x d w → w ≡ wayIn rows x d
     unfolding wayIn
     lies-only rows rises (alone e) = rw e
+    lies-only rows rises (upToFirst {r} {rest} e h) = sym (rw e (stops r rest h))
     lies-only rows rises (onRow m e) = sym (walk-on rows rises m e)
     lies-only rows rises (betweenRows {lower} {upper} n from to low) =
         let a = x - lower .at * d in
@@ -85,19 +86,23 @@ module _ (x d : ℕ) where
         let f = ap (λ (q : Standing). q .at * d) same in
         onRow (List·Memᴰ·tail (List·Memᴰ·head same)) (omega arith)
     further r s (t ∷ rows) to from (alone e) = let z : _≡_ {A = ℕ} 0 1 = cc in absurd (omega arith)
+    further r s rows to from (upToFirst {r = t} e h) =
+        let same : t ≡ s = cc in
+        let f = ap (λ (q : Standing). q .at * d) same in
+        onRow (List·Memᴰ·tail (List·Memᴰ·head same)) (omega arith)
     further r s rows to from (onRow m e) = onRow (List·Memᴰ·tail m) e
     further r s rows to from (betweenRows n f t low) = betweenRows (later n) f t low
 
-    pub lies-walked : (r : Standing) (rows : List Standing) → r .at * d ≤ x → x ≤ lastAt (r ∷ rows) * d
+    pub lies-walked : (r : Standing) (rows : List Standing) → x ≤ lastAt (r ∷ rows) * d
         → LiesAt (r ∷ rows) x d (wayIn (r ∷ rows) x d)
     unfolding wayIn
-    lies-walked r [] from to = alone refl
-    lies-walked r (s ∷ rows) from to =
+    lies-walked r [] to = alone refl
+    lies-walked r (s ∷ rows) to =
         by-test (leb x (r .at * d))
-        (λ e. rw e (onRow (List·Memᴰ·head refl) (omega (arith, leb-true x (r .at * d) e))))
+        (λ e. rw e (upToFirst refl (leb-true x (r .at * d) e)))
         (λ e. let f = leb-false x (r .at * d) e in
         by-test (leb (s .at * d) x)
-        (λ g. let h = leb-true (s .at * d) x g in rw (e, g) (further r s rows to h (lies-walked s rows h to)))
+        (λ g. let h = leb-true (s .at * d) x g in rw (e, g) (further r s rows to h (lies-walked s rows to)))
         (λ g. let h = leb-false (s .at * d) x g in
         rw (e, g)
         (betweenRows first f h (lowest-terms (x - r .at * d) (s .at * d - r .at * d) (omega arith)))))

@@ -27,9 +27,11 @@ pub record LiesBetween (rows : List Standing) (x d : ℕ) (lower upper : Standin
   pub from : lower .at * d ≤ x
   pub to : x ≤ upper .at * d
 
--- where x/d lies: on the only row, on any row, or between two neighbours, a fraction of the way in lowest terms
+-- where x/d lies: on the only row; up to the first, on that; on any row; or between two neighbours, a fraction of the
+-- way in lowest terms
 pub data LiesAt (rows : List Standing) (x d : ℕ) : Way → Type 0 where
   alone : {r : Standing} → rows ≡ r ∷ [] → LiesAt rows x d (on (r .row))
+  upToFirst : {r : Standing} {rest : List Standing} → rows ≡ r ∷ rest → x ≤ r .at * d → LiesAt rows x d (on (r .row))
   onRow : {r : Standing} → List·Memᴰ r rows → x ≡ r .at * d → LiesAt rows x d (on (r .row))
   betweenRows : {lower upper : Standing} {part whole : ℕ} → Neighbours rows lower upper → lower .at * d < x
       → x < upper .at * d → LowestTerms (x - lower .at * d) (upper .at * d - lower .at * d) part whole

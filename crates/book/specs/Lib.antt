@@ -4,11 +4,12 @@ pub mod Number
 pub mod Row
 pub mod Line
 pub mod NoHalf
-pub mod Spot
 pub mod Interpolated
 pub mod Walls
 pub mod Gable
 pub mod Flat
+pub mod SingleSlope
+pub mod Spot
 pub mod Roofs
 pub mod Answer
 pub mod Question

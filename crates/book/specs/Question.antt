@@ -23,19 +23,34 @@ use Rattle.book.specs.Answer.{cites}
 
 -- ---- the coefficient
 
--- which column of the walls' table, of the gable's, of the flat roof's
+-- which column of the walls' table, of the gable's, of the single slope's, of the flat roof's
 unfoldable pub wallColumn : ℕ → ℕ → ℕ
 wallColumn wind place = cond (eqb place wallLocal) 8 (cond (eqb wind 0) (place - A) (4 + (place - A)))
 
+-- E,F before G,H; or E,G before F,H
+abbrev pub halfOf : ℕ → ℕ
+halfOf zone = cond (leb zone F) 0 1
+
+abbrev pub flankOf : ℕ → ℕ
+flankOf zone = cond (eqb zone E || eqb zone G) 0 1
+
 unfoldable pub gableColumn : ℕ → ℕ → ℕ
-gableColumn wind zone = cond (eqb wind 0) (cond (leb zone F) 0 1) (cond (eqb zone E || eqb zone G) 2 3)
+gableColumn wind zone = cond (eqb wind 0) (halfOf zone) (2 + flankOf zone)
+
+unfoldable pub singleColumn : ℕ → ℕ → ℕ
+singleColumn wind zone =
+    cond (eqb wind 0) (halfOf zone)
+    (cond (eqb wind 45) (2 + halfOf zone)
+    (cond (eqb wind 90) (4 + flankOf zone)
+    (cond (eqb wind 135) (6 + halfOf zone) (8 + halfOf zone))))
 
 unfoldable pub flatColumn : ℕ → ℕ
 flatColumn place = cond (eqb place E) 0 (cond (eqb place F) 1 (cond (eqb place L1) 2 3))
 
 -- which column of the table of a roof of a kind
 unfoldable pub roofColumn : ℕ → ℕ → ℕ → ℕ
-roofColumn kind wind place = cond (eqb kind 1) (gableColumn wind place) (flatColumn place)
+roofColumn kind wind place =
+    cond (eqb kind 1) (gableColumn wind place) (cond (eqb kind 6) (singleColumn wind place) (flatColumn place))
 
 -- a place has both signs of its value: zone F of a flat roof
 unfoldable pub twoSigns : ℕ → ℕ → Bool

@@ -1,5 +1,5 @@
-// The printed tables of ROM 0.4-95 for walls, gable roofs and flat roofs, and the coefficient of one zone or local of
-// a building.
+// The printed tables of ROM 0.4-95 for walls, gable roofs, single slopes and flat roofs, and the coefficient of one
+// zone or local of a building.
 ghost use mathlib.Core.Path.{_≡_};
 ghost use Rattle.book.specs.Question.{outsideOf, netOf};
 use building::Building;

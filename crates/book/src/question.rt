@@ -11,8 +11,8 @@ ghost use Rattle.book.specs.Answer.{valuesIn};
 ghost use Rattle.book.specs.Spot.{citesAt};
 ghost use Rattle.book.specs.Walls.{wallWay};
 ghost use Rattle.book.specs.Question as question;
-ghost use Rattle.book.specs.Question.{wallColumn, gableColumn, flatColumn, roofColumn, twoSigns, oneAt};
-ghost use Rattle.book.specs.Question.{coefficientOf, netCited};
+ghost use Rattle.book.specs.Question.{wallColumn, halfOf, flankOf, gableColumn, singleColumn, flatColumn};
+ghost use Rattle.book.specs.Question.{roofColumn, twoSigns, oneAt, coefficientOf, netCited};
 use super::Cited;
 use super::Values;
 use super::line::Spot;
@@ -38,22 +38,54 @@ fn wall_column(wind: u64, place: u8) -> usize
     4 + (place - b'A') as usize
 }
 
+// E,F before G,H.
+fn half_of(zone: u8) -> usize
+    ensures { λ r. ⌜ r ≡ halfOf zone ⌝ }
+{
+    if zone <= b'F' {
+        return 0;
+    }
+    1
+}
+
+// E,G before F,H.
+fn flank_of(zone: u8) -> usize
+    ensures { λ r. ⌜ r ≡ flankOf zone ⌝ }
+{
+    if zone == b'E' {
+        return 0;
+    }
+    if zone == b'G' {
+        return 0;
+    }
+    1
+}
+
 fn gable_column(wind: u64, zone: u8) -> usize
     ensures { λ r. ⌜ r ≡ gableColumn wind zone ⌝ }
 {
     if wind == 0 {
-        if zone <= b'F' {
-            return 0;
-        }
-        return 1;
+        return half_of(zone);
     }
-    if zone == b'E' {
-        return 2;
+    2 + flank_of(zone)
+}
+
+fn single_column(wind: u64, zone: u8) -> usize
+    ensures { λ r. ⌜ r ≡ singleColumn wind zone ⌝ }
+{
+    if wind == 0 {
+        return half_of(zone);
     }
-    if zone == b'G' {
-        return 2;
+    if wind == 45 {
+        return 2 + half_of(zone);
     }
-    3
+    if wind == 90 {
+        return 4 + flank_of(zone);
+    }
+    if wind == 135 {
+        return 6 + half_of(zone);
+    }
+    8 + half_of(zone)
 }
 
 fn flat_column(place: u8) -> usize
@@ -77,6 +109,9 @@ fn roof_column(kind: u64, wind: u64, place: u8) -> usize
 {
     if kind == 1 {
         return gable_column(wind, place);
+    }
+    if kind == 6 {
+        return single_column(wind, place);
     }
     flat_column(place)
 }

@@ -1,15 +1,16 @@
-// Roofs, tables 3.2.2.2.2 and 3.2.2.2.4: their rows, their parts, and where x lies in one.
+// Roofs, tables 3.2.2.2.2 to 3.2.2.2.4: their rows, their parts, and where x lies in one.
 ghost use mathlib.Core.Path.{_≡_};
-ghost use mathlib.Core.List.{[], _++_, map};
+ghost use mathlib.Core.List.{[], map};
 ghost use Prim.Native.Nat.{_<_, _≤_};
 ghost use lib.ListN.{length, getD};
 ghost use Rattle.building.specs.Order.{SizesInOrder};
 ghost use Rattle.building.specs.Ratio.{_÷_, upTo};
 ghost use Rattle.book.specs.Row.{hundredths, rowNumbered, Standing};
 ghost use Rattle.book.specs.Line.{wayIn, valueAt};
-ghost use Rattle.book.specs.Spot.{spotOf};
-ghost use Rattle.book.specs.Gable.{gableParts, gableTable, heights, blockOf};
-ghost use Rattle.book.specs.Flat.{flatParts, flatTable};
+ghost use Rattle.book.specs.Spot.{spotOf, roofParts};
+ghost use Rattle.book.specs.Gable.{gableTable, heights, blockOf};
+ghost use Rattle.book.specs.Flat.{flatTable};
+ghost use Rattle.book.specs.SingleSlope.{singleTable};
 ghost use Rattle.book.specs.Roofs.{partOf, roofTable, lastNumber, width, roofWay};
 use super::line::Spot;
 use super::line::between;
@@ -79,6 +80,31 @@ const ROWS: [Row; 33] = [
 // Where each part begins among them: gable by h/b; straight eaves, parapet, curved eaves, mansard; and the end.
 const FIRST: [usize; 8] = [0, 7, 14, 22, 23, 26, 29, 33];
 
+// A printed row of single slopes.
+struct Slope(u16, u16, [i16; 10]);
+
+// Table 3.2.2.2.3, at tenths of a degree; the first row is that of 5 to 10 degrees. Wind 0 E,F and G,H; 45 E,F and
+// G,H; 90 E,G and F,H; 135 E,F and G,H; 180 E,F and G,H.
+const SLOPES: [Slope; 5] = [
+    Slope(
+        1,
+        100,
+        [-100, -50, -100, -90, -100, -50, -90, -100, -50, -100],
+    ),
+    Slope(
+        2,
+        150,
+        [-90, -50, -100, -70, -100, -50, -60, -100, -30, -100],
+    ),
+    Slope(
+        3,
+        200,
+        [-80, -50, -100, -60, -90, -50, -50, -100, -20, -100],
+    ),
+    Slope(4, 250, [-70, -50, -100, -60, -80, -50, -30, -90, -10, -90]),
+    Slope(5, 300, [-50, -50, -100, -60, -80, -50, -10, -60, 0, -60]),
+];
+
 // h/b comes up to the limit of a block.
 fn in_block(block: usize, s: Sizes) -> bool
     requires { ⌜ block < 3 ⌝ }
@@ -103,11 +129,11 @@ fn block_of(s: Sizes) -> usize
     block
 }
 
-// A gable's part goes by h/b, a flat roof's by its kind.
+// A gable's part goes by h/b, a flat roof's by its kind; that of single slopes is the last.
 fn part_of(s: Sizes) -> usize
     requires { ⌜ SizesInOrder s ⌝ }
     requires { ⌜ 0 < s .kind ⌝ }
-    ensures { λ r. ⌜ (r < 7) × (getD (gableParts ++ flatParts) r [] ≡ partOf s) ⌝ }
+    ensures { λ r. ⌜ (r < 8) × (getD roofParts r [] ≡ partOf s) ⌝ }
 {
     if s.kind == 1 {
         return block_of(s);
@@ -117,25 +143,35 @@ fn part_of(s: Sizes) -> usize
 
 // How many rows part k has, and row i of them: its number, and the number at which it stands.
 fn count_of(k: usize) -> usize
-    requires { ⌜ k < 7 ⌝ }
-    ensures { λ r. ⌜ r ≡ length (getD (gableParts ++ flatParts) k []) ⌝ }
+    requires { ⌜ k < 8 ⌝ }
+    ensures { λ r. ⌜ r ≡ length (getD roofParts k []) ⌝ }
 {
+    if k == 7 {
+        return 5;
+    }
     FIRST[k + 1] - FIRST[k]
 }
 
-fn row_of(k: usize, i: usize) -> Row
-    requires { ⌜ (k < 7) × (i < length (getD (gableParts ++ flatParts) k [])) ⌝ }
-    ensures { λ r. ⌜ (let part = getD (gableParts ++ flatParts) k [] in
+struct Stand(u16, u16);
+
+fn row_of(k: usize, i: usize) -> Stand
+    requires { ⌜ (k < 8) × (i < length (getD roofParts k [])) ⌝ }
+    ensures { λ r. ⌜ (let part = getD roofParts k [] in
         (r .0 ≡ getD (map (λ (s : Standing). s .row .number) part) i 0)
         × (r .1 ≡ getD (map (λ (s : Standing). s .at) part) i 0)) ⌝ }
 {
-    ROWS[FIRST[k] + i]
+    if k == 7 {
+        let r = SLOPES[i];
+        return Stand(r.0, r.1);
+    }
+    let r = ROWS[FIRST[k] + i];
+    Stand(r.0, r.1)
 }
 
 // Where x / d lies in part k: a walk over its rows, in the book's order.
 fn way_in(k: usize, x: u64, d: u64) -> Spot
-    requires { ⌜ (k < 7) × (d ≤ 30000) ⌝ }
-    ensures { λ r. ⌜ r ≡ spotOf (wayIn (getD (gableParts ++ flatParts) k []) x d) ⌝ }
+    requires { ⌜ (k < 8) × (d ≤ 30000) ⌝ }
+    ensures { λ r. ⌜ r ≡ spotOf (wayIn (getD roofParts k []) x d) ⌝ }
 {
     let count = count_of(k);
     let mut i: usize = 0;
@@ -181,6 +217,14 @@ fn flat_cell(row: u32, col: usize) -> i16
     r.2[col]
 }
 
+fn single_cell(row: u32, col: usize) -> i16
+    requires { ⌜ (0 < row) × (row ≤ 5) × (col < 10) ⌝ }
+    ensures { λ r. ⌜ r ≡ hundredths (rowNumbered row singleTable) col ⌝ }
+{
+    let r = SLOPES[(row - 1) as usize];
+    r.2[col]
+}
+
 // The hundredths of a row and column of the roof's table.
 fn cell(kind: u64, row: u32, col: usize) -> i16
     requires { ⌜ (0 < row) × (row ≤ lastNumber kind) × (col < width kind) ⌝ }
@@ -189,10 +233,13 @@ fn cell(kind: u64, row: u32, col: usize) -> i16
     if kind == 1 {
         return gable_cell(row, col);
     }
+    if kind == 6 {
+        return single_cell(row, col);
+    }
     flat_cell(row, col)
 }
 
-// The value of a column where x lies. A half can come up on a flat roof, and on a gable none does.
+// The value of a column where x lies. On a gable no half comes up.
 pub(crate) fn roof_value(s: Sizes, w: Spot, col: usize) -> i32
     requires { ⌜ SizesInOrder s ⌝ }
     requires { ⌜ (0 < s .kind) × (w ≡ spotOf (roofWay s)) × (col < width (s .kind)) ⌝ }

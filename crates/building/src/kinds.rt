@@ -38,7 +38,10 @@ pub fn on_walls(direction: i64) -> bool
 fn on_slopes(direction: i64) -> bool
     ensures { λ r. ⌜ r ≡ oneOf slopeDirections direction ⌝ }
 {
-    either(is(45, direction), either(is(135, direction), is(180, direction)))
+    either(
+        is(45, direction),
+        either(is(135, direction), is(180, direction)),
+    )
 }
 
 // Whether a roof of this kind knows the direction.

@@ -1,27 +1,61 @@
 -- `roofs::row_of`: the code's row is the printed one.
-use mathlib.Core.Path.{refl, sym, ap, _∙_}
+use mathlib.Core.Path.{_≡_, refl, sym, ap, _∙_}
+use Prim.Native.Nat.{_≤_, _<_}
 use native.Mathlib.Omega.{arith}
 use borrow.Author.Needs.{needs}
+use lib.ListN.{length}
 use Rattle.book.specs.declared.roofs.Row as coded-rows
-use Rattle.book.proofs.Coded.{placed, row-is, number-in}
+use Rattle.book.specs.declared.roofs.Slope as coded-slopes
+use Rattle.book.proofs.Coded.{part, Placed, placed, row-is, slope-is, number-in}
 use Rattle.book.proofs.roofs.row_of.Statement.{statement}
 use Rattle.book.proofs.roofs.row_of.Tie as tie
 
-add-result : tie.Need-add-result
-add-result c = let p = placed (c .args .k) (c .pre .0) in omega (arith, p .ended, p .most)
+-- a row of single slopes is one of five
+few : (c : tie.Then1) → c .before .args .i < 5
+few c = rw (c .if1 .taken) at (c .before .pre .1)
 
-mul-result-2 : tie.Need-mul-result-2
-mul-result-2 c = let p = placed (c .args .k) (c .pre .0) in omega (arith, p .ended, p .most)
+-- and one of the others has its place in the long table
+module _ (c : tie.Else1) where
+  below : c .before .args .k < 7
+  below = omega (arith, c .before .pre .0, c .if1 .left)
 
-array-copy-out-result : tie.Need-array-copy-out-result
-array-copy-out-result c = let p = placed (c .args .k) (c .pre .0) in omega (arith, p .ended, p .most)
+  set : Placed (c .before .args .k)
+  set = placed (c .before .args .k) below
+
+mul-r : tie.Need-mul-r
+mul-r c = omega (arith, few c)
+
+array-copy-out-r : tie.Need-array-copy-out-r
+array-copy-out-r c = few c
 
 returns : tie.Need-returns
 returns c =
-    let s = c .before in
+    let t = c .before in
+    let i = t .before .args .i in
+    rw (t .if1 .taken) (
+      ap (λ (r : coded-slopes.Slope). r .0) (slope-is i) ∙ sym (number-in (λ r. r .row .number) refl 7 i),
+      ap (λ (r : coded-slopes.Slope). r .1) (slope-is i) ∙ sym (number-in (λ r. r .at) refl 7 i),
+    )
+
+mul-r-2 : tie.Need-mul-r-2
+mul-r-2 c = omega (arith, below c)
+
+add-r : tie.Need-add-r
+add-r c = omega (arith, c .before .pre .1, set c .ended, set c .most)
+
+mul-r-3 : tie.Need-mul-r-3
+mul-r-3 c = omega (arith, c .before .pre .1, set c .ended, set c .most)
+
+array-copy-out-r-2 : tie.Need-array-copy-out-r-2
+array-copy-out-r-2 c = omega (arith, c .before .pre .1, set c .ended, set c .most)
+
+returns-2 : tie.Need-returns-2
+returns-2 c =
+    let t = c .before in
+    let s = t .before in
     let k = s .args .k in
     let i = s .args .i in
-    let e = row-is k i (s .pre .0) (s .pre .1) in (
+    let e = row-is k i (below t) (s .pre .1) in (
       ap (λ (r : coded-rows.Row). r .0) e ∙ sym (number-in (λ r. r .row .number) refl k i),
       ap (λ (r : coded-rows.Row). r .1) e ∙ sym (number-in (λ r. r .at) refl k i),
     )
@@ -29,4 +63,4 @@ returns c =
 pub row-of-spec : {M : Type 1} → statement M
 row-of-spec =
     tie.close
-    (tie.spec (λ c. search needs) (λ c. search needs) add-result mul-result-2 array-copy-out-result returns)
+    (tie.spec mul-r array-copy-out-r returns mul-r-2 (λ c. search needs) add-r mul-r-3 array-copy-out-r-2 returns-2)

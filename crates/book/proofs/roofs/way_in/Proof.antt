@@ -10,7 +10,7 @@ use Rattle.book.specs.Row.{Standing}
 use Rattle.book.specs.Line.{Way, between, wayIn}
 use Rattle.book.specs.Spot.{spotOf, rowSpot}
 use Rattle.book.proofs.Ways.{noStanding, way-on, way-passes, way-between, way-ends}
-use Rattle.book.proofs.Coded.{part, placed, number-in, stands-small}
+use Rattle.book.proofs.Coded.{part, some-rows, number-in, stands-small}
 use Rattle.book.proofs.roofs.way_in.Statement.{statement}
 use Rattle.book.proofs.roofs.way_in.Tie as tie
 
@@ -55,7 +55,7 @@ met c e = ap spotOf (sym (c .loop .inv .1 ∙ e))
 loop-holds : tie.Need-loop-holds Inv-loop μ-loop
 loop-holds c =
     let s = c .before in
-    (omega (arith, c .count-of .ensures, placed (s .args .k) (s .pre .0) .some), refl)
+    (omega (arith, c .count-of .ensures, some-rows (s .args .k) (s .pre .0)), refl)
 
 row-of-requires : tie.Need-row-of-requires Inv-loop μ-loop
 row-of-requires c κs = let l = c .before in (start l .pre .0, omega (arith, last l))

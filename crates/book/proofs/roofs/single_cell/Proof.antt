@@ -1,0 +1,18 @@
+-- `roofs::single_cell`: the code's cells are the printed table's.
+use borrow.Author.Needs.{needs}
+use Rattle.book.proofs.Tables.{single-row-small}
+use Rattle.book.proofs.Coded.{entry, single-cell}
+use Rattle.book.proofs.roofs.single_cell.Statement.{statement}
+use Rattle.book.proofs.roofs.single_cell.Tie as tie
+
+returns : tie.Need-returns
+returns c =
+    let s = c .before .before in
+    let a = s .args in
+    entry (single-cell (a .row) (a .col) (s .pre .0) (s .pre .1)) (single-row-small (a .row) .at (a .col)) tt .same
+
+pub single-cell-spec : {M : Type 1} → statement M
+single-cell-spec =
+    tie.close
+    (tie.spec (λ c. search needs) (λ c. search needs) (λ c. search needs) (λ c. search needs) (λ c. search needs)
+    (λ c. search needs) returns)
