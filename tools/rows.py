@@ -1,7 +1,7 @@
 #!/usr/bin/env python3
 """rows: writes what crates/printed_rows must print, worked out from the printed tables alone.
 
-The tables below were typed from paper 01 and held against ROM 0.4-95 (document 000). Every value is reckoned with exact fractions
+The tables below were typed from paper 01, that of single slopes from ROM 0.4-95 (document 000), and all held against it. Every value is reckoned with exact fractions
 by the book's words: the row whose limits hold the ratio, the straight line between rows, one rounding to a thousandth with a
 half away from zero. A row's number is its place in the printed table, and a fraction is in lowest terms by itself. Nothing
 here is taken from, or run with, the proved code.
@@ -36,7 +36,16 @@ FLAT = {
     4: {Q('0.05'): '-40 -150 -180', Q('0.10'): '-30 -120 -140', Q('0.20'): '-30 -80 -80'},
     5: {Q(30): '-30 -150 -150', Q(45): '-40 -180 -190', Q(60): '-50 -190 -190'},
 }
-RANGE = {0: (0, 0), 1: (0, 60), 2: (0, 0), 3: (Q('0.025'), Q('0.10')), 4: (Q('0.05'), Q('0.20')), 5: (30, 90)}
+# degrees from, to: wind 0 EF GH, wind 45 EF GH, wind 90 EG FH, wind 135 EF GH, wind 180 EF GH
+SINGLE = [
+    (5, 10, '-100 -50 -100 -90 -100 -50 -90 -100 -50 -100'),
+    (15, 15, '-90 -50 -100 -70 -100 -50 -60 -100 -30 -100'),
+    (20, 20, '-80 -50 -100 -60 -90 -50 -50 -100 -20 -100'),
+    (25, 25, '-70 -50 -100 -60 -80 -50 -30 -90 -10 -90'),
+    (30, 30, '-50 -50 -100 -60 -80 -50 -10 -60 0 -60'),
+]
+SINGLE_WINDS = (0, 45, 90, 135, 180)
+RANGE = {0: (0, 0), 1: (0, 60), 2: (0, 0), 3: (Q('0.025'), Q('0.10')), 4: (Q('0.05'), Q('0.20')), 5: (30, 90), 6: (5, 30)}
 
 
 def thousandths(hundredths):
@@ -69,16 +78,24 @@ def on_line(rows, column, at):
     return thousandths(first + way * (last - first)), (lower[0], upper[0], way)
 
 
+def on_slope(column, at):
+    """The same on a single slope, whose first row holds from 5 to 10 degrees."""
+    for number, (start, end, cells) in enumerate(SINGLE, 1):
+        if start <= at <= end:
+            return thousandths(Q(cells.split()[column])), (number, number, Q(0))
+    return on_line([(n, Q(end), cells.split()) for n, (start, end, cells) in enumerate(SINGLE, 1)], column, at)
+
+
 def place_of_x(h, kind, x):
     """What the rows of the kind are read at."""
-    return Q(x, h) if kind in (3, 4) else Q(x, 10) if kind in (1, 5) else Q(x)
+    return Q(x, h) if kind in (3, 4) else Q(x, 10) if kind in (1, 5, 6) else Q(x)
 
 
 def fault(h, a, b, density, kind, x):
     numbers = (h, a, b, density, kind, x)
     if any(abs(n) > 9999999 for n in numbers):
         return 1
-    ranges = [(100, 30000)] * 3 + [(1000, 1500), (0, 5), (0, 30000)]
+    ranges = [(100, 30000)] * 3 + [(1000, 1500), (0, 6), (0, 30000)]
     if any(n < low or n > high for n, (low, high) in zip(numbers, ranges)):
         return 3
     if Q(h, b) > 6 or Q(a, b) <= 1 or Q(a, b) > 4:
@@ -92,10 +109,12 @@ def outside(h, a, b, density, kind, x, direction, place):
     n = fault(h, a, b, density, kind, x)
     if n:
         return (n, 2)
-    if direction not in (0, 90):
+    if direction not in (SINGLE_WINDS if kind == 6 else (0, 90)):
         return (3, 0)
     flat = kind in (2, 3, 4, 5)
-    if not (place in 'ABCDw' or kind == 1 and place in 'EFGH' or flat and place in 'EF12'):
+    if not (place in 'ABCDw' or kind in (1, 6) and place in 'EFGH' or flat and place in 'EF12'):
+        return (6, 0)
+    if place in 'ABCDw' and direction not in (0, 90):
         return (6, 0)
     if place in 'ABCDw':
         number, row = next((n, r) for n, r in enumerate(WALLS, 1) if Q(h, b) <= r[0] and Q(a, b) <= r[1])
@@ -107,6 +126,10 @@ def outside(h, a, b, density, kind, x, direction, place):
         block = GABLE_ROWS[next(limit for limit in sorted(GABLE) if Q(h, b) <= limit)]
         column = (0 if place in 'EF' else 1) if direction == 0 else (2 if place in 'EG' else 3)
         value, rows = on_line(block, column, at)
+        return [value], rows
+    if kind == 6:
+        pair = place in 'FH' if direction == 90 else place in 'GH'
+        value, rows = on_slope(2 * SINGLE_WINDS.index(direction) + pair, at)
         return [value], rows
     # zone F has the rows of E, and both signs of one value in each
     value, rows = on_line(FLAT_ROWS[kind], {'E': 0, 'F': 0, '1': 1, '2': 2}[place], at)
@@ -152,3 +175,10 @@ FLATS = [(0, 'E'), (0, 'F'), (0, '1'), (0, '2'), (90, 'E'), (90, 'F'), (90, '1')
 for kind, x in EAVES:
     for direction, place in FLATS:
         show(4000, 4800, 4000, kind, x, direction, place)
+
+# each end of each row of the single slopes, and a step of a tenth of a degree to either side; the walls under each wind
+INCLINES = [49, 50, 51, 99, 100, 101, 149, 150, 151, 199, 200, 201, 249, 250, 251, 299, 300, 301]
+for x in INCLINES:
+    for direction in SINGLE_WINDS + (30,):
+        for place in 'EFGHAw1':
+            show(500, 1200, 1000, 6, x, direction, place)

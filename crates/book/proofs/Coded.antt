@@ -148,13 +148,18 @@ row-is k i h g =
 
 -- the rows of single slopes, which another table holds
 abbrev coded-slope : Standing → coded-slopes.Slope
-coded-slope s = (s .row .number, s .at, s .row .cells)
+coded-slope s = (s .at, s .row .cells)
 
 abbrev codedSlope : ℕ → coded-slopes.Slope
 codedSlope n = getD (map coded-slope singleSlope) n (coded-slope noStanding)
 
 pub slope-is : (i : ℕ) → codedSlope i ≡ coded-slope (getD singleSlope i noStanding)
 slope-is i = List·getD-map coded-slope singleSlope i noStanding
+
+pub slope-number : (i : ℕ) → i < 5 → i + 1 ≡ getD singleSlope i noStanding .row .number
+slope-number =
+    each-at (λ (i : ℕ). i + 1 ≡ getD singleSlope i noStanding .row .number) 5
+    (refl, (refl, (refl, (refl, (refl, tt)))))
 
 -- a number of a row, as a contract has it
 pub number-in : (f : Standing → ℕ) → f noStanding ≡ 0 → (k i : ℕ)
@@ -219,13 +224,13 @@ flat-cell i col from to =
     rw e at (cell-is (rowsOf gableParts) (take 10 rows) (drop 10 rows) (drop 10 rows) tt refl i col from to)
 
 pub single-cell : (i col : ℕ) → 0 < i → i ≤ 5
-    → getD (codedSlope (i - 1) .2) col (pos 0) ≡ hundredths (rowNumbered i singleTable) col
+    → getD (codedSlope (i - 1) .1) col (pos 0) ≡ hundredths (rowNumbered i singleTable) col
 unfolding singleTable
 single-cell i col from to =
     let n = i - 1 in
     let e : 1 + n ≡ i = omega arith in
     let rows = map (λ (s : Standing). s .row) singleSlope in
-    ap (λ (r : coded-slopes.Slope). getD (r .2) col (pos 0)) (slope-is n)
+    ap (λ (r : coded-slopes.Slope). getD (r .1) col (pos 0)) (slope-is n)
     ∙ ap (λ (r : Row). hundredths r col)
     (sym (List·getD-map (λ (s : Standing). s .row) singleSlope n noStanding)
     ∙ sym (rw e at (run-at 1 n rows [] tt (omega arith))))

@@ -80,29 +80,17 @@ const ROWS: [Row; 33] = [
 // Where each part begins among them: gable by h/b; straight eaves, parapet, curved eaves, mansard; and the end.
 const FIRST: [usize; 8] = [0, 7, 14, 22, 23, 26, 29, 33];
 
-// A printed row of single slopes.
-struct Slope(u16, u16, [i16; 10]);
+// A printed row of single slopes: the number at which it stands, and its hundredths.
+struct Slope(u16, [i16; 10]);
 
 // Table 3.2.2.2.3, at tenths of a degree; the first row is that of 5 to 10 degrees. Wind 0 E,F and G,H; 45 E,F and
 // G,H; 90 E,G and F,H; 135 E,F and G,H; 180 E,F and G,H.
 const SLOPES: [Slope; 5] = [
-    Slope(
-        1,
-        100,
-        [-100, -50, -100, -90, -100, -50, -90, -100, -50, -100],
-    ),
-    Slope(
-        2,
-        150,
-        [-90, -50, -100, -70, -100, -50, -60, -100, -30, -100],
-    ),
-    Slope(
-        3,
-        200,
-        [-80, -50, -100, -60, -90, -50, -50, -100, -20, -100],
-    ),
-    Slope(4, 250, [-70, -50, -100, -60, -80, -50, -30, -90, -10, -90]),
-    Slope(5, 300, [-50, -50, -100, -60, -80, -50, -10, -60, 0, -60]),
+    Slope(100, [-100, -50, -100, -90, -100, -50, -90, -100, -50, -100]),
+    Slope(150, [-90, -50, -100, -70, -100, -50, -60, -100, -30, -100]),
+    Slope(200, [-80, -50, -100, -60, -90, -50, -50, -100, -20, -100]),
+    Slope(250, [-70, -50, -100, -60, -80, -50, -30, -90, -10, -90]),
+    Slope(300, [-50, -50, -100, -60, -80, -50, -10, -60, 0, -60]),
 ];
 
 // h/b comes up to the limit of a block.
@@ -162,7 +150,7 @@ fn row_of(k: usize, i: usize) -> Stand
 {
     if k == 7 {
         let r = SLOPES[i];
-        return Stand(r.0, r.1);
+        return Stand((i + 1) as u16, r.0);
     }
     let r = ROWS[FIRST[k] + i];
     Stand(r.0, r.1)
@@ -222,7 +210,7 @@ fn single_cell(row: u32, col: usize) -> i16
     ensures { λ r. ⌜ r ≡ hundredths (rowNumbered row singleTable) col ⌝ }
 {
     let r = SLOPES[(row - 1) as usize];
-    r.2[col]
+    r.1[col]
 }
 
 // The hundredths of a row and column of the roof's table.

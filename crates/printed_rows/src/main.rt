@@ -124,6 +124,32 @@ const FLAT_WINDS: [i64; 10] = [0, 0, 0, 0, 90, 90, 90, 90, 0, 90];
 
 const FLAT_PLACES: [u8; 10] = [69, 70, 49, 50, 69, 70, 49, 50, 71, 72];
 
+// Single slopes at h 500, a 1200 and b 1000: slopes in tenths of a degree, winds and places.
+const INCLINES: [i64; 18] = [
+    49,
+    50,
+    51,
+    99,
+    100,
+    101,
+    149,
+    150,
+    151,
+    199,
+    200,
+    201,
+    249,
+    250,
+    251,
+    299,
+    300,
+    301,
+];
+
+const SINGLE_WINDS: [i64; 6] = [0, 45, 90, 135, 180, 30];
+
+const SINGLE_PLACES: [u8; 7] = [69, 70, 71, 72, 65, 119, 49];
+
 fn put(z: i64) {
     if z < 0 {
         io::write_all(1, b"-");
@@ -226,7 +252,19 @@ fn flat(n: usize) {
     show(g, FLAT_WINDS[n % 10], FLAT_PLACES[n % 10]);
 }
 
-// 900 questions on walls, 1040 on gables, 320 on flat roofs.
+fn single(n: usize) {
+    let g = Building {
+        h: 500,
+        a: 1200,
+        b: 1000,
+        density: 1250,
+        kind: 6,
+        x: INCLINES[n / 42 % 18],
+    };
+    show(g, SINGLE_WINDS[n / 7 % 6], SINGLE_PLACES[n % 7]);
+}
+
+// 900 questions on walls, 1040 on gables, 320 on flat roofs, 756 on single slopes.
 fn ask(n: usize) {
     if n < 900 {
         return wall(n);
@@ -234,12 +272,15 @@ fn ask(n: usize) {
     if n < 1940 {
         return gable(n - 900);
     }
-    flat(n - 1940);
+    if n < 2260 {
+        return flat(n - 1940);
+    }
+    single(n - 2260);
 }
 
 fn main() {
     let mut n: usize = 0;
-    while n < 2260 {
+    while n < 3016 {
         ask(n);
         n += 1;
     }

@@ -6,7 +6,7 @@ use borrow.Author.Needs.{needs}
 use lib.ListN.{length}
 use Rattle.book.specs.declared.roofs.Row as coded-rows
 use Rattle.book.specs.declared.roofs.Slope as coded-slopes
-use Rattle.book.proofs.Coded.{part, Placed, placed, row-is, slope-is, number-in}
+use Rattle.book.proofs.Coded.{part, Placed, placed, row-is, slope-is, slope-number, number-in}
 use Rattle.book.proofs.roofs.row_of.Statement.{statement}
 use Rattle.book.proofs.roofs.row_of.Tie as tie
 
@@ -28,13 +28,19 @@ mul-r c = omega (arith, few c)
 array-copy-out-r : tie.Need-array-copy-out-r
 array-copy-out-r c = few c
 
+add-t17 : tie.Need-add-t17
+add-t17 c = omega (arith, few (c .before))
+
+cast-t21 : tie.Need-cast-t21
+cast-t21 c = omega (arith, few (c .before))
+
 returns : tie.Need-returns
 returns c =
     let t = c .before in
     let i = t .before .args .i in
     rw (t .if1 .taken) (
-      ap (λ (r : coded-slopes.Slope). r .0) (slope-is i) ∙ sym (number-in (λ r. r .row .number) refl 7 i),
-      ap (λ (r : coded-slopes.Slope). r .1) (slope-is i) ∙ sym (number-in (λ r. r .at) refl 7 i),
+      slope-number i (few t) ∙ sym (number-in (λ r. r .row .number) refl 7 i),
+      ap (λ (r : coded-slopes.Slope). r .0) (slope-is i) ∙ sym (number-in (λ r. r .at) refl 7 i),
     )
 
 mul-r-2 : tie.Need-mul-r-2
@@ -63,4 +69,5 @@ returns-2 c =
 pub row-of-spec : {M : Type 1} → statement M
 row-of-spec =
     tie.close
-    (tie.spec mul-r array-copy-out-r returns mul-r-2 (λ c. search needs) add-r mul-r-3 array-copy-out-r-2 returns-2)
+    (tie.spec mul-r array-copy-out-r add-t17 cast-t21 returns mul-r-2 (λ c. search needs) add-r mul-r-3
+    array-copy-out-r-2 returns-2)
