@@ -17,10 +17,10 @@ use Rattle.whole.proofs.Parts.{le-by}
 use Rattle.whole.proofs.Tests.{by-test, or-true, is-true}
 use Rattle.field.specs.declared.Field.{Field}
 use Rattle.building.specs.declared.Building.{Building}
-use Rattle.building.specs.Test.{is, beyond, tooLong}
+use Rattle.building.specs.Test.{is, oneOf, beyond, tooLong}
 use Rattle.building.specs.Fault.{Fault, first}
 use Rattle.building.specs.Building.{faults, buildingFault}
-use Rattle.building.specs.Places.{A, H, knows}
+use Rattle.building.specs.Places.{A, H, single, wallDirections, knows, wallPlace}
 use Rattle.building.proofs.Accepted.{within, given-none}
 use Rattle.building.proofs.Machine.{is-same}
 use Rattle.building.proofs.Places.{among-yes, known-within}
@@ -34,7 +34,7 @@ use Rattle.entry.specs.declared.Step.{Step}
 use Rattle.entry.specs.declared.Face.{Face}
 use Rattle.job.specs.Carried.{Carried, nothing, lastHeight, highestOf, before}
 use Rattle.entry.specs.Says.{both, hasHeights, windOf, internalOf, stepOf, faceOf, carriedFace}
-use Rattle.rules.specs.Faults.{windFaults, stepFaults, offProfile, faceFaults}
+use Rattle.rules.specs.Faults.{windFaults, stepFaults, unmarkedWall, offProfile, faceFaults}
 use Rattle.rules.specs.Sections.{about, forms, lineFault}
 use Rattle.rules.proofs.Form.{AllFormed}
 use Rattle.rules.proofs.Rising.{found-none}
@@ -77,6 +77,17 @@ module _ (b : Before) where
   wind-none w o =
       (ap not (o .direction), (is-within (pos 1) (pos 1000) (w .speed) (o .least-speed) (o .greatest-speed), tt))
 
+  -- on a single slope a wall goes by its mark
+  unmarked-is : (f : Face) → single (b .building .kind) ≡ true → wallPlace (f .zone) ≡ true
+      → unmarkedWall (b .building .kind) f ≡ not (oneOf wallDirections (f .mark))
+  unmarked-is f s w = rw (s, w)
+
+  no-unmarked : (f : Face) → FaceInOrder (b .building) f → unmarkedWall (b .building .kind) f ≡ false
+  no-unmarked f o =
+      by-test (single (b .building .kind))
+      (λ s. by-test (wallPlace (f .zone)) (λ w. rw (s, w, o .wall s w)) (λ w. rw (s, w)))
+      (λ s. rw s)
+
   face-sound : (f : Face) → NoneFound (faceFaults b f) → FaceInOrder (b .building) f
   face-sound f n =
       let t = among-yes A H (f .zone) (not-false _ (n .0)) in
@@ -86,6 +97,7 @@ module _ (b : Before) where
         mark =
             ⊎-elim (λ e. inl (is-same both (f .mark) e)) (λ e. inr e)
             (or-true (is both (f .mark)) _ (not-false _ (n .1 .0)));
+        wall = λ s w. not-false _ (sym (unmarked-is f s w) ∙ n .1 .1 .1 .1 .1 .1 .1 .0);
         x = not-larger 100000 (f .x) (n .1 .1 .1 .0);
         y = not-larger 100000 (f .y) (n .1 .1 .1 .1 .0);
         z = not-larger 100000 (f .z) (n .1 .1 .1 .1 .1 .0);
@@ -106,7 +118,7 @@ module _ (b : Before) where
       let y = faceOf (hasHeights (b .year)) x .height in
       between (b .lowest) (b .highest) y
       (ap (λ (t : Bool). t && beyond (b .lowest) (b .highest) y) (sym e)
-      ∙ in-order (Entry F) b x z .none .1 .1 .1 .1 .1 .1 .1 .0)
+      ∙ in-order (Entry F) b x z .none .1 .1 .1 .1 .1 .1 .1 .1 .0)
 
   pub step-line : (x : List Field) → lineFault (Entry P) b x ≡ 0
       → StepInOrder (stepOf x) × (b .highest <ℤ stepOf x .height)
@@ -136,7 +148,7 @@ module _ (b : Before) where
           is-small 100000 (f .x) (o .x),
           (
             is-small 100000 (f .y) (o .y),
-            (is-small 100000 (f .z) (o .z), (ap not (o .on), (off, tt))),
+            (is-small 100000 (f .z) (o .z), (ap not (o .on), (no-unmarked f o, (off, tt)))),
           ),
         ),
       ),

@@ -11,7 +11,8 @@ use lib.Signed.{_≤ℤ_, _<ℤ_}
 use Rattle.whole.specs.Lists.{Every}
 use Rattle.building.specs.declared.Building.{Building}
 use Rattle.building.specs.Building.{buildingFault}
-use Rattle.building.specs.Places.{A, H, zoneOn, knows}
+use Rattle.building.specs.Test.{oneOf}
+use Rattle.building.specs.Places.{A, H, single, zoneOn, wallDirections, knows, wallPlace}
 use Rattle.entry.specs.declared.Wind.{Wind}
 use Rattle.entry.specs.declared.Step.{Step}
 use Rattle.entry.specs.declared.Face.{Face}
@@ -32,11 +33,13 @@ pub record WindInOrder (g : Building) (w : Wind) : Type 0 where
 abbrev pub InternalInOrder : ℤ → Type 0
 InternalInOrder i = natAbs i ≤ 100
 
--- a zone from A to H that is on the building; a mark for both directions, or for one that the roof knows
+-- a zone from A to H that is on the building; a mark for every direction, or for one that the roof knows; a wall of a
+-- single slope marked for one that the walls' table has
 pub record FaceInOrder (g : Building) (f : Face) : Type 0 where
   pub zone : Within A H (f .zone)
   pub on : zoneOn (g .kind) (f .zone) ≡ true
   pub mark : (f .mark ≡ both) ⊎ (knows (g .kind) (f .mark) ≡ true)
+  pub wall : single (g .kind) ≡ true → wallPlace (f .zone) ≡ true → oneOf wallDirections (f .mark) ≡ true
   pub x : natAbs (f .x) ≤ 100000
   pub y : natAbs (f .y) ≤ 100000
   pub z : natAbs (f .z) ≤ 100000

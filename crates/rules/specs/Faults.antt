@@ -4,9 +4,9 @@ use mathlib.Core.Bool.{Bool, not, _&&_, _||_}
 use lib.IntN.{ℤ, pos, negℤ}
 use lib.Signed.{ltZ}
 use Rattle.building.specs.declared.Building.{Building}
-use Rattle.building.specs.Test.{among, is, beyond}
+use Rattle.building.specs.Test.{among, is, oneOf, beyond}
 use Rattle.building.specs.Fault.{Fault, fault}
-use Rattle.building.specs.Places.{A, H, zoneOn, knows}
+use Rattle.building.specs.Places.{A, H, single, zoneOn, wallDirections, knows, wallPlace}
 use Rattle.entry.specs.declared.Wind.{Wind}
 use Rattle.entry.specs.declared.Step.{Step}
 use Rattle.entry.specs.declared.Face.{Face}
@@ -44,8 +44,12 @@ areaFault z = fault 3 (beyond (negℤ (pos 100000)) (pos 100000) z)
 abbrev pub offProfile : Before → ℤ → Bool
 offProfile b z = hasHeights (b .year) && beyond (b .lowest) (b .highest) z
 
--- no zone's letter; a mark neither for both directions nor for one; the height and the areas; a zone that is not on
--- the building; a height outside the profile
+-- on a single slope, a wall that is not marked for a direction that the walls' table has
+abbrev pub unmarkedWall : ℤ → Face → Bool
+unmarkedWall kind f = single kind && (wallPlace (f .zone) && not (oneOf wallDirections (f .mark)))
+
+-- no zone's letter; a mark neither for every direction nor for one; the height and the areas; a zone that is not on
+-- the building, or a wall that its table has no column for; a height outside the profile
 abbrev pub faceFaults : Before → Face → List Fault
 faceFaults b f =
     fault 1 (not (among A H (f .zone)))
@@ -55,5 +59,6 @@ faceFaults b f =
     ∷ areaFault (f .y)
     ∷ areaFault (f .z)
     ∷ fault 6 (not (zoneOn (b .building .kind) (f .zone)))
+    ∷ fault 6 (unmarkedWall (b .building .kind) f)
     ∷ fault 8 (offProfile b (f .height))
     ∷ []

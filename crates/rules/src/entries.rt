@@ -4,6 +4,9 @@ use crate::Section;
 use crate::shape;
 use building::Building;
 use building::kinds::knows;
+use building::kinds::on_walls;
+use building::kinds::single;
+use building::kinds::wall_place;
 use building::limits::beyond;
 use entry::BOTH;
 use entry::Face;
@@ -18,7 +21,7 @@ ghost use Rattle.building.specs.Places as places;
 ghost use Rattle.building.specs.Test as test;
 ghost use Rattle.entry.specs.Says.{both};
 ghost use Rattle.rules.specs.Faults.{yearFaults, windFaults, internalFaults, heightFault, stepFaults};
-ghost use Rattle.rules.specs.Faults.{areaFault, offProfile, faceFaults};
+ghost use Rattle.rules.specs.Faults.{unmarkedWall, areaFault, offProfile, faceFaults};
 ghost use Rattle.rules.specs.Sections.{countFaults};
 
 // Fault n where it is found, and else the next that is.
@@ -89,7 +92,7 @@ fn is_zone(b: u8) -> bool
     b <= b'H'
 }
 
-// For both directions, or for one that the roof knows.
+// For every direction, or for one that the roof knows.
 fn is_marked(g: Building, m: i64) -> bool
     ensures { λ r. ⌜ r ≡ (test.is both m || places.knows (g .kind) m) ⌝ }
 {
@@ -97,6 +100,18 @@ fn is_marked(g: Building, m: i64) -> bool
         return true;
     }
     knows(g.kind, m)
+}
+
+// On a single slope, a wall that is not marked for a direction that the walls' table has.
+fn unmarked_wall(g: Building, f: Face) -> bool
+    ensures { λ r. ⌜ r ≡ unmarkedWall (g .kind) f ⌝ }
+{
+    if single(g.kind) {
+        if wall_place(f.zone) {
+            return !on_walls(f.mark);
+        }
+    }
+    false
 }
 
 fn area_fault(z: i64, next: u32) -> u32
@@ -119,7 +134,8 @@ pub fn face_fault(b: Before, f: Face) -> u32
 {
     let g = b.building;
     let height = fault(8, off_profile(b, f.height), 0);
-    let place = fault(6, !building::zone_on(g.kind, f.zone), height);
+    let wall = fault(6, unmarked_wall(g, f), height);
+    let place = fault(6, !building::zone_on(g.kind, f.zone), wall);
     let areas = area_fault(f.x, area_fault(f.y, area_fault(f.z, place)));
     let mark = fault(3, !is_marked(g, f.mark), height_fault(f.height, areas));
     fault(1, !is_zone(f.zone), mark)

@@ -23,7 +23,9 @@ returns c =
     let z = y .before .before in
     let p = z .before .before in
     let o = p .before in
-    let w = o .before .before in
+    let u = o .before .before in
+    let i = u .before in
+    let w = i .before in
     let v = w .before in
     let s = v .before .before .before in
     let g = s .args .b .building in
@@ -39,17 +41,20 @@ returns c =
     (said-or areaFault 3 (f .x) (q .1 .1 .0 .1)
     (said-or areaFault 3 (f .y) (q .1 .1 .1 .0 .1)
     (said-or areaFault 3 (f .z) (q .1 .1 .1 .1 .0 .1)
-    (found-or 6 (ap not on) (found-or 8 off refl (w .fault .ensures)) (p .fault2 .ensures))
+    (found-or 6 (ap not on)
+    (found-or 6 (i .unmarked-wall .ensures) (found-or 8 off refl (w .fault .ensures)) (u .fault2 .ensures))
+    (p .fault3 .ensures))
     (z .area-fault .ensures))
     (y .area-fault2 .ensures))
     (x .area-fault3 .ensures))
     (h .height-fault .ensures))
-    (m .fault3 .ensures))
-    (c .fault4 .ensures)
+    (m .fault4 .ensures))
+    (c .fault5 .ensures)
 
 pub face-fault-spec : {M : Type 1} → statement M
 face-fault-spec =
     tie.close
     (tie.spec (λ c κs. search needs) (λ c κs. search needs) (λ c κs. search needs) (λ c κs. search needs)
     (λ c κs. search needs) (λ c κs. search needs) (λ c κs. search needs) (λ c κs. search needs) (λ c κs. search needs)
-    (λ c κs. search needs) (λ c κs. search needs) (λ c κs. search needs) returns)
+    (λ c κs. search needs) (λ c κs. search needs) (λ c κs. search needs) (λ c κs. search needs) (λ c κs. search needs)
+    returns)
