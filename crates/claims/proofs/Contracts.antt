@@ -21,6 +21,9 @@ pub use Rattle.building.proofs.given_fault.Reads as given-fault
 pub use Rattle.building.proofs.zone_on.Reads as zone-on
 pub use Rattle.building.proofs.ratio.up_to.Reads as up-to
 pub use Rattle.building.proofs.kinds.knows.Reads as knows
+pub use Rattle.building.proofs.kinds.single.Reads as single
+pub use Rattle.building.proofs.kinds.on_walls.Reads as on-walls
+pub use Rattle.building.proofs.kinds.wall_place.Reads as wall-place
 pub use Rattle.building.proofs.limits.beyond.Reads as beyond
 pub use Rattle.building.proofs.limits.too_long.Reads as too-long
 pub use Rattle.building.proofs.asked.Reads as asked

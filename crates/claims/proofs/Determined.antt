@@ -89,6 +89,15 @@ up-to-determined κ a r r′ s s′ p q = same p q
 knows-determined : OneAnswer of.knows.Post
 knows-determined κ a r r′ s s′ p q = same p q
 
+single-determined : OneAnswer of.single.Post
+single-determined κ a r r′ s s′ p q = same p q
+
+on-walls-determined : OneAnswer of.on-walls.Post
+on-walls-determined κ a r r′ s s′ p q = same p q
+
+wall-place-determined : OneAnswer of.wall-place.Post
+wall-place-determined κ a r r′ s s′ p q = same p q
+
 beyond-determined : OneAnswer of.beyond.Post
 beyond-determined κ a r r′ s s′ p q = same p q
 

@@ -6,7 +6,7 @@ use Rattle.whole.specs.Lists.{Every}
 use Rattle.whole.specs.Lowest.{divisorUpTo, commonDivisor}
 use Rattle.whole.specs.Round.{halfUp, roundAway, leftOver, Half}
 use Rattle.building.specs.Building.{givenFault, buildingFault, outOfForm, outOfRange, outOfWalls, outOfRoof}
-use Rattle.building.specs.Places.{E, zoneOn, localOn, knows}
+use Rattle.building.specs.Places.{E, zoneOn, localOn, knows, placeOn}
 use Rattle.building.specs.Question.{askedOf}
 use Rattle.building.specs.Roof.{roofOf}
 use Rattle.building.specs.Test.{beyond, tooLong}
@@ -67,6 +67,6 @@ no-half-on-a-gable = gable-slopes
 
 pub half-on-a-flat-roof : HalfOnAFlatRoof
 unfolding divisorUpTo commonDivisor outsideOf askedOf givenFault buildingFault outOfForm outOfRange outOfWalls
-    outOfRoof tooLong beyond zoneOn localOn knows roofOf coefficientOf flatColumn roofColumn twoSigns roofWay wayIn
-    onStraight halfUp roundAway leftOver
+    outOfRoof tooLong beyond zoneOn localOn knows placeOn roofOf coefficientOf flatColumn roofColumn twoSigns roofWay
+    wayIn onStraight halfUp roundAway leftOver
 half-on-a-flat-roof = (refl, refl)

@@ -73,6 +73,15 @@ up-to-asks κ a = tt
 knows-asks : AsksNothing of.knows.Asked
 knows-asks κ a = tt
 
+single-asks : AsksNothing of.single.Asked
+single-asks κ a = tt
+
+on-walls-asks : AsksNothing of.on-walls.Asked
+on-walls-asks κ a = tt
+
+wall-place-asks : AsksNothing of.wall-place.Asked
+wall-place-asks κ a = tt
+
 beyond-asks : AsksNothing of.beyond.Asked
 beyond-asks κ a = tt
 

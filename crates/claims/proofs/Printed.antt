@@ -25,9 +25,9 @@ use Rattle.building.specs.Building.{givenFault, buildingFault, outOfForm, outOf
 use Rattle.book.specs.declared.Answer.the-variants.{Answered}
 use Rattle.book.specs.declared.Values.{Values}
 use Rattle.book.specs.declared.Values.the-variants.{One}
-use Rattle.building.specs.Places.{E, L1, zoneOn, localOn, knows}
+use Rattle.building.specs.Places.{E, L1, zoneOn, localOn, knows, placeOn}
 use Rattle.building.specs.Question.{askedOf}
-use Rattle.book.specs.Question.{outsideOf, coefficientOf, wallColumn, gableColumn, flatColumn, roofColumn, twoSigns}
+use Rattle.book.specs.Question.{outsideOf, coefficientOf, wallColumn, gableColumn, singleColumn, flatColumn, roofColumn, twoSigns}
 use Rattle.rules.specs.Form.{hasForm, inForm}
 use Rattle.entry.specs.Says.{both}
 use Rattle.rules.specs.Sections.{lineFault}
@@ -105,10 +105,10 @@ p and q = (p, q)
 
 pub printed-hold : Every Holds printed
 unfolding divisorUpTo commonDivisor outsideOf askedOf givenFault buildingFault outOfForm outOfRange outOfWalls
-    outOfRoof tooLong beyond zoneOn localOn knows roofOf coefficientOf wallColumn gableColumn flatColumn roofColumn
-    twoSigns wallRow blockOf roofWay wayIn onStraight halfUp roundAway roundDown leftOver reading linesIn linesFrom
-    split fieldsOf fieldFrom numeral unsigned negative digitsInForm allDigits valueAfter value readLines walk
-    lineFault inForm hasForm
+    outOfRoof tooLong beyond zoneOn localOn knows placeOn roofOf coefficientOf wallColumn gableColumn singleColumn
+    flatColumn roofColumn twoSigns wallRow blockOf roofWay wayIn onStraight halfUp roundAway roundDown leftOver
+    reading linesIn linesFrom split fieldsOf fieldFrom numeral unsigned negative digitsInForm allDigits valueAfter
+    value readLines walk lineFault inForm hasForm
 printed-hold =
     refl and refl and refl and refl  -- P1 to P4
     and refl and refl and refl and refl and refl  -- P5 to P7

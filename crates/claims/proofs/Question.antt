@@ -1,6 +1,6 @@
 -- What the definitions answer to a question is what it gets, and nothing else is.
 use mathlib.Core.Path.{_≡_, refl, sym, ap, subst, _∙_}
-use mathlib.Core.Bool.{Bool, true, false, _||_}
+use mathlib.Core.Bool.{Bool, true, false}
 use mathlib.Core.List.{map}
 use Prim.Native.Nat.{ℕ}
 use native.Mathlib.Omega.{arith}
@@ -15,7 +15,7 @@ use Rattle.building.specs.declared.Question.{Question}
 use Rattle.building.specs.declared.Question.the-variants as asked
 use Rattle.building.specs.Question.{askedOf}
 use Rattle.building.specs.Building.{buildingFault, givenFault, sizes}
-use Rattle.building.specs.Places.{zoneOn, localOn, knows}
+use Rattle.building.specs.Places.{knows, placeOn}
 use Rattle.building.proofs.Accepted.{in-order, given-none, none-given}
 use Rattle.building.proofs.Judged as judged
 use Rattle.job.proofs.Written.{building-given}
@@ -88,8 +88,8 @@ module _ (g : Building) (direction : ℤ) (place : ℕ) where
 
   -- ---- the question judged
 
-  in-question : buildingFault g ≡ 0 → knows (g .kind) direction ≡ true
-      → (zoneOn (g .kind) place || localOn (g .kind) place) ≡ true → InQuestion g direction place
+  in-question : buildingFault g ≡ 0 → knows (g .kind) direction ≡ true → placeOn (g .kind) direction place ≡ true
+      → InQuestion g direction place
   in-question e f h = record { in-order = sym sheet-fault ∙ given-none g e; known = f; there = h }
 
   -- the refusal, or that there is none
@@ -101,7 +101,7 @@ module _ (g : Building) (direction : ℤ) (place : ℕ) where
       (λ e. let none = eqb-true (givenFault g) 0 e in
       let fine = none-given g none in
       by-test (knows (g .kind) direction)
-      (λ f. by-test (zoneOn (g .kind) place || localOn (g .kind) place)
+      (λ f. by-test (placeOn (g .kind) direction place)
       (λ h. good (in-question fine f h) (judged.in-question g direction place fine f h))
       (λ h. bad _ (bad-place (sym sheet-fault ∙ none) f h) (judged.bad-place g direction place fine f h)))
       (λ f. bad _ (bad-direction (sym sheet-fault ∙ none) f) (judged.bad-direction g direction place fine f)))

@@ -1,4 +1,5 @@
--- Rows and fractions worked out by hand from the printed tables, where item 3 of paper 02 could be read in two ways.
+-- Rows and fractions worked out by hand from the printed tables, where items 2 and 3 of paper 02 could be read in two
+-- ways.
 use mathlib.Core.Path.{refl}
 use mathlib.Core.List.{List, [], _∷_}
 use lib.IntN.{pos}
@@ -8,14 +9,14 @@ use Rattle.whole.specs.Lowest.{divisorUpTo, commonDivisor}
 use Rattle.building.specs.Test.{beyond, tooLong}
 use Rattle.building.specs.Roof.{roofOf}
 use Rattle.building.specs.Building.{givenFault, buildingFault, outOfForm, outOfRange, outOfWalls, outOfRoof}
-use Rattle.building.specs.Places.{E, F, L1, zoneOn, localOn, knows}
+use Rattle.building.specs.Places.{E, F, G, H, L1, zoneOn, localOn, knows, placeOn}
 use Rattle.building.specs.Question.{askedOf}
 use Rattle.book.specs.declared.Values.the-variants.{One, Two}
 use Rattle.book.specs.Line.{wayIn, onStraight}
 use Rattle.book.specs.Walls.{wallRow}
 use Rattle.book.specs.Gable.{blockOf}
 use Rattle.book.specs.Roofs.{roofWay}
-use Rattle.book.specs.Question.{outsideOf, coefficientOf, wallColumn, gableColumn, flatColumn, roofColumn, twoSigns}
+use Rattle.book.specs.Question.{outsideOf, coefficientOf, wallColumn, gableColumn, singleColumn, flatColumn, roofColumn, twoSigns}
 use Rattle.claims.proofs.Printed.{Row, gives, Holds, shed, m, _and_}
 
 abbrev pub worked : List Row
@@ -31,11 +32,17 @@ worked =
     ∷ gives (shed 500 1200 1000 5 600) 0 E (One (m 500)) 10 10 0 1
     ∷ gives (shed 500 1200 1000 5 700) 0 E (One (m 567)) 10 1 1 3  -- from 60 degrees to straight eaves: -0.5666..
     ∷ gives (shed 500 1200 1000 5 900) 0 E (One (m 700)) 1 1 0 1  -- straight eaves
+    ∷ gives (shed 500 1200 1000 6 50) 45 G (One (m 900)) 1 1 0 1  -- from 5 degrees
+    ∷ gives (shed 500 1200 1000 6 99) 45 G (One (m 900)) 1 1 0 1  -- to 10 degrees one row
+    ∷ gives (shed 500 1200 1000 6 125) 135 E (One (m 750)) 1 2 1 2  -- from -0.90 at 10 to -0.60 at 15
+    ∷ gives (shed 500 1200 1000 6 275) 90 H (One (m 500)) 4 5 1 2
+    ∷ gives (shed 500 1200 1000 6 300) 180 F (One (pos 0)) 5 5 0 1
     ∷ []
 
 pub worked-hold : Every Holds worked
 unfolding outsideOf askedOf givenFault buildingFault outOfForm outOfRange outOfWalls outOfRoof tooLong beyond zoneOn
-    localOn knows roofOf coefficientOf wallColumn gableColumn flatColumn roofColumn twoSigns wallRow blockOf roofWay
-    wayIn divisorUpTo commonDivisor onStraight halfUp roundAway
+    localOn knows placeOn roofOf coefficientOf wallColumn gableColumn singleColumn flatColumn roofColumn twoSigns
+    wallRow blockOf roofWay wayIn divisorUpTo commonDivisor onStraight halfUp roundAway
 worked-hold =
-    refl and refl and refl and refl and refl and refl and refl and refl and refl and refl and refl and tt
+    refl and refl and refl and refl and refl and refl and refl and refl and refl and refl and refl and refl and refl and refl
+    and refl and refl and tt

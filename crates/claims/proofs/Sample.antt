@@ -16,9 +16,9 @@ use Rattle.book.specs.Gable.{blockOf}
 use Rattle.book.specs.Roofs.{roofWay}
 use Rattle.building.specs.Roof.{roofOf}
 use Rattle.building.specs.Building.{givenFault, buildingFault, outOfForm, outOfRange, outOfWalls, outOfRoof}
-use Rattle.building.specs.Places.{zoneOn, localOn, knows}
+use Rattle.building.specs.Places.{zoneOn, localOn, knows, placeOn}
 use Rattle.building.specs.Question.{askedOf}
-use Rattle.book.specs.Question.{wallColumn, gableColumn, flatColumn, roofColumn, twoSigns, coefficientOf, outsideOf}
+use Rattle.book.specs.Question.{wallColumn, gableColumn, singleColumn, flatColumn, roofColumn, twoSigns, coefficientOf, outsideOf}
 use Rattle.building.specs.Test.{beyond, tooLong}
 use Rattle.rules.specs.Form.{hasForm, inForm}
 use Rattle.rules.specs.Sections.{lineFault}
@@ -47,7 +47,7 @@ pub sample : totalsText (reading (bytes sheet)) ≡ bytes lines
 unfolding divisorUpTo commonDivisor halfUp roundAway digitsWithin digits decimal allDigits valueAfter value
     digitsInForm unsigned negative numeral fieldFrom split fieldsOf linesFrom linesIn wayIn onStraight wallRow blockOf
     outOfRoof roofOf roofWay givenFault buildingFault outOfForm outOfRange outOfWalls tooLong zoneOn localOn knows
-    wallColumn gableColumn flatColumn roofColumn twoSigns coefficientOf outsideOf askedOf beyond hasForm inForm
-    lineFault walk readLines reading better best numbers each choices total cases caseTotal worst padded shown
-    sixExtremes spaced extremeText axisText sixText reportText
+    placeOn wallColumn gableColumn singleColumn flatColumn roofColumn twoSigns coefficientOf outsideOf askedOf beyond
+    hasForm inForm lineFault walk readLines reading better best numbers each choices total cases caseTotal worst
+    padded shown sixExtremes spaced extremeText axisText sixText reportText
 sample = refl

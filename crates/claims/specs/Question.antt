@@ -1,6 +1,6 @@
 -- What a question about one zone or local gets: the first refusal in paper 01's order, or the coefficient.
 use mathlib.Core.Path.{_≡_}
-use mathlib.Core.Bool.{true, false, _||_}
+use mathlib.Core.Bool.{true, false}
 use mathlib.Core.List.{map}
 use Prim.Native.Nat.{ℕ, _<_}
 use lib.IntN.{ℤ, natAbs}
@@ -10,7 +10,7 @@ use Rattle.building.specs.declared.Building.{Building}
 use Rattle.building.specs.declared.Question as asked
 use Rattle.building.specs.declared.Question.the-variants as judged
 use Rattle.building.specs.Building.{sizes}
-use Rattle.building.specs.Places.{zoneOn, localOn, knows}
+use Rattle.building.specs.Places.{knows, placeOn}
 use Rattle.rules.specs.declared.Section.the-variants.{B}
 use Rattle.rules.specs.declared.Kind.the-variants.{Entry}
 use Rattle.rules.specs.Sections.{lineFault}
@@ -40,14 +40,14 @@ module _ (g : Building) (direction : ℤ) (place : ℕ) where
   pub data Refusal : Verdict → Type 0 where
     bad-building : {n : ℕ} → 0 < n → sheetFault g ≡ n → Refusal (refusal n 2)
     bad-direction : sheetFault g ≡ 0 → knows (g .kind) direction ≡ false → Refusal (refusal 3 0)
-    bad-place : sheetFault g ≡ 0 → knows (g .kind) direction ≡ true
-        → (zoneOn (g .kind) place || localOn (g .kind) place) ≡ false → Refusal (refusal 6 0)
+    bad-place : sheetFault g ≡ 0 → knows (g .kind) direction ≡ true → placeOn (g .kind) direction place ≡ false
+        → Refusal (refusal 6 0)
 
   -- none of these
   pub record InQuestion : Type 0 where
     pub in-order : sheetFault g ≡ 0
     pub known : knows (g .kind) direction ≡ true
-    pub there : (zoneOn (g .kind) place || localOn (g .kind) place) ≡ true
+    pub there : placeOn (g .kind) direction place ≡ true
 
   -- the question judged: what the tables are asked for are the building's sizes
   pub data Judged : asked.Question → Type 0 where
