@@ -2,10 +2,11 @@
 use mathlib.Core.Path.{_≡_, refl, sym, _∙_, subst}
 use mathlib.Core.Bool.{true, false}
 use mathlib.Core.List.{List}
-use Prim.Native.Nat.{ℕ, _≤_, _<_}
+use Prim.Native.Nat.{ℕ, zero, suc, _≤_, _<_}
 use native.Mathlib.Omega.{arith}
 use lib.Dec.{eqb, lit<, lit≤}
-use lib.IntN.{ℤ, natAbs}
+use lib.IntN.{ℤ, pos, natAbs}
+use lib.ListN.{getD}
 use borrow.Author.Tests.{eq-eqb, ne-eqb, eqb-true, eqb-false}
 use Rattle.whole.specs.Lists.{Every}
 use Rattle.whole.proofs.Size.{natAbs-neg}
@@ -20,7 +21,7 @@ use Rattle.building.specs.Places.{E, F, wallPlace, zoneOn, knows, placeOn}
 use Rattle.building.specs.Question.{askedOf}
 use Rattle.building.proofs.Places.{among-yes, among-is, needs-roof, place-there, RoofZone, of-gable}
 use Rattle.building.proofs.Places.{of-single, of-flat, roof-zone}
-use Rattle.building.proofs.Judged.{FitIn, question-fits, in-question}
+use Rattle.building.proofs.Judged.{FitIn, question-fits, bad-direction, bad-place, in-question}
 use Rattle.building.proofs.Accepted.{in-order}
 use Rattle.book.specs.declared.Answer.the-variants.{Answered}
 use Rattle.book.specs.declared.Cited.{Cited}
@@ -118,6 +119,14 @@ small-zone s o kind e wind zone roofed (of-flat k from to) =
 
 -- ---- the question
 
+values-small : {k kind place : ℕ} {values : List ℤ} → Alternatives k kind place values → (i : ℕ)
+    → natAbs (getD values i (pos 0)) ≤ k
+values-small (one h) zero = h
+values-small (one h) (suc i) = omega arith
+values-small (two h k e f) zero = h
+values-small (two h k e f) (suc zero) = k
+values-small (two h k e f) (suc (suc i)) = omega arith
+
 -- each alternative is 2.500 in size at most
 abbrev pub Small : List ℤ → Type 0
 Small values = Every (λ z. natAbs z ≤ 2500) values
@@ -145,6 +154,17 @@ module _ (g : Building) (direction : ℤ) (place : ℕ) where
       rw (answered e f p)
       (alternatives (sizes g) o (natAbs direction) place 1200 (lit≤ tt) roofed
       (λ w h. small-zone (sizes g) o (g .kind) refl (natAbs direction) place (roofed w) (roof-zone (g .kind) place z w)))
+
+  -- nor is any under whatever direction: where it is refused there is none
+  pub zone-small : buildingFault g ≡ 0 → zoneOn (g .kind) place ≡ true → (i : ℕ)
+      → natAbs (getD (valuesOf (outsideOf g direction place)) i (pos 0)) ≤ 1200
+  unfolding outsideOf
+  zone-small e z i =
+      by-test (knows (g .kind) direction)
+      (λ f. by-test (placeOn (g .kind) direction place)
+      (λ p. values-small (zone-answered e f p z) i)
+      (λ p. rw (bad-place g direction place e f p) (omega arith)))
+      (λ f. rw (bad-direction g direction place e f) (omega arith))
 
   -- any answer: no alternative is above 2.500
   small-answer : (q : Question) → FitIn g direction place q → Small (valuesOf (answerTo q (natAbs direction) place))

@@ -9,7 +9,7 @@ use lib.Dec.{leb, eqb}
 use lib.IntN.{ℤ, pos, negsuc, natAbs}
 use borrow.Author.Tests.{leb-true, le-leb, not-true}
 use Rattle.whole.specs.Lists.{Every}
-use Rattle.whole.proofs.Tests.{or-true, or-false, or-assoc, and-true}
+use Rattle.whole.proofs.Tests.{by-test, or-true, or-false, or-assoc, and-true}
 use Rattle.building.specs.Test.{among, is, oneOf, beyond}
 use Rattle.building.specs.Places.{A, D, E, F, H, wallLocal, gable, single, flat, zoneOn, localOn}
 use Rattle.building.specs.Places.{wallPlace, wallDirections, slopeDirections, knows, placeOn}
@@ -124,3 +124,20 @@ pub place-there : (kind direction : ℤ) (place : ℕ) → placeOn kind directio
 unfolding placeOn
 place-there kind direction place e =
     and-true (zoneOn kind place || localOn kind place) (not (wallPlace place) || oneOf wallDirections direction) e .0
+
+-- a zone on the building is, if it is on no wall of a single slope that the direction misses
+pub zone-there : (kind direction : ℤ) (zone : ℕ) → zoneOn kind zone ≡ true → knows kind direction ≡ true
+    → (single kind ≡ true → wallPlace zone ≡ true → oneOf wallDirections direction ≡ true)
+    → placeOn kind direction zone ≡ true
+unfolding placeOn
+zone-there kind direction zone e f h =
+    rw e
+    (by-test (wallPlace zone)
+    (λ w. rw w (by-test (single kind) (λ s. h s w)
+    (λ s. left (oneOf wallDirections direction) (oneOf slopeDirections direction)
+    (rw s at (sym (knows-by kind direction) ∙ f)))))
+    (λ w. rw w))
+  where
+    left : (t u : Bool) → (t || (false && u)) ≡ true → t ≡ true
+    left true u e = refl
+    left false u e = e

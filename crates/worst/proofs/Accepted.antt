@@ -4,33 +4,37 @@ use mathlib.Core.Path.{_≡_, refl, sym, ap, _∙_, subst}
 use mathlib.Core.Logic.{_⊎_, inl, inr, ⊎-elim}
 use mathlib.Core.Bool.{true, true≢false}
 use mathlib.Core.List.{List, List·Memᴰ}
-use Prim.Native.Nat.{ℕ, zero, suc, _-_, _≤_, _<_}
+use Prim.Native.Nat.{ℕ, _-_, _*_, _≤_, _<_}
 use native.Mathlib.Omega.{arith}
 use lib.IntN.{ℤ, pos, negℤ, natAbs}
 use lib.Signed.{leZ-yes}
+use lib.Dec.{T, leb, leb→le}
 use lib.ListN.{length, getD, length-map}
 use Rattle.whole.specs.Lists.{firstOf, Every}
 use Rattle.whole.proofs.Order.{≤ℤ-trans}
+use Rattle.whole.proofs.Tests.{or-true}
 use Rattle.whole.proofs.Size.{size-rises}
 use Rattle.whole.proofs.Lists.{every-by, every-map, every-at, every-member, firstOf-length, firstOf-getD}
 use Rattle.book.specs.Answer.{valuesOf, Alternatives, one, two}
 use Rattle.building.specs.declared.Building.{Building}
-use Rattle.building.specs.Places.{knows}
+use Rattle.building.specs.Test.{is, oneOf}
+use Rattle.building.specs.Places.{wallDirections, knows, placeOn}
 use Rattle.book.specs.Question.{outsideOf}
 use Rattle.building.proofs.Accepted.{Within, within, good-fields}
-use Rattle.building.proofs.Places.{known}
+use Rattle.building.proofs.Machine.{is-same}
+use Rattle.building.proofs.Places.{known, zone-there}
 use Rattle.building.proofs.Ranges.{is-within}
-use Rattle.book.proofs.Answers.{zone-answered}
+use Rattle.book.proofs.Answers.{zone-answered, zone-small}
 use Rattle.entry.specs.declared.Wind.{Wind}
 use Rattle.entry.specs.declared.Step.{Step}
 use Rattle.entry.specs.declared.Face.{Face}
-use Rattle.entry.specs.Says.{hasHeights}
+use Rattle.entry.specs.Says.{both, hasHeights}
 use Rattle.job.specs.declared.Job.{Job}
 use Rattle.job.specs.Carried.{Carried, carried, noWind, noStep, noFace}
 use Rattle.job.specs.InOrder.{WindInOrder, InternalInOrder, FaceInOrder, StepInOrder, HeightInOrder, OfLaterYear}
 use Rattle.job.specs.InOrder.{InOrder}
 use Rattle.worst.specs.Worst.{given}
-use Rattle.worst.specs.Forces.{factorOf}
+use Rattle.worst.specs.Forces.{acts, factorOf}
 use Rattle.worst.specs.Factors.{StepSmall, Profiled, Fraction}
 use Rattle.worst.specs.Small.{FaceSmall, Met, AllMet, Ready}
 use Rattle.worst.specs.Engine.{facesOf}
@@ -46,20 +50,23 @@ one-or-two : {k kind place : ℕ} {values : List ℤ} → Alternatives k kind pl
 one-or-two (one {v} h) = alone v
 one-or-two (two {v} {w} h k e f) = pair v w
 
-values-small : {kind place : ℕ} {values : List ℤ} → Alternatives 1200 kind place values → (i : ℕ)
-    → natAbs (getD values i (pos 0)) ≤ 1200
-values-small (one h) zero = h
-values-small (one h) (suc i) = omega arith
-values-small (two h k e f) zero = h
-values-small (two h k e f) (suc zero) = k
-values-small (two h k e f) (suc (suc i)) = omega arith
+-- a mark that the walls' table has is not that for every direction, and so it is the wind's
+one-of-mark : (d mark : ℤ) → oneOf wallDirections mark ≡ true → (is both mark ≡ true) ⊎ (is d mark ≡ true)
+    → oneOf wallDirections d ≡ true
+one-of-mark d mark e (inl b) = absurd (true≢false (sym (rw (is-same both mark b) at e)))
+one-of-mark d mark e (inr b) = rw (is-same d mark b) at e
 
-either-way : (kind d : ℤ) → knows kind d ≡ true → (d ≡ pos 0) ⊎ (d ≡ pos 90)
-either-way kind d = known (λ (z : ℤ). (z ≡ pos 0) ⊎ (z ≡ pos 90)) kind d (inl refl, (inr refl, tt))
+-- a direction's turn, in steps of 45 degrees
+record Turned (d : ℤ) : Type 0 where
+  turn : ℕ
+  few : turn ≤ 4
+  way : d ≡ pos (turn * 45)
 
-knows-either : (kind d : ℤ) → (d ≡ pos 0) ⊎ (d ≡ pos 90) → knows kind d ≡ true
-unfolding knows
-knows-either kind d = ⊎-elim (λ e. rw e) (λ e. rw e)
+turned : (kind d : ℤ) → knows kind d ≡ true → Turned d
+turned kind d = known Turned kind d (to 0 tt, (to 2 tt, (to 1 tt, (to 3 tt, (to 4 tt, tt)))))
+  where
+    to : (n : ℕ) → T (leb n 4) → Turned (pos (n * 45))
+    to n t = record { turn = n; few = leb→le n 4 t; way = refl }
 
 -- a speed's range
 speed-within : (g : Building) (w : Wind) → WindInOrder g w → Within 1 1000 (w .speed)
@@ -77,9 +84,22 @@ step-small s o =
 -- ---- what is carried
 
 module _ (c : Carried) (o : InOrder c) where
+  -- a face that takes part is asked for under a direction that its table has
+  reached : (d : ℤ) → knows (c .building .kind) d ≡ true → (f : Face) → FaceInOrder (c .building) f
+      → acts f d ≡ true → placeOn (c .building .kind) d (f .zone) ≡ true
+  reached d e f h a =
+      zone-there (c .building .kind) d (f .zone) (h .on) e
+      (λ s w. one-of-mark d (f .mark) (h .wall s w) (or-true (is both (f .mark)) (is d (f .mark)) a))
+
   answered : (d : ℤ) → knows (c .building .kind) d ≡ true → (f : Face) → FaceInOrder (c .building) f
+      → acts f d ≡ true
       → Alternatives 1200 (natAbs (c .building .kind)) (f .zone) (valuesOf (outsideOf (c .building) d (f .zone)))
-  answered d e f h = zone-answered (c .building) d (f .zone) (o .building) e (h .on)
+  answered d e f h a = zone-answered (c .building) d (f .zone) (o .building) e (reached d e f h a) (h .on)
+
+  -- and no coefficient is above 1.200, whatever the direction
+  small-at : (d : ℤ) (f : Face) → FaceInOrder (c .building) f → (i : ℕ)
+      → natAbs (getD (valuesOf (outsideOf (c .building) d (f .zone))) i (pos 0)) ≤ 1200
+  small-at d f h = zone-small (c .building) d (f .zone) (o .building) (h .on)
 
   face-in : (f : Face) → List·Memᴰ f (c .faces) → FaceInOrder (c .building) f
   face-in f m = every-member (FaceInOrder (c .building)) (c .faces) (o .faces) m
@@ -88,7 +108,7 @@ module _ (c : Carried) (o : InOrder c) where
   wind-in w m = every-member (WindInOrder (c .building)) (c .winds) (o .winds) m
 
   pub given-sound : Sound (given c)
-  given-sound w f mw mf a = one-or-two (answered (w .direction) (wind-in w mw .direction) f (face-in f mf))
+  given-sound w f mw mf a = one-or-two (answered (w .direction) (wind-in w mw .direction) f (face-in f mf) a)
 
   face-small : (f : Face) → FaceInOrder (c .building) f → FaceSmall f
   face-small f h = record { x = h .x; y = h .y; z = h .z }
@@ -96,7 +116,8 @@ module _ (c : Carried) (o : InOrder c) where
   -- a face under a wind
   met : (w : Wind) → WindInOrder (c .building) w → (f : Face) → FaceInOrder (c .building) f → Met (c .building) w f
   met w hw f hf =
-      let small = values-small (answered (w .direction) (hw .direction) f hf) in
+      let small = small-at (w .direction) f hf in
+      let t = turned (c .building .kind) (w .direction) (hw .direction) in
       let outs = valuesOf (outsideOf (c .building) (w .direction) (f .zone)) in
       record {
         dense = good-fields (c .building) (o .building) .density .to;
@@ -104,7 +125,9 @@ module _ (c : Carried) (o : InOrder c) where
         face = face-small f hf;
         placed =
             record {
-              way = either-way (c .building .kind) (w .direction) (hw .direction);
+              turn = t .turn;
+              few = t .few;
+              way = t .way;
               from = hf .zone .low;
               to = hf .zone .high;
             };
@@ -133,8 +156,7 @@ module _ (c : Carried) (o : InOrder c) where
         internal = λ i m. every-member InternalInOrder (c .internals) (o .internals) m;
         fewFaces = o .faces-counted .high;
         face = λ f m. face-small f (face-in f m);
-        direction = λ w m. either-way (c .building .kind) (w .direction) (wind-in w m .direction);
-        outside = λ d e f m. values-small (answered d (knows-either (c .building .kind) d e) f (face-in f m));
+        outside = λ d f m. small-at d f (face-in f m);
       }
 
 -- ---- a record
@@ -162,7 +184,7 @@ module _ (j : Job) (o : InOrder (carried j)) where
   unfolding carried
   face i t =
       let h = counted-face (FaceInOrder (j .building)) (o .faces) i t in
-      record { zone = h .zone; on = h .on; mark = h .mark; x = h .x; y = h .y; z = h .z }
+      record { zone = h .zone; on = h .on; mark = h .mark; wall = h .wall; x = h .x; y = h .y; z = h .z }
 
   fewFaces : j .faces .count ≤ 24
   unfolding carried

@@ -38,8 +38,7 @@ pub record InRange (g : Given) : Type 0 where
   pub internal : (i : ℤ) → List·Memᴰ i (g .internals) → natAbs i ≤ 100
   pub fewFaces : length (g .faces) ≤ 24
   pub face : (f : Face) → List·Memᴰ f (g .faces) → FaceSmall f
-  pub direction : (w : Wind) → List·Memᴰ w (g .winds) → (w .direction ≡ pos 0) ⊎ (w .direction ≡ pos 90)
-  pub outside : (d : ℤ) → (d ≡ pos 0) ⊎ (d ≡ pos 90) → (f : Face) → List·Memᴰ f (g .faces) → (k : ℕ)
+  pub outside : (d : ℤ) (f : Face) → List·Memᴰ f (g .faces) → (k : ℕ)
       → natAbs (getD (g .outside d (f .zone)) k (pos 0)) ≤ 1200
 
 -- ---- a face under a wind
@@ -105,14 +104,13 @@ module _ (g : Given) (r : InRange g) (axis : Axis) where
     abbrev p : ℤ
     p = pressure (g .density) (faceSpeed (g .profile) w f)
 
-    force-small : (w .direction ≡ pos 0) ⊎ (w .direction ≡ pos 90) → natAbs (w .speed) ≤ 1000 → natAbs i ≤ 100
-        → List·Memᴰ f (g .faces) → natAbs (force axis g w i f k) ≤ 330000000000000000
-    force-small way slow low m = go (acts f (w .direction))
+    force-small : natAbs (w .speed) ≤ 1000 → natAbs i ≤ 100 → List·Memᴰ f (g .faces) → natAbs (force axis g w i f k) ≤ 330000000000000000
+    force-small slow low m = go (acts f (w .direction))
       where
         net-small : natAbs (net o i) ≤ 2200
         net-small =
             let inside = times-small i (pos 10) {k = 100} {l = 10} low (omega arith) in
-            minus-small o (i *ℤ pos 10) (r .outside (w .direction) way f m (k - 1)) inside
+            minus-small o (i *ℤ pos 10) (r .outside (w .direction) f m (k - 1)) inside
 
         go : (t : Bool) → natAbs (cond t (net o i *ℤ p *ℤ area axis f) (pos 0)) ≤ 330000000000000000
         go true =
@@ -129,18 +127,13 @@ module _ (g : Given) (r : InRange g) (axis : Axis) where
       let i = internalAt g (c .internal) in
       let few = r .fewFaces in
       let all =
-      total-small (force axis g w i) 330000000000000000 (g .faces) (λ f m k. force-small w i f k way slow low m)
+      total-small (force axis g w i) 330000000000000000 (g .faces) (λ f m k. force-small w i f k slow low m)
       (c .chosen) in
       omega arith
     where
       slow : natAbs (windAt g (c .wind) .speed) ≤ 1000
       slow =
           getD-all (λ (w : Wind). natAbs (w .speed) ≤ 1000) (g .winds) noWind (omega arith) (r .speed) (c .wind - 1)
-
-      way : (windAt g (c .wind) .direction ≡ pos 0) ⊎ (windAt g (c .wind) .direction ≡ pos 90)
-      way =
-          getD-all (λ (w : Wind). (w .direction ≡ pos 0) ⊎ (w .direction ≡ pos 90)) (g .winds) noWind (inl refl)
-          (r .direction) (c .wind - 1)
 
       low : natAbs (internalAt g (c .internal)) ≤ 100
       low =

@@ -1,13 +1,12 @@
 -- The table of coefficients: a place tells its direction and zone, what is stored at a place stands there, and all
 -- else stands as before.
-use mathlib.Core.Path.{_≡_, refl, sym, ap, _∙_, subst}
-use mathlib.Core.Logic.{_⊎_, ⊎-elim}
+use mathlib.Core.Path.{_≡_, refl, sym, ap₂, _∙_, subst}
 use mathlib.Core.Bool.{Bool, true, false, true≢false}
 use mathlib.Core.List.{List}
-use Prim.Native.Nat.{ℕ, zero, suc, _+_, _-_, _≤_, _<_}
+use Prim.Native.Nat.{ℕ, zero, suc, _+_, _-_, _*_, _/_, _%_, _<_}
 use native.Mathlib.Omega.{arith}
-use borrow.Author.Tests.{eqb-true, eqb-false, lt-ltb, le-ltb}
-use lib.Dec.{eqb, ltb}
+use borrow.Author.Tests.{eqb-true, eqb-false}
+use lib.Dec.{eqb}
 use lib.IntN.{ℤ, pos}
 use lib.ListN.{length, getD, set, replicate, length-set}
 use lib.Seq.{getD-set-same, getD-set-other}
@@ -17,36 +16,26 @@ use Rattle.building.specs.Places.{A}
 use Rattle.entry.specs.declared.Wind.{Wind}
 use Rattle.entry.specs.declared.Face.{Face}
 use Rattle.worst.specs.declared.outside.Outside.{Outside}
-use Rattle.worst.specs.Table.{outsideAt, placeOf, Placed, directionAt, zoneAt, standing, Stands}
+use Rattle.worst.specs.Table.{outsideAt, places, placeOf, Placed, directionAt, zoneAt, standing, Stands}
 use Rattle.worst.specs.Table.{Filled, StillStand}
 use Rattle.worst.specs.Small.{StandsFor}
 
 -- ---- places
 
-pub place-below : (d : ℤ) (z : ℕ) → Placed d z → placeOf d z < 16
+pub place-below : (d : ℤ) (z : ℕ) → Placed d z → placeOf d z < places
 place-below d z h =
-    ⊎-elim (λ (e : d ≡ pos 0). rw e (omega (arith, h .to))) (λ (e : d ≡ pos 90). rw e (omega (arith, h .to))) (h .way)
+    let turn = h .turn in
+    let few = h .few in
+    rw (h .way) (omega (arith, h .to))
 
 -- the direction and the zone of the place of a direction and a zone
 pub place-back : (b : Building) (d : ℤ) (z : ℕ) → Placed d z
     → outsideAt b (directionAt (placeOf d z)) (zoneAt (placeOf d z)) ≡ outsideAt b d z
-place-back b d z h = ⊎-elim zero ninety (h .way)
-  where
-    low : ltb (z - A) 8 ≡ true
-    low = lt-ltb (z - A) 8 (omega (arith, h .to))
-
-    high : ltb (z - A + 8) 8 ≡ false
-    high = le-ltb (z - A + 8) 8 (omega arith)
-
-    zero : d ≡ pos 0 → outsideAt b (directionAt (placeOf d z)) (zoneAt (placeOf d z)) ≡ outsideAt b d z
-    zero e =
-        let back : A + (z - A) ≡ z = omega (arith, h .from) in
-        rw e (rw low (ap (outsideAt b (pos 0)) back))
-
-    ninety : d ≡ pos 90 → outsideAt b (directionAt (placeOf d z)) (zoneAt (placeOf d z)) ≡ outsideAt b d z
-    ninety e =
-        let back : A + (z - A + 8 - 8) ≡ z = omega (arith, h .from) in
-        rw e (rw high (ap (outsideAt b (pos 90)) back))
+place-back b d z h =
+    let k = h .turn * 45 / 45 * 8 + (z - A) in
+    let direction : k / 8 * 45 ≡ h .turn * 45 = omega (arith, h .from, h .to) in
+    let zone : A + k % 8 ≡ z = omega (arith, h .from, h .to) in
+    rw (h .way) (ap₂ (λ (n m : ℕ). outsideAt b (pos n) m) direction zone)
 
 -- what stands at the place of a direction and a zone are their coefficients
 pub stands-for : (b : Building) (f l : List ℤ) (d : ℤ) (z : ℕ) → Placed d z → Stands b f l (placeOf d z)
@@ -60,9 +49,10 @@ none-asked zero k = refl
 none-asked (suc n) zero = refl
 none-asked (suc n) (suc k) = none-asked n k
 
-pub nothing-filled : (b : Building) → Filled b (replicate 16 false) (replicate 16 (pos 0)) (replicate 16 (pos 0))
+pub nothing-filled : (b : Building)
+    → Filled b (replicate places false) (replicate places (pos 0)) (replicate places (pos 0))
 nothing-filled b =
-    record { firsts = refl; lasts = refl; stand = λ k e. absurd (true≢false (sym e ∙ none-asked 16 k)) }
+    record { firsts = refl; lasts = refl; stand = λ k e. absurd (true≢false (sym e ∙ none-asked places k)) }
 
 -- ---- what is stored
 

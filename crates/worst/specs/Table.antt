@@ -1,16 +1,13 @@
 -- The engine's table of outside coefficients: a place for each direction and zone, filled when a face first asks.
 -- Only contracts of private functions cite it.
 use mathlib.Core.Path.{_≡_}
-use mathlib.Core.Logic.{_⊎_}
-use mathlib.Core.Bool.{Bool, true, false, cond}
+use mathlib.Core.Bool.{Bool, true, false}
 use mathlib.Core.List.{List}
-use Prim.Native.Nat.{ℕ, _+_, _-_, _≤_}
-use lib.Dec.{ltb}
-use lib.IntN.{ℤ, pos}
+use Prim.Native.Nat.{ℕ, _+_, _-_, _*_, _/_, _%_, _≤_}
+use lib.IntN.{ℤ, pos, natAbs}
 use lib.ListN.{length, getD}
 use Rattle.building.specs.declared.Building.{Building}
 use Rattle.building.specs.Places.{A, H}
-use Rattle.building.specs.Test.{is}
 use Rattle.book.specs.Answer.{valuesOf}
 use Rattle.book.specs.Question.{outsideOf}
 use Rattle.worst.specs.declared.outside.Outside.{Outside}
@@ -22,21 +19,26 @@ firstAndLast outs = record { first = getD outs 0 (pos 0); last = getD outs (leng
 abbrev pub outsideAt : Building → ℤ → ℕ → Outside
 outsideAt b direction zone = firstAndLast (valuesOf (outsideOf b direction zone))
 
--- the place of a direction and a zone: A to H under direction 0, then under 90
+-- directions lie 45 degrees apart, five of them: the place of a direction and a zone, A to H under each in turn
+abbrev pub places : ℕ
+places = 40
+
 abbrev pub placeOf : ℤ → ℕ → ℕ
-placeOf direction zone = cond (is (pos 90) direction) (zone - A + 8) (zone - A)
+placeOf direction zone = natAbs direction / 45 * 8 + (zone - A)
 
 pub record Placed (direction : ℤ) (zone : ℕ) : Type 0 where
-  pub way : (direction ≡ pos 0) ⊎ (direction ≡ pos 90)
+  pub turn : ℕ
+  pub few : turn ≤ 4
+  pub way : direction ≡ pos (turn * 45)
   pub from : A ≤ zone
   pub to : zone ≤ H
 
 -- the direction and the zone of a place
 abbrev pub directionAt : ℕ → ℤ
-directionAt k = cond (ltb k 8) (pos 0) (pos 90)
+directionAt k = pos (k / 8 * 45)
 
 abbrev pub zoneAt : ℕ → ℕ
-zoneAt k = cond (ltb k 8) (A + k) (A + (k - 8))
+zoneAt k = A + k % 8
 
 -- what stands at a place, and that it is right
 abbrev pub standing : List ℤ → List ℤ → ℕ → Outside
@@ -45,10 +47,10 @@ standing first last k = record { first = getD first k (pos 0); last = getD last 
 abbrev pub Stands : Building → List ℤ → List ℤ → ℕ → Type 0
 Stands b first last k = standing first last k ≡ outsideAt b (directionAt k) (zoneAt k)
 
--- sixteen places, at which stands what was asked for
+-- at the places stands what was asked for
 pub record Filled (b : Building) (asked : List Bool) (first last : List ℤ) : Type 0 where
-  pub firsts : length first ≡ 16
-  pub lasts : length last ≡ 16
+  pub firsts : length first ≡ places
+  pub lasts : length last ≡ places
   pub stand : (k : ℕ) → getD asked k false ≡ true → Stands b first last k
 
 -- what stood before stands after

@@ -62,8 +62,8 @@ fn alternative(
     w: Wind,
     factor: Factor,
     f: Face,
-    first: &[i64; 16],
-    last: &[i64; 16],
+    first: &[i64; 40],
+    last: &[i64; 40],
 ) -> u8
     requires { ⌜ Met b w f × Fraction factor × StandsFor b w f (now first) (now last) ⌝ }
     ensures { λ r. ⌜ r ≡ pickOf side axis b w factor f ⌝ }
@@ -127,8 +127,8 @@ pub(crate) fn shown(
     ends: Ends,
     parts: &[i64; 24],
     wholes: &[i64; 24],
-    first: &[i64; 16],
-    last: &[i64; 16],
+    first: &[i64; 40],
+    last: &[i64; 40],
 ) -> Six
     requires { ⌜ Ready job × Fractions (job .faces) (now parts) (now wholes)
         × FactorsStand (profileOf job) (job .faces) (now parts) (now wholes)

@@ -25,9 +25,9 @@ pub(crate) fn six_of(job: Job) -> Six
     let mut parts = [1i64; 24];
     let mut wholes = [1i64; 24];
     fill(job, &mut parts, &mut wholes);
-    let mut asked = [false; 16];
-    let mut first = [0i64; 16];
-    let mut last = [0i64; 16];
+    let mut asked = [false; 40];
+    let mut first = [0i64; 40];
+    let mut last = [0i64; 40];
     let mut ends = no_ends();
     let mut w = 0;
     while w < count {

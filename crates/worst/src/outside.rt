@@ -3,7 +3,7 @@
 ghost use mathlib.Core.Path.{_≡_};
 ghost use Prim.Native.Nat.{_<_};
 ghost use Rattle.book.specs.Answer.{valuesIn};
-ghost use Rattle.worst.specs.Table.{firstAndLast, outsideAt, placeOf, standing, Placed, Stands, Filled};
+ghost use Rattle.worst.specs.Table.{firstAndLast, outsideAt, places, placeOf, standing, Placed, Stands, Filled};
 ghost use Rattle.worst.specs.Table.{StillStand};
 ghost use Rattle.worst.specs.Forces.{acts};
 use book::Answer;
@@ -29,16 +29,13 @@ pub(crate) fn takes_part(f: Face, w: Wind) -> bool
     f.mark == w.direction
 }
 
-// The zones A to H under direction 0, then under 90.
+// The zones A to H under direction 0, then under 45, and so on to 180.
 fn place_of(w: Wind, f: Face) -> usize
     requires { ⌜ Placed (w .direction) (f .zone) ⌝ }
-    ensures { λ r. ⌜ (r ≡ placeOf (w .direction) (f .zone)) × (r < 16) ⌝ }
+    ensures { λ r. ⌜ (r ≡ placeOf (w .direction) (f .zone)) × (r < places) ⌝ }
 {
-    let k = (f.zone - 65) as usize;
-    if w.direction == 90 {
-        return k + 8;
-    }
-    k
+    let turn = (whole::magnitude(w.direction) / 45) as usize;
+    turn * 8 + ((f.zone - 65) as usize)
 }
 
 fn of_pair(first: i32, last: i32) -> Outside
@@ -73,7 +70,7 @@ fn looked_up(b: Building, w: Wind, f: Face) -> Outside
 }
 
 // What stands at the place of a face under a wind.
-pub(crate) fn at_place(w: Wind, f: Face, first: &[i64; 16], last: &[i64; 16]) -> Outside
+pub(crate) fn at_place(w: Wind, f: Face, first: &[i64; 40], last: &[i64; 40]) -> Outside
     requires { ⌜ Placed (w .direction) (f .zone) ⌝ }
     ensures { λ r. ⌜ r ≡ standing (now (first .entry)) (now (last .entry)) (placeOf (w .direction) (f .zone)) ⌝ }
 {
@@ -88,9 +85,9 @@ pub(crate) fn found(
     b: Building,
     w: Wind,
     f: Face,
-    asked: &mut [bool; 16],
-    first: &mut [i64; 16],
-    last: &mut [i64; 16],
+    asked: &mut [bool; 40],
+    first: &mut [i64; 40],
+    last: &mut [i64; 40],
 ) -> Outside
     requires { ⌜ Placed (w .direction) (f .zone) × Filled b (now asked) (now first) (now last) ⌝ }
     ensures { λ r. ⌜ (r ≡ outsideAt b (w .direction) (f .zone))

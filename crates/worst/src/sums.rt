@@ -89,9 +89,9 @@ fn with_face(
     w: Wind,
     factor: Factor,
     f: Face,
-    asked: &mut [bool; 16],
-    first: &mut [i64; 16],
-    last: &mut [i64; 16],
+    asked: &mut [bool; 40],
+    first: &mut [i64; 40],
+    last: &mut [i64; 40],
 ) -> Axes
     requires { ⌜ AxesSmall 23 sums × Met b w f × Fraction factor × Filled b (now asked) (now first) (now last) ⌝ }
     ensures { λ r. ⌜ (r ≡ withFace b w factor f sums)
@@ -114,9 +114,9 @@ pub(crate) fn added(
     parts: &[i64; 24],
     wholes: &[i64; 24],
     w: Wind,
-    asked: &mut [bool; 16],
-    first: &mut [i64; 16],
-    last: &mut [i64; 16],
+    asked: &mut [bool; 40],
+    first: &mut [i64; 40],
+    last: &mut [i64; 40],
 ) -> Axes
     requires { ⌜ AllMet b faces w × Fractions faces (now parts) (now wholes)
         × Filled b (now asked) (now first) (now last) ⌝ }

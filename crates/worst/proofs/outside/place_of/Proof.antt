@@ -1,30 +1,41 @@
--- `outside::place_of` meets its contract: by the test of the direction.
-use mathlib.Core.Path.{refl}
+-- `outside::place_of` meets its contract: the direction is read back as it is.
+use mathlib.Core.Path.{_≡_, sym, ap, _∙_, subst}
+use Prim.Native.Nat.{ℕ, _+_, _-_, _*_, _/_, _<_}
 use native.Mathlib.Omega.{arith}
-use lib.IntN.{pos}
+use lib.IntN.{natAbs}
 use borrow.Author.Needs.{needs}
-use Rattle.building.proofs.Machine.{bits-same, bits-other}
+use Rattle.whole.proofs.Size.{said}
+use Rattle.building.specs.Places.{A}
+use Rattle.worst.specs.Table.{places}
+use Rattle.worst.proofs.Table.{place-below}
 use Rattle.worst.proofs.outside.place_of.Statement.{statement}
 use Rattle.worst.proofs.outside.place_of.Tie as tie
 
-abbrev start : tie.After-struct-told → tie.Start
-start t = t .before .before .before
+-- the magnitude is the direction's, which is at most four steps of 45 degrees
+module _ (c : tie.After-magnitude) where
+  abbrev start : tie.Start
+  start = c .before .before
+
+  read : c .magnitude .result ≡ natAbs (start .args .w .direction)
+  read = said natAbs (start .args .w .direction) (c .magnitude .ensures) (c .before .struct-told .given .0 .1)
+
+  steps : c .magnitude .result ≡ start .pre .turn * 45
+  steps = read ∙ ap natAbs (start .pre .way)
+
+mul-result : tie.Need-mul-result
+mul-result c = omega (arith, steps c, start c .pre .few)
+
+add-result : tie.Need-add-result
+add-result c = let m = c .before in omega (arith, steps m, start m .pre .few, start m .pre .from, start m .pre .to)
 
 returns : tie.Need-returns
 returns c =
-    let t = c .before in
-    let a = start t in
-    let d = a .args .w .direction in
-    rw (bits-same (pos 90) d (omega arith) (t .struct-told .given .0 .1) (c .if1 .taken))
-    (refl, omega (arith, a .pre .to))
-
-returns-2 : tie.Need-returns-2
-returns-2 c =
-    let t = c .before in
-    let a = start t in
-    let d = a .args .w .direction in
-    rw (bits-other (pos 90) d (omega arith) (t .struct-told .given .0 .1) (c .if1 .left))
-    (refl, omega (arith, a .pre .to))
+    let m = c .before in
+    let s = start m in
+    let e = ap (λ (n : ℕ). n / 45 * 8 + (s .args .f .zone - A)) (read m) in
+    (e, subst (λ (n : ℕ). n < places) (sym e) (place-below (s .args .w .direction) (s .args .f .zone) (s .pre)))
 
 pub place-of-spec : {M : Type 1} → statement M
-place-of-spec = tie.close (tie.spec (λ c. search needs) (λ c. search needs) (λ c. search needs) returns returns-2)
+place-of-spec =
+    tie.close
+    (tie.spec (λ c κs. search needs) mul-result (λ c. search needs) (λ c. search needs) add-result returns)
