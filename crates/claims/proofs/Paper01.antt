@@ -62,15 +62,15 @@ JobAsSheet = Always of.judge.Post (λ κ a r s. Always of.read-sheet.Post (λ κ
     LinesInForm (linesOf (carried (a .0))) → now (b .0) ≡ sheetText
     (carried (a .0)) → r ≡ q .verdict))
 
--- No report is longer than 474 bytes, and no accepted sheet than 1158.
+-- No report is longer than 474 bytes, and no accepted sheet than 1190.
 abbrev pub TextsAreShort : Type 0
 TextsAreShort = Always of.aral-report.Post (λ κ a r s. r .length ≤ 474)
     × Always of.aral-read.Post
-    (λ κ a r s. (c : Carried) → reading (now (a .0)) ≡ Accepted c → length (now (a .0)) ≤ 1158)
+    (λ κ a r s. (c : Carried) → reading (now (a .0)) ≡ Accepted c → length (now (a .0)) ≤ 1190)
 
--- A program that reads the first 1212 bytes, or more, of its input answers for all of it.
+-- A program that reads the first 1244 bytes, or more, of its input answers for all of it.
 abbrev pub PartAnswers : Type 0
-PartAnswers = (s : List ℕ) (n : ℕ) → 1212 ≤ n → reading (take n s) ≡ reading s
+PartAnswers = (s : List ℕ) (n : ℕ) → 1244 ≤ n → reading (take n s) ≡ reading s
 
 -- ---- the proofs
 

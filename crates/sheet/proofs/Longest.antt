@@ -59,10 +59,10 @@ unfoldable pub longestLine : Kind → ℕ
 longestLine (Count s) = 3 + length (digits (about s .most))
 longestLine (Entry «V») = 2
 longestLine (Entry B) = 30
-longestLine (Entry W) = 8
+longestLine (Entry W) = 9
 longestLine (Entry I) = 5
 longestLine (Entry P) = 11
-longestLine (Entry F) = 35
+longestLine (Entry F) = 36
 
 -- a number in a range has no sign
 in-range : {f : Field} (k least most : ℕ) → Formed Number f → Between (pos least) (pos most) (number f) → most < 10 ^ suc k
@@ -77,13 +77,13 @@ year-bytes {x} (more y none) e =
     let n = ap natAbs e in
     omega (arith, short 0 y (ap (λ (z : ℤ). pos (natAbs z)) e ∙ sym e) (omega arith))
 
--- a direction has no sign and at most 2 digits
-known-short : {f : Field} (kind : ℤ) → Formed Number f → knows kind (number f) ≡ true → length (fieldText f) ≤ 2
-known-short kind h e = let w = known-within kind _ e in short 1 h (w .plain) (omega (arith, w .to))
+-- a direction has no sign and at most 3 digits
+known-short : {f : Field} (kind : ℤ) → Formed Number f → knows kind (number f) ≡ true → length (fieldText f) ≤ 3
+known-short kind h e = let w = known-within kind _ e in short 2 h (w .plain) (omega (arith, w .to))
 
 -- speed: 4 digits
 wind-bytes : (g : Building) {x : List Field} → AllFormed (numberForms 2) x → WindInOrder g (windOf x)
-    → fieldBytes x ≤ 8
+    → fieldBytes x ≤ 9
 wind-bytes g {x} (more d (more v none)) o =
     omega (
       arith,
@@ -96,7 +96,7 @@ internal-bytes : {x : List Field} → AllFormed (numberForms 1) x → InternalIn
 internal-bytes (more i none) o = omega (arith, signed 2 i (omega arith))
 
 mark-short : {f : Field} (kind : ℤ) → Formed Mark f → (mark f ≡ both) ⊎ (knows kind (mark f) ≡ true)
-    → length (fieldText f) ≤ 2
+    → length (fieldText f) ≤ 3
 mark-short kind dash e = omega arith
 mark-short kind (form.mark (plus {m = m} h)) (inl e) = absurd (let q : m ≡ 4294967295 = cc in omega arith)
 mark-short kind (form.mark (plus h)) (inr e) = known-short kind (plus h) e
@@ -111,7 +111,7 @@ step-bytes (more h (more f none)) o =
 
 -- a height: 5 digits; each area: a sign and 6 digits
 face-bytes : (h : Bool) (g : Building) {x : List Field} → AllFormed (forms h (Entry F)) x → FaceInOrder g (faceOf h x)
-    → Between (pos 0) (pos 30000) (faceOf h x .height) → fieldBytes x ≤ 35
+    → Between (pos 0) (pos 30000) (faceOf h x .height) → fieldBytes x ≤ 36
 face-bytes true g (more letter (more m (more h (more a (more b (more d none)))))) o r =
     omega (
       arith,
@@ -161,16 +161,16 @@ longest [] = 0
 longest (Count s ∷ ks) = longestLine (Count s) + about s .most * longestLine (Entry s) + longest ks
 longest (Entry s ∷ ks) = longestLine (Entry s) + longest ks
 
--- 4 + 2 for V, 4 + 30 for B, 4 + 8 · 8 for W, 4 + 4 · 5 for I, 5 + 16 · 11 for P, 5 + 24 · 35 for F
-longest-tall : longest (sheet true) ≡ 1158
+-- 4 + 2 for V, 4 + 30 for B, 4 + 8 · 9 for W, 4 + 4 · 5 for I, 5 + 16 · 11 for P, 5 + 24 · 36 for F
+longest-tall : longest (sheet true) ≡ 1190
 unfolding longest longestLine digits digitsWithin
 longest-tall = refl
 
-longest-plain : longest (sheet false) ≡ 971
+longest-plain : longest (sheet false) ≡ 1003
 unfolding longest longestLine digits digitsWithin
 longest-plain = refl
 
-pub longest-sheet-is : (h : Bool) → longest (sheet h) ≤ 1158
+pub longest-sheet-is : (h : Bool) → longest (sheet h) ≤ 1190
 longest-sheet-is true = omega (arith, longest-tall)
 longest-sheet-is false = omega (arith, longest-plain)
 

@@ -1,4 +1,4 @@
--- Laws of a job that is written: refused as it is judged, and else its text is what it carries and fits a page of 1158
+-- Laws of a job that is written: refused as it is judged, and else its text is what it carries and fits a page of 1190
 -- bytes.
 use Prim.Native.Nat.{ℕ, _≤_}
 use mathlib.Core.Path.{_≡_, refl}
@@ -58,7 +58,7 @@ module _ (j : Job) (v : Verdict) (e : v ≡ verdict (judged j)) where
             (o .counted B tt .high, (o .counted W tt .high, (o .counted I tt .high, (o .counted F tt .high, tt))))
 
     -- the text on a page that has room for the longest, put into a buffer
-    module _ {l page : List ℕ} {n : ℕ} (w : Put l 0 (sheetText (carried j)) page n) (room : length l ≡ 1158) where
+    module _ {l page : List ℕ} {n : ℕ} (w : Put l 0 (sheetText (carried j)) page n) (room : length l ≡ 1190) where
       pub job-written : {o : Writing} {after : List ℕ} (buf : List ℕ)
           → (o ≡ writing (take n page) buf) × (after ≡ bufferAfter (take n page) buf)
           → (o ≡ jobWriting sheetText (judged j) buf) × (after ≡ jobBuffer sheetText (judged j) buf)
