@@ -11,11 +11,11 @@
 #define ENTRY(name) plain_##name
 #endif
 
-enum { WINDS = 8, INTERNALS = 4, STEPS = 16, FACES = 24 };
+enum { WINDS = 8, INTERNALS = 4, STEPS = 16, FACES = 24, TURNS = 5 };
 enum { LAST_YEAR = 2 };   /* the sheets of years 2 to here open with V and have one form */
-enum { BOTH = 99999999 }; /* a face's mark `-`: no number in form is so large */
+enum { EVERY = 99999999 }; /* a face's mark `-`, for every wind: no number in form is so large */
 enum { FORM = 1, COUNT, RANGE, RATIO, ROOF, PLACE, ROOM, HEIGHT };
-enum { NO_ROOF, GABLE, STRAIGHT, PARAPET, CURVED, MANSARD };
+enum { NO_ROOF, GABLE, STRAIGHT, PARAPET, CURVED, MANSARD, SINGLE };
 
 typedef struct { int64_t h, a, b, density, kind, x; } building;
 typedef struct { int height, factor; } step; /* a line of the profile */
@@ -47,7 +47,7 @@ static const struct { int general[2][4], local; } walls[6] = {
 };
 
 /* A row of a roof's table: its number there from 1, where it stands, and its columns. */
-typedef struct { int number, at, value[4]; } printed_row;
+typedef struct { int number, at, value[2 * TURNS]; } printed_row;
 
 /* Gables: by h/b; rows at slopes in tenths of a degree; wind 0 EF, wind 0 GH, wind 90 EG, wind 90 FH. */
 static const printed_row gables[3][8] = {
@@ -86,7 +86,27 @@ static const printed_row mansard_rows[] = {{8, 300, {-30, -150, -150}},
                                            {10, 600, {-50, -190, -190}},
                                            {1, 900, {-70, -250, -200}}};
 
-static int flat(const building *house) { return house->kind >= STRAIGHT; }
+/* Single slopes: the first row is printed for 5 to 10 degrees and stands here at its end; wind 0 EF GH, wind 45 EF GH,
+   wind 90 EG FH, wind 135 EF GH, wind 180 EF GH. */
+static const printed_row single_rows[] = {{1, 100, {-100, -50, -100, -90, -100, -50, -90, -100, -50, -100}},
+                                          {2, 150, {-90, -50, -100, -70, -100, -50, -60, -100, -30, -100}},
+                                          {3, 200, {-80, -50, -100, -60, -90, -50, -50, -100, -20, -100}},
+                                          {4, 250, {-70, -50, -100, -60, -80, -50, -30, -90, -10, -90}},
+                                          {5, 300, {-50, -50, -100, -60, -80, -50, -10, -60, 0, -60}}};
+
+static int flat(const building *house) { return within(house->kind, STRAIGHT, MANSARD); }
+
+static int sloping(const building *house) { return house->kind == GABLE || house->kind == SINGLE; }
+
+/* The directions: two on every roof, three more on a single slope. */
+static int straight_on(int64_t direction) { return direction == 0 || direction == 90; }
+
+static int slanting_or_back(int64_t direction) { return direction == 45 || direction == 135 || direction == 180; }
+
+static int knows(const building *house, int64_t direction)
+{
+    return straight_on(direction) || (house->kind == SINGLE && slanting_or_back(direction));
+}
 
 /* 0 for h/b to 1/2, 1 for to 3/2, 2 above. */
 static int height_block(const building *house)
@@ -115,6 +135,7 @@ static spot spot_of(const building *house)
     case PARAPET: return between(parapet_rows, house->h, 1000 * house->x);
     case CURVED: return between(curved_rows, house->h, 1000 * house->x);
     case MANSARD: return between(mansard_rows, 1, house->x);
+    case SINGLE: return between(single_rows, 1, house->x < 100 ? 100 : house->x);
     default: return (spot){&straight_row, &straight_row, 0, 1};
     }
 }
@@ -131,17 +152,25 @@ static int roof_value(const building *house, int column)
 
 static int on_wall(uint8_t place) { return ('A' <= place && place <= 'D') || place == 'w'; }
 
-/* The outside coefficients of a place in thousandths, and how many; 0 where the building has no such place. */
+/* The column of a zone in the table of a gable or a single slope: two for each of its winds, in their order. */
+static int column_of(const building *house, int direction, uint8_t zone)
+{
+    int wind = direction / (house->kind == SINGLE ? 45 : 90);
+    int second = direction == 90 ? zone == 'F' || zone == 'H' : zone >= 'G';
+    return 2 * wind + second;
+}
+
+/* The outside coefficients of a place in thousandths, and how many; 0 where the building has no such place, or its
+   table not this wind. */
 static int outside(const building *house, int direction, uint8_t place, int value[2])
 {
-    int ninety = direction == 90;
     value[0] = value[1] = 0;
     if (on_wall(place)) {
         int row = wall_row(house) - 1;
-        value[0] = 10 * (place == 'w' ? walls[row].local : walls[row].general[ninety][place - 'A']);
-    } else if (house->kind == GABLE && 'E' <= place && place <= 'H') {
-        int second = ninety ? place == 'F' || place == 'H' : place >= 'G';
-        value[0] = roof_value(house, 2 * ninety + second);
+        if (!straight_on(direction)) return 0;
+        value[0] = 10 * (place == 'w' ? walls[row].local : walls[row].general[direction == 90][place - 'A']);
+    } else if (sloping(house) && 'E' <= place && place <= 'H') {
+        value[0] = roof_value(house, column_of(house, direction, place));
     } else if (flat(house) && place == 'F') {
         value[0] = 200;
         value[1] = -200;
@@ -154,9 +183,11 @@ static int outside(const building *house, int direction, uint8_t place, int valu
     return 1;
 }
 
-static int zone_exists(const building *house, char zone)
+/* Whether the building has the face's zone: a wall beside a single slope only in a wind of the walls' table. */
+static int zone_fits(const building *house, const face *f)
 {
-    return zone <= 'D' || house->kind == GABLE || (flat(house) && zone <= 'F');
+    if (f->zone <= 'D') return house->kind != SINGLE || straight_on(f->mark);
+    return sloping(house) || (flat(house) && f->zone <= 'F');
 }
 
 /* ---- The building's own faults ---- */
@@ -169,6 +200,7 @@ static int roof_number_fits(const building *house)
     case PARAPET: return 40 * x >= h && 10 * x <= h;
     case CURVED: return 20 * x >= h && 5 * x <= h;
     case MANSARD: return within(x, 300, 900);
+    case SINGLE: return within(x, 50, 300);
     default: return x == 0;
     }
 }
@@ -176,7 +208,7 @@ static int roof_number_fits(const building *house)
 static int building_fault(const building *house)
 {
     if (!within(house->h, 100, 30000) || !within(house->a, 100, 30000) || !within(house->b, 100, 30000)
-        || !within(house->density, 1000, 1500) || !within(house->kind, 0, 5) || !within(house->x, 0, 30000))
+        || !within(house->density, 1000, 1500) || !within(house->kind, NO_ROOF, SINGLE) || !within(house->x, 0, 30000))
         return RANGE;
     if (house->h > 6 * house->b || house->a <= house->b || house->a > 4 * house->b) return RATIO;
     return roof_number_fits(house) ? 0 : ROOF;
@@ -251,7 +283,7 @@ static int read_winds(reader *r, job *j)
         int value[2];
         r->line++;
         if (!numbers(r, 2, value)) return FORM;
-        if ((value[0] != 0 && value[0] != 90) || !within(value[1], 1, 1000)) return RANGE;
+        if (!knows(&j->house, value[0]) || !within(value[1], 1, 1000)) return RANGE;
         j->direction[i] = value[0];
         j->speed[i] = value[1];
     }
@@ -290,7 +322,7 @@ static int read_mark(reader *r, int *mark)
 {
     if (peek(r) == '-' && r->at + 1 < r->length && r->text[r->at + 1] == ' ') {
         r->at++;
-        *mark = BOTH;
+        *mark = EVERY;
         return 1;
     }
     return number(r, mark);
@@ -312,11 +344,11 @@ static int read_face(reader *r, const job *j, face *f)
 {
     r->line++;
     if (!take_face(r, profiled(j), f)) return FORM;
-    if (f->mark != 0 && f->mark != 90 && f->mark != BOTH) return RANGE;
+    if (f->mark != EVERY && !knows(&j->house, f->mark)) return RANGE;
     if (!within(f->height, 0, 30000)) return RANGE;
     for (int axis = 0; axis < 3; axis++)
         if (!within(f->area[axis], -100000, 100000)) return RANGE;
-    if (!zone_exists(&j->house, f->zone)) return PLACE;
+    if (!zone_fits(&j->house, f)) return PLACE;
     if (profiled(j) && !within(f->height, j->step[0].height, j->step[j->steps - 1].height)) return HEIGHT;
     return 0;
 }
@@ -394,7 +426,7 @@ static void put_face(writer *w, const face *f, int high)
 {
     put(w, f->zone);
     put(w, ' ');
-    if (f->mark == BOTH) put(w, '-');
+    if (f->mark == EVERY) put(w, '-');
     else put_number(w, f->mark);
     if (high) put_after_space(w, f->height);
     put(w, ' ');
@@ -422,23 +454,25 @@ static void put_sheet(writer *w, const job *j)
 
 /* ---- The worst cases ---- */
 
-/* What a face offers under one direction: no alternative where it is marked for the other. */
+/* What a face offers under one direction, by the direction's eighths of a turn: no alternative where it is marked for
+   another. */
 typedef struct { int count, value[2]; } offer;
 typedef struct { int64_t total; int wind, internal; } best;
-typedef struct { offer offer[FACES][2]; int64_t weight[WINDS][FACES][3]; best best[6]; } worst;
+typedef struct { offer offer[FACES][TURNS]; int64_t weight[WINDS][FACES][3]; best best[6]; } worst;
+
+static int turn_of(int direction) { return direction / 45; }
 
 static void gather_offers(const job *j, worst *w)
 {
-    int used[2] = {0, 0};
-    for (int i = 0; i < j->winds; i++) used[j->direction[i] == 90] = 1;
-    for (int i = 0; i < j->faces; i++) {
-        const face *f = &j->face[i];
-        for (int ninety = 0; ninety < 2; ninety++) {
-            offer *o = &w->offer[i][ninety];
-            if (!used[ninety] || (f->mark != BOTH && f->mark != 90 * ninety)) o->count = 0;
-            else o->count = outside(&j->house, 90 * ninety, (uint8_t)f->zone, o->value);
+    int used[TURNS] = {0};
+    for (int i = 0; i < j->winds; i++) used[turn_of(j->direction[i])] = 1;
+    for (int turn = 0; turn < TURNS; turn++)
+        for (int i = 0; used[turn] && i < j->faces; i++) {
+            const face *f = &j->face[i];
+            offer *o = &w->offer[i][turn];
+            if (f->mark != EVERY && f->mark != 45 * turn) o->count = 0;
+            else o->count = outside(&j->house, 45 * turn, (uint8_t)f->zone, o->value);
         }
-    }
 }
 
 /* The factor at a height of the profile, on the straight line between its lines and not rounded. */
@@ -476,10 +510,10 @@ static void weigh(const job *j, worst *w)
 /* The greatest and the least total on each axis under one wind and internal: each face chooses by itself. */
 static void sum_case(const job *j, const worst *w, int wind, int internal, int64_t sum[6])
 {
-    int ninety = j->direction[wind] == 90, inside = 10 * j->internal[internal];
+    int turn = turn_of(j->direction[wind]), inside = 10 * j->internal[internal];
     memset(sum, 0, 6 * sizeof *sum);
     for (int i = 0; i < j->faces; i++) {
-        const offer *o = &w->offer[i][ninety];
+        const offer *o = &w->offer[i][turn];
         if (o->count == 0) continue;
         for (int axis = 0; axis < 3; axis++) {
             int64_t weight = w->weight[wind][i][axis], first = (o->value[0] - inside) * weight, second = first;
@@ -512,7 +546,7 @@ static void find_worst(const job *j, worst *w)
 static int alternative(const job *j, const worst *w, int k, int i)
 {
     const best *b = &w->best[k];
-    const offer *o = &w->offer[i][j->direction[b->wind] == 90];
+    const offer *o = &w->offer[i][turn_of(j->direction[b->wind])];
     if (o->count < 2) return 1;
     int64_t weight = w->weight[b->wind][i][k / 2], inside = 10 * j->internal[b->internal];
     int64_t first = (o->value[0] - inside) * weight, second = (o->value[1] - inside) * weight;
@@ -630,7 +664,7 @@ aral_coefficient ENTRY(outside)(int64_t h, int64_t a, int64_t b, int64_t density
         if (!within(number[i], -9999999, 9999999)) fault = FORM;
     if (!fault) fault = building_fault(&house);
     if (fault) return refused(fault, 2);
-    if (direction != 0 && direction != 90) return refused(RANGE, 0);
+    if (!knows(&house, direction)) return refused(RANGE, 0);
     int count = outside(&house, (int)direction, place, value);
     if (count == 0) return refused(PLACE, 0);
     aral_coefficient c = {.count = (uint32_t)count, .value = {value[0], value[1]}};

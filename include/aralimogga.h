@@ -7,17 +7,22 @@
    0       accepted; the line is 0 too
    1       the line is missing, unended, extra or not in the sheet's form
    2       a count is not 1 for V and B, or not 1 to 8 for W, 1 to 4 for I, 1 to 16 for P, 1 to 24 for F
-   3       a number is outside its range, the year is not 2, a direction or a mark is a number other than 0 and 90, or
-           a height of the profile does not rise
+   3       a number is outside its range, the year is not 2, a direction or a mark is a number that the roof has no wind
+           for, or a height of the profile does not rise
    4       h/b is over 6, or a/b is not over 1, or a/b is over 4
    5       the roof number x is outside its kind's range
-   6       the zone or local is not on this building
+   6       the zone or local is not on this building; on one with roof kind 6 also a wall in another wind than 0 and 90
    7       the lent buffer is too short (line 0)
    8       the face's height is outside the profile
 
    A sheet of year 1 opens with section B. One of year 2 opens with section V and the year; it has a section P after I,
    the profile, and a height after each face's mark. A face's speed is then the wind's times the profile's factor at its
    height, rounded once to a tenth, a half up.
+
+   Roof kinds are 0 none, 1 gable, 2 flat with straight eaves, 3 with a parapet, 4 with curved eaves, 5 with a mansard,
+   and 6 a single slope, whose x is 50 to 300 tenths of a degree. Winds, marks and questions have the directions 0 and
+   90, and on kind 6 also 45, 135 and 180. The walls' table has 0 and 90 alone: on kind 6 every wall face is marked with
+   one of these. The mark `-` is for every direction of the roof.
 
    `line` is the sheet's line, counted from 1: the first faulty line, and in it the lowest number. It is 0 where
    no line is at fault. The sheet is bytes, not a C string: a zero byte is a byte like another, and none ends it.
@@ -50,7 +55,7 @@ enum {
 };
 
 /* The greatest lengths: in bytes of an acceptable sheet, a report and the digits of a number; and of a job's faces. */
-#define ARAL_SHEET_MOST 1158
+#define ARAL_SHEET_MOST 1189
 #define ARAL_REPORT_MOST 474
 #define ARAL_DIGITS_MOST 20
 #define ARAL_FACES_MOST 24
@@ -68,8 +73,9 @@ typedef struct { uint32_t number, line; uint64_t length; } aral_text;
    where the table has nothing to interpolate, both are that row and the fraction is 0/1. A net coefficient has the rows
    of its outside one, and zone F of a flat roof those of E.
    Rows are numbered from 1 as the book prints them: in the table of the walls 1 to 6; of gables 1 to 22, 7 for h/b to
-   1/2, 7 to 3/2 and 8 above; of flat roofs straight eaves 1, parapets 2 to 4, curved eaves 5 to 7, mansards 8 to 10.
-   A mansard of over 60 degrees lies between row 10 and row 1, which stands at 90 degrees, counted from row 10.
+   1/2, 7 to 3/2 and 8 above; of single slopes 1 to 5; of flat roofs straight eaves 1, parapets 2 to 4, curved eaves 5
+   to 7, mansards 8 to 10. A mansard of over 60 degrees lies between row 10 and row 1, which stands at 90 degrees,
+   counted from row 10. A single slope from 5 to 10 degrees is on row 1.
    Everything after `line` is 0 where refused. */
 typedef struct {
     uint32_t number, line, count;
@@ -122,8 +128,8 @@ aral_text aral_digits(int64_t number, uint8_t *out, size_t room);
    Height h, longer side a and shorter side b in cm, density in g/m3, the roof's kind and its number x, as on line 2 of
    a sheet of year 1. `place` is the letter of a zone, `A` to `H`, or `w` for the wall local, `1` for L1, `2` for L2.
    Refuses, in this order: the building with 1, 3, 4 or 5 at line 2, as its sheet would be (1 for a number of more than
-   seven digits); a direction other than 0 and 90 with 3, line 0, for locals too; a place that this building has not, or
-   a byte that names none, with 6, line 0. */
+   seven digits); a direction that the roof has not with 3, line 0, for locals too; a place that this building has not,
+   a wall zone or the wall local in another direction than 0 and 90, or a byte that names none, with 6, line 0. */
 aral_coefficient aral_outside(int64_t h, int64_t a, int64_t b, int64_t density, int64_t kind, int64_t x,
                               int64_t direction, uint8_t place);
 
