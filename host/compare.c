@@ -1,5 +1,5 @@
 /* Compares the library with the plain calculator, and both with a walk through every case, on sheets, damaged sheets,
-   questions and numbers from a printed seed: compare SEED SHEETS QUESTIONS NUMBERS. It stops at the first difference. */
+   questions and numbers from a printed seed: compare SEED SHEETS QUESTIONS NUMBERS. It stops where they differ. */
 #include "aralimogga.h"
 #include "plain.h"
 #include "sheets.h"
@@ -12,7 +12,9 @@
 #include <string.h>
 
 enum { OUT = 2048, WALKED = 4096 };
-static struct { unsigned long sheets, high, accepted, refused[9], walked, questions, answered, numbers, calls; } tally;
+static struct {
+    unsigned long sheets, high, single, accepted, refused[9], walked, questions, answered, numbers, calls;
+} tally;
 static dice die;
 
 static void show(const text *t)
@@ -129,6 +131,7 @@ static void compare_sheets(unsigned long count)
     static text t;
     for (unsigned long i = 0; i < count; i++) {
         make_sample(&die, &s);
+        tally.single += s.kind == 6;
         if (i % 4 == 1) spoil(&die, &s);
         write_sample(&s, &t);
         if (i % 4 >= 2) damage(&die, &t);
@@ -199,7 +202,7 @@ static void compare_questions(unsigned long count)
     for (unsigned long i = 0; i < count; i++) {
         sample s;
         make_building(&die, &s);
-        int64_t direction = pick(&die, 0, 1) ? 90 : 0, internal = pick(&die, -100, 100);
+        int64_t direction = direction_of(&die, pick(&die, 0, 3) ? s.kind : 6), internal = pick(&die, -100, 100);
         int64_t *number[] = {&s.h, &s.a, &s.b, &s.density, &s.kind, &s.x, &direction, &internal};
         for (int64_t slips = pick(&die, 0, 2); slips > 0; slips--) {
             int64_t *slip = number[pick(&die, 0, 7)];
@@ -209,11 +212,13 @@ static void compare_questions(unsigned long count)
     }
 }
 
-/* Every place of one building under both winds. */
+/* Every place of one building under each of its roof's winds. */
 static void ask_all(const sample *s)
 {
+    int64_t last = s->kind == 6 ? 180 : 90, turn = s->kind == 6 ? 45 : 90;
     for (const char *place = "ABCDEFGHw12"; *place; place++)
-        for (int64_t direction = 0; direction <= 90; direction += 90) ask_both(s, direction, (uint8_t)*place, -100);
+        for (int64_t direction = 0; direction <= last; direction += turn)
+            ask_both(s, direction, (uint8_t)*place, -100);
 }
 
 /* Every slope and every mansard's angle in every block of the walls' table, and a grid of parapets and curved eaves. */
@@ -225,6 +230,8 @@ static void compare_tables(void)
         for (s.x = i % 4; s.x <= 604; s.x += 4) ask_all(&s);
         s.kind = 5;
         for (s.x = 296 + i % 4; s.x <= 904; s.x += 4) ask_all(&s);
+        s.kind = 6;
+        for (s.x = 46 + i % 4; s.x <= 304; s.x += 4) ask_all(&s);
     }
     for (int64_t kind = 3; kind <= 4; kind++)
         for (int64_t h = 100; h <= 30000; h += h < 1000 ? 100 : 2900) {
@@ -307,8 +314,8 @@ int main(int argc, char **argv)
     compare_sheets(strtoul(argv[2], NULL, 10));
     compare_questions(strtoul(argv[3], NULL, 10));
     compare_numbers(strtoul(argv[4], NULL, 10));
-    printf("%lu sheets, %lu of them opening with V: %lu accepted, refused by number", tally.sheets, tally.high,
-           tally.accepted);
+    printf("%lu sheets, %lu of them opening with V, %lu with a single slope: ", tally.sheets, tally.high, tally.single);
+    printf("%lu accepted, refused by number", tally.accepted);
     for (int number = 1; number <= 8; number++)
         if (number != ARAL_ROOM) printf(" %d: %lu", number, tally.refused[number]);
     printf("\n%lu jobs walked through every case\n", tally.walked);

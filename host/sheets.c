@@ -39,7 +39,7 @@ int64_t edge_of(dice *d, int64_t usual)
     case 4: return ONE_OF(d, INT32_MAX, INT32_MIN, (int64_t)1 << 32, 1 << 16, 1 << 8) + near;
     case 5: return (int64_t)(roll(d) >> pick(d, 0, 63));
     case 6: return -(int64_t)(roll(d) >> pick(d, 1, 63));
-    case 7: return ONE_OF(d, 0, 5, 6, 45, 90, 99, 100, 101, 600, 900, 999, 1000, 1001, 1500, 1501, 30000, 30001) + near;
+    case 7: return ONE_OF(d, 0, 6, 45, 50, 90, 100, 135, 180, 300, 600, 900, 1000, 1500, 30000) + near;
     default: return moved(usual, near);
     }
 }
@@ -65,6 +65,9 @@ static int64_t roof_number(dice *d, const sample *s)
     case 5:
         if (pick(d, 0, 1)) return pick(d, 300, 900);
         return clamp(ONE_OF(d, 300, 450, 600, 900) + pick(d, -1, 1), 300, 900);
+    case 6:
+        if (pick(d, 0, 1)) return pick(d, 50, 300);
+        return clamp(ONE_OF(d, 50, 100, 150, 200, 250, 300) + pick(d, -1, 1), 50, 300);
     default: return 0;
     }
 }
@@ -98,7 +101,7 @@ static void building_of_kind(dice *d, sample *s, int64_t kind)
     } while (!acceptable(s));
 }
 
-void make_building(dice *d, sample *s) { building_of_kind(d, s, pick(d, 0, 5)); }
+void make_building(dice *d, sample *s) { building_of_kind(d, s, pick(d, 0, 6)); }
 
 /* ---- Profiles ---- */
 
@@ -148,8 +151,19 @@ static int area(dice *d)
 
 static char zone(dice *d, int64_t kind)
 {
-    if (kind >= 2 && pick(d, 0, 1)) return 'F';
-    return (char)('A' + pick(d, 0, kind == 0 ? 3 : kind == 1 ? 7 : 5));
+    static const char last[] = "DHFFFFH";
+    if (kind >= 2 && kind <= 5 && pick(d, 0, 1)) return 'F';
+    return (char)('A' + pick(d, 0, last[kind] - 'A'));
+}
+
+int direction_of(dice *d, int64_t kind) { return kind == 6 ? 45 * (int)pick(d, 0, 4) : pick(d, 0, 1) ? 90 : 0; }
+
+/* On a single slope a wall has no dash. */
+static int mark_of(dice *d, int64_t kind, char zone)
+{
+    if (kind < 6) return (int)ONE_OF(d, DASH, DASH, 0, 90);
+    if (zone <= 'D') return (int)ONE_OF(d, 0, 90);
+    return pick(d, 0, 1) ? DASH : direction_of(d, kind);
 }
 
 void make_sized(dice *d, sample *s, int64_t kind, int winds, int internals, int steps, int faces)
@@ -160,14 +174,14 @@ void make_sized(dice *d, sample *s, int64_t kind, int winds, int internals, int 
     s->internals = internals;
     s->faces = faces;
     for (int i = 0; i < winds; i++) {
-        s->direction[i] = pick(d, 0, 1) ? 90 : 0;
+        s->direction[i] = direction_of(d, kind);
         s->speed[i] = (int)(pick(d, 0, 1) ? ONE_OF(d, 1, 2, 400, 400, 999, 1000) : pick(d, 1, 1000));
     }
     for (int i = 0; i < internals; i++)
         s->internal[i] = (int)(pick(d, 0, 1) ? ONE_OF(d, -100, 100, 0, 20, -20, -30, -70, 70) : pick(d, -100, 100));
     for (int i = 0; i < faces; i++) {
         s->zone[i] = zone(d, s->kind);
-        s->mark[i] = (int)ONE_OF(d, DASH, DASH, 0, 90);
+        s->mark[i] = mark_of(d, kind, s->zone[i]);
         s->height[i] = face_height(d, s);
         for (int axis = 0; axis < 3; axis++) s->area[i][axis] = area(d);
     }
@@ -176,7 +190,7 @@ void make_sized(dice *d, sample *s, int64_t kind, int winds, int internals, int 
 void make_sample(dice *d, sample *s)
 {
     int small = (int)pick(d, 0, 1), first_year = (int)pick(d, 0, 1);
-    make_sized(d, s, pick(d, 0, 5), (int)pick(d, 1, small ? 2 : 8), (int)pick(d, 1, small ? 2 : 4),
+    make_sized(d, s, pick(d, 0, 6), (int)pick(d, 1, small ? 2 : 8), (int)pick(d, 1, small ? 2 : 4),
                first_year ? 0 : (int)pick(d, 1, small ? 3 : 16), (int)pick(d, 1, small ? 5 : 24));
 }
 
@@ -186,7 +200,7 @@ static void spoil_building(dice *d, sample *s)
     int64_t *slip = number[pick(d, 0, 7)];
     switch (pick(d, 0, 3)) {
     case 0: *slip += pick(d, -3, 3); break;
-    case 1: *slip = ONE_OF(d, 0, 5, 6, 99, 100, 999, 1000, 1500, 1501, 30000, 30001, 9999999, -1, -9999999); break;
+    case 1: *slip = ONE_OF(d, 0, 6, 7, 49, 99, 100, 301, 999, 1000, 1501, 30000, 30001, 9999999, -1, -9999999); break;
     case 2: *slip = *slip * pick(d, 1, 8) / pick(d, 1, 8); break;
     default: *slip = s->b * pick(d, 0, 7); break;
     }
@@ -210,10 +224,10 @@ void spoil(dice *d, sample *s)
 {
     int face = (int)pick(d, 0, s->faces - 1), wind = (int)pick(d, 0, s->winds - 1);
     switch (pick(d, 0, s->steps ? 12 : 8)) {
-    case 0: s->direction[wind] = (int)ONE_OF(d, 1, 9, 45, 89, 91, 135, 180, 270, -90, 9000000); break;
+    case 0: s->direction[wind] = (int)ONE_OF(d, 1, 9, 45, 89, 91, 135, 180, 225, 270, -90, 9000000); break;
     case 1: s->speed[wind] = (int)ONE_OF(d, 0, 1001, -1, 9999999, -9999999); break;
     case 2: s->internal[pick(d, 0, s->internals - 1)] = (int)ONE_OF(d, 101, -101, 1000, -9999999); break;
-    case 3: s->mark[face] = (int)ONE_OF(d, 2, 9, 45, 89, 91, 180, -1, -90, -9999999); break;
+    case 3: s->mark[face] = (int)ONE_OF(d, DASH, 2, 9, 45, 89, 91, 135, 180, 225, -1, -90, -9999999); break;
     case 4: s->area[face][pick(d, 0, 2)] = (int)ONE_OF(d, 100001, -100001, 9999999, -9999999); break;
     case 5:
     case 6: s->zone[face] = (char)('A' + pick(d, 0, 7)); break;

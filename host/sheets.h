@@ -24,6 +24,7 @@ uint64_t roll(dice *d);                                       /* any 64 bits */
 int64_t pick(dice *d, int64_t least, int64_t greatest);       /* a number of a range, ends included */
 int64_t edge_of(dice *d, int64_t usual);                      /* `usual`, or a 64-bit number that is easily mistaken */
 
+int direction_of(dice *d, int64_t kind);                      /* one that the roof kind has */
 void make_building(dice *d, sample *s);                       /* an acceptable building */
 void make_sample(dice *d, sample *s);                         /* an acceptable job */
 void make_sized(dice *d, sample *s, int64_t kind, int winds, int internals, int steps, int faces);

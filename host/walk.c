@@ -24,6 +24,32 @@ static int64_t speed_at(const sample *s, int wind, int i)
     return rest >= 500 * span ? whole + 1 : whole;
 }
 
+/* A single slope's coefficient in thousandths. Each column is the book's, in tenths, at 10, 15, 20, 25 and 30 degrees.
+   Rows stand 50 tenths of a degree apart, so a tenth between two is worth 2 thousandths a tenth: nothing to round. */
+static int64_t single_slope(int64_t x, int direction, char zone)
+{
+    static const int first[5][5] = { /* E and F; under wind 90 E and G */
+        {-10, -9, -8, -7, -5}, {-10, -10, -10, -10, -10}, {-10, -10, -9, -8, -8}, {-9, -6, -5, -3, -1},
+        {-5, -3, -2, -1, 0}};
+    static const int second[5][5] = { /* G and H; under wind 90 F and H */
+        {-5, -5, -5, -5, -5}, {-9, -7, -6, -6, -6}, {-5, -5, -5, -5, -5}, {-10, -10, -10, -9, -6},
+        {-10, -10, -10, -9, -6}};
+    int beyond = direction == 90 ? (zone - 'E') % 2 : (zone - 'E') / 2;
+    const int *column = beyond ? second[direction / 45] : first[direction / 45];
+    int64_t past = x > 100 ? x - 100 : 0, row = past / 50, on = past % 50;
+    return 100 * column[row] + (on ? 2 * on * (column[row + 1] - column[row]) : 0);
+}
+
+/* A face's net coefficients: those of a single slope by itself, the others the plain calculator's. */
+static aral_coefficient net_of(const sample *s, int direction, int internal, int i)
+{
+    aral_coefficient c = {.count = 1};
+    if (s->kind != 6 || s->zone[i] <= 'D')
+        return plain_net(s->h, s->a, s->b, s->density, s->kind, s->x, direction, (uint8_t)s->zone[i], internal);
+    c.value[0] = (int32_t)(single_slope(s->x, direction, s->zone[i]) - 10 * internal);
+    return c;
+}
+
 static void face_part(const sample *s, int wind, int internal, int i, part *p)
 {
     int direction = s->direction[wind];
@@ -31,8 +57,7 @@ static void face_part(const sample *s, int wind, int internal, int i, part *p)
     memset(p, 0, sizeof *p);
     p->count = 1;
     if (s->mark[i] != DASH && s->mark[i] != direction) return;
-    aral_coefficient c = plain_net(s->h, s->a, s->b, s->density, s->kind, s->x, direction, (uint8_t)s->zone[i],
-                                   s->internal[internal]);
+    aral_coefficient c = net_of(s, direction, s->internal[internal], i);
     p->count = (int)c.count;
     for (int k = 0; k < p->count; k++)
         for (int axis = 0; axis < 3; axis++) p->force[k][axis] = c.value[k] * pressure * s->area[i][axis];
