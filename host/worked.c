@@ -75,6 +75,47 @@ static const row questions[] = {
     {"eight digits are a form fault", 10000000, 1200, 1000, 0, 0, 0, 'A', 1, 2, 0, 0, 0, 0, 0},
     {"seven digits are out of range", 9999999, 1200, 1000, 0, 0, 0, 'A', 3, 2, 0, 0, 0, 0, 0},
     {"no such roof number", 500, 1200, 1000, 2, 1, 0, 'A', 5, 2, 0, 0, 0, 0, 0},
+    {"a single slope from 5 degrees", 500, 1200, 1000, 6, 49, 0, 'A', 5, 2, 0, 0, 0, 0, 0},
+    {"a single slope to 30 degrees", 500, 1200, 1000, 6, 301, 0, 'A', 5, 2, 0, 0, 0, 0, 0},
+    {"a square plan under a single slope, before its slope", 500, 1000, 1000, 6, 49, 0, 'A', 4, 2, 0, 0, 0, 0, 0},
+    {"no roof kind 7", 500, 1200, 1000, 7, 100, 0, 'A', 3, 2, 0, 0, 0, 0, 0},
+    {"a tenth over 10 degrees", 500, 1200, 1000, 6, 101, 135, 'E', 0, 0, -894, 1, 2, 1, 50},
+    {"a tenth under 30 degrees", 500, 1200, 1000, 6, 299, 180, 'H', 0, 0, -606, 4, 5, 49, 50},
+    {"the tallest building has the same slopes", 6000, 4000, 1000, 6, 150, 45, 'G', 0, 0, -700, 2, 2, 0, 1},
+    {"a wall beside a single slope", 500, 1200, 1000, 6, 100, 90, 'B', 0, 0, -500, 1, 1, 0, 1},
+    {"its wall local", 500, 1200, 1000, 6, 100, 0, 'w', 0, 0, -800, 1, 1, 0, 1},
+    {"no wall under 45", 500, 1200, 1000, 6, 100, 45, 'A', 6, 0, 0, 0, 0, 0, 0},
+    {"no wall under 135", 500, 1200, 1000, 6, 100, 135, 'D', 6, 0, 0, 0, 0, 0, 0},
+    {"no wall under 180", 500, 1200, 1000, 6, 100, 180, 'B', 6, 0, 0, 0, 0, 0, 0},
+    {"no wall local under 180", 500, 1200, 1000, 6, 100, 180, 'w', 6, 0, 0, 0, 0, 0, 0},
+    {"no L1 on a single slope", 500, 1200, 1000, 6, 100, 0, '1', 6, 0, 0, 0, 0, 0, 0},
+    {"no L2 on a single slope", 500, 1200, 1000, 6, 100, 45, '2', 6, 0, 0, 0, 0, 0, 0},
+    {"no zone I on a single slope", 500, 1200, 1000, 6, 100, 180, 'I', 6, 0, 0, 0, 0, 0, 0},
+    {"no wind 225, before the zone", 500, 1200, 1000, 6, 100, 225, 'I', 3, 0, 0, 0, 0, 0, 0},
+    {"no wind 44", 500, 1200, 1000, 6, 100, 44, 'E', 3, 0, 0, 0, 0, 0, 0},
+    {"no wind -45", 500, 1200, 1000, 6, 100, -45, 'E', 3, 0, 0, 0, 0, 0, 0},
+    {"no wind 45 on a gable", 500, 1200, 1000, 1, 100, 45, 'E', 3, 0, 0, 0, 0, 0, 0},
+    {"no wind 135 on a mansard", 500, 1200, 1000, 5, 300, 135, 'E', 3, 0, 0, 0, 0, 0, 0},
+    {"no wind 180 without a roof", 500, 1200, 1000, 0, 0, 180, 'A', 3, 0, 0, 0, 0, 0, 0},
+};
+
+/* Single slopes: every column of the table in thousandths, at 5, 10, 12.5, 15, 17.5, 20, 22.5, 25, 27.5 and 30 degrees:
+   on the rows as printed, and between two the mean of both by hand. */
+enum { SLOPES = 10 };
+static const int64_t slopes[SLOPES] = {50, 100, 125, 150, 175, 200, 225, 250, 275, 300};
+static const uint32_t slope_rows[SLOPES][2] = {
+    {1, 1}, {1, 1}, {1, 2}, {2, 2}, {2, 3}, {3, 3}, {3, 4}, {4, 4}, {4, 5}, {5, 5}};
+static const struct { int64_t direction; char zone[3]; int32_t value[SLOPES]; } columns[] = {
+    {0, "EF", {-1000, -1000, -950, -900, -850, -800, -750, -700, -600, -500}},
+    {0, "GH", {-500, -500, -500, -500, -500, -500, -500, -500, -500, -500}},
+    {45, "EF", {-1000, -1000, -1000, -1000, -1000, -1000, -1000, -1000, -1000, -1000}},
+    {45, "GH", {-900, -900, -800, -700, -650, -600, -600, -600, -600, -600}},
+    {90, "EG", {-1000, -1000, -1000, -1000, -950, -900, -850, -800, -800, -800}},
+    {90, "FH", {-500, -500, -500, -500, -500, -500, -500, -500, -500, -500}},
+    {135, "EF", {-900, -900, -750, -600, -550, -500, -400, -300, -200, -100}},
+    {135, "GH", {-1000, -1000, -1000, -1000, -1000, -1000, -950, -900, -750, -600}},
+    {180, "EF", {-500, -500, -400, -300, -250, -200, -150, -100, -50, 0}},
+    {180, "GH", {-1000, -1000, -1000, -1000, -1000, -1000, -950, -900, -750, -600}},
 };
 
 #define SAMPLE "B 1\n500 1200 1000 1250 2 0\nW 1\n0 400\nI 2\n20\n-30\n" \
@@ -84,6 +125,13 @@ static const row questions[] = {
 #define HIGH "V 1\n2\nB 1\n500 1200 1000 1250 0 0\nW 1\n0 400\nI 1\n0\n"
 #define SLOPING HIGH "P 2\n0 800\n1200 1000\nF 1\n"
 #define LEVEL HIGH "P 1\n600 1000\nF 1\n"
+/* Single slopes: the wind is on line 4 and the face on line 8; in year 2 on lines 6 and 12. */
+#define SINGLE(x) "B 1\n500 1200 1000 1250 6 " x "\n"
+#define REST "I 1\n0\nF 1\n"
+#define UNDER(direction) SINGLE("100") "W 1\n" direction " 400\n" REST
+#define SLANT UNDER("45")
+#define AHEAD UNDER("0")
+#define SLANT_HIGH "V 1\n2\n" SINGLE("100") "W 1\n45 400\nI 1\n0\nP 1\n600 1000\nF 1\n"
 typedef struct { const char *sheet; uint32_t number, line; } verdict;
 static const verdict sheets[] = {
     {SAMPLE, 0, 0},
@@ -166,6 +214,57 @@ static const verdict sheets[] = {
     {LEVEL "A - 599 0 0 0\n", 8, 12},
     {LEVEL "A - 600 0 0 0\n", 0, 0},
     {LEVEL "A - 601 0 0 0\n", 8, 12},
+    {SINGLE("49"), 5, 2},
+    {SINGLE("50"), 1, 3},
+    {SINGLE("300"), 1, 3},
+    {SINGLE("301"), 5, 2},
+    {SINGLE("30001"), 3, 2},
+    {SINGLE("-1"), 3, 2},
+    {"B 1\n500 1200 1000 1250 7 100\n", 3, 2},
+    {"B 1\n500 1000 1000 1250 6 49\n", 4, 2},
+    {"B 1\n500 4001 1000 1250 6 100\n", 4, 2},
+    {"B 1\n6001 1200 1000 1250 6 100\n", 4, 2},
+    {SINGLE("100") "W 5\n0 1\n45 1\n90 1\n135 1\n180 1\n", 1, 9},
+    {SINGLE("100") "W 1\n225 400\n", 3, 4},
+    {SINGLE("100") "W 1\n-45 400\n", 3, 4},
+    {SINGLE("100") "W 1\n46 400\n", 3, 4},
+    {SINGLE("100") "W 1\n045 400\n", 1, 4},
+    {SINGLE("100") "W 1\n- 400\n", 1, 4},
+    {"B 1\n500 1200 1000 1250 1 100\nW 1\n45 400\n", 3, 4},
+    {"B 1\n500 1200 1000 1250 2 0\nW 1\n135 400\n", 3, 4},
+    {"B 1\n500 1200 1000 1250 5 300\nW 1\n180 400\n", 3, 4},
+    {"B 1\n500 1200 1000 1250 1 100\nW 1\n0 400\n" REST "E 45 0 0 0\n", 3, 8},
+    {"B 1\n500 1200 1000 1250 1 100\nW 1\n0 400\n" REST "E 135 0 0 0\n", 3, 8},
+    {"B 1\n500 1200 1000 1250 1 100\nW 1\n0 400\n" REST "A 180 0 0 0\n", 3, 8},
+    {SLANT "E - 0 0 0\n", 0, 0},
+    {SLANT "F 0 0 0 0\n", 0, 0},
+    {SLANT "G 45 0 0 0\n", 0, 0},
+    {SLANT "H 90 0 0 0\n", 0, 0},
+    {SLANT "E 135 0 0 0\n", 0, 0},
+    {SLANT "F 180 0 0 0\n", 0, 0},
+    {SLANT "A 0 0 0 0\n", 0, 0},
+    {SLANT "D 90 0 0 0\n", 0, 0},
+    {SLANT "A - 0 0 0\n", 6, 8},
+    {SLANT "B 45 0 0 0\n", 6, 8},
+    {SLANT "C 135 0 0 0\n", 6, 8},
+    {SLANT "D 180 0 0 0\n", 6, 8},
+    {AHEAD "A - 0 0 0\n", 6, 8},
+    {AHEAD "A 180 0 0 0\n", 6, 8},
+    {AHEAD "A - 0 0 100001\n", 3, 8},
+    {AHEAD "A - 0 0 00\n", 1, 8},
+    {AHEAD "A 225 0 0 0\n", 3, 8},
+    {AHEAD "E 225 0 0 0\n", 3, 8},
+    {AHEAD "E -45 0 0 0\n", 3, 8},
+    {AHEAD "I 45 0 0 0\n", 1, 8},
+    {SLANT_HIGH "E - 600 0 0 0\n", 0, 0},
+    {SLANT_HIGH "A 0 600 0 0 0\n", 0, 0},
+    {SLANT_HIGH "A - 600 0 0 0\n", 6, 12},
+    {SLANT_HIGH "A - 601 0 0 0\n", 6, 12},
+    {SLANT_HIGH "A 0 601 0 0 0\n", 8, 12},
+    {SLANT_HIGH "E 180 601 0 0 0\n", 8, 12},
+    {SLANT_HIGH "A 225 601 0 0 0\n", 3, 12},
+    {"V 1\n2\n" SINGLE("301"), 5, 4},
+    {"V 1\n2\nB 1\n500 1200 1000 1250 1 100\nW 1\n180 400\n", 3, 6},
 };
 
 static const char report[] = "x max 180000000000000 1 1 1 1 1\nx min 180000000000000 1 1 1 1 1\ny max 0 1 1 1 1 1\n"
@@ -191,6 +290,23 @@ static void check_table(const calculator *c)
                                    && has_rows(r, q->lower, q->upper, q->part, q->whole));
         }
     }
+}
+
+/* Every column of the single slopes' table at each slope, for both of its zones. */
+static void check_columns(const calculator *c)
+{
+    for (size_t i = 0; i < sizeof columns / sizeof *columns; i++)
+        for (int k = 0; k < 2 * SLOPES; k++) {
+            int at = k / 2, between = slope_rows[at][0] != slope_rows[at][1];
+            uint8_t zone = (uint8_t)columns[i].zone[k % 2];
+            aral_coefficient r = c->outside(500, 1200, 1000, 1250, 6, slopes[at], columns[i].direction, zone);
+            char what[80];
+            snprintf(what, sizeof what, "zone %c of a single slope of %d tenths, wind %d", zone, (int)slopes[at],
+                     (int)columns[i].direction);
+            expect(c, what, r.number == 0 && r.line == 0 && r.count == 1 && r.value[0] == columns[i].value[at]
+                                && r.value[1] == 0
+                                && has_rows(&r, slope_rows[at][0], slope_rows[at][1], between, between ? 2 : 1));
+        }
 }
 
 /* Zone F has the rows of E; (1400 - 800) / (1600 - 800) at h 8000 is 3/4. The net's 82/1600 = 0.05125 is 1/40. */
@@ -225,13 +341,14 @@ static void check_sheets(const calculator *c)
     expect(c, "P12", t.number == 0 && !memcmp(out, line, strlen(line)));
 }
 
-/* A line of the report that is worked out by hand: 0.7 on A, -0.2 on B and -0.5 on C and D, as thousandths, times 1250,
-   times the square of the face's speed, times the area. */
+/* A line of the report that is worked out by hand: 0.7 on A, -0.2 on B and -0.5 on C and D, or what its name says, as
+   thousandths, times 1250, times the square of the face's speed, times the area. */
 typedef struct { const char *name, *sheet, *line; } reckoning;
 #define WIND(speed) "V 1\n2\nB 1\n500 1200 1000 1250 0 0\nW 1\n0 " speed "\nI 1\n0\n"
 #define NEARLY_HALF "P 2\n0 499\n2 500\nF 1\nA 0 1 1000 0 0\n" /* 0.4995 at height 1 */
 #define TWO_WALLS "P 2\n0 398\n10 595\nF 2\nD - 0 -3 0 0\nC - 0 -3 0 0\n"
 #define APART "P 2\n0 774\n10 580\nF 2\nD - 0 -1 0 0\nB - 9 2 0 0\n"
+#define FIVE SINGLE("100") "W 5\n0 100\n45 100\n90 100\n135 200\n180 300\n" REST
 static const reckoning reckonings[] = {
     {"0.9 at half the height: speed 360", SLOPING "A 0 600 1000 0 0\n", "x max 113400000000000 1 1 1\n"},
     {"on the first line: speed 320", SLOPING "A 0 0 1000 0 0\n", "x max 89600000000000 1 1 1\n"},
@@ -251,6 +368,22 @@ static const reckoning reckonings[] = {
     {"at speed 6 the least has risen: 2 at both", WIND("6") TWO_WALLS, "x min 15000000 1 1 1 1\n"},
     {"two heights, speed 2: 2 on D and 1 on B", WIND("2") APART, "x max 2000000 1 1 1 1\n"},
     {"at speed 3 the greatest has fallen: 2 on both", WIND("3") APART, "x max 500000 1 1 1 1\n"},
+    {"a single slope's E - under wind 45: -1.0", UNDER("45") "E - 1000 0 0\n", "x max -200000000000000 1 1 1\n"},
+    {"E - under wind 135: -0.9", UNDER("135") "E - 1000 0 0\n", "x max -180000000000000 1 1 1\n"},
+    {"E - under wind 180: -0.5", UNDER("180") "E - 1000 0 0\n", "x max -100000000000000 1 1 1\n"},
+    {"E 45 under wind 135: nothing", UNDER("135") "E 45 1000 0 0\n", "x min 0 1 1 1\n"},
+    {"a wall marked 0 under wind 180: nothing", UNDER("180") "A 0 1000 0 0\n", "x max 0 1 1 1\n"},
+    {"of five winds E - has the most under 180: 0.5 at 300", FIVE "E - -1000 0 0\n", "x max 56250000000000 5 1 1\n"},
+    {"and the least under the first of three: 1.0 at 100", FIVE "E - -1000 0 0\n", "x min 12500000000000 1 1 1\n"},
+    {"G -: 1.0 at 300 under 180", FIVE "G - -1000 0 0\n", "x max 112500000000000 5 1 1\n"},
+    {"G -: 0.5 at 100 under 0", FIVE "G - -1000 0 0\n", "x min 6250000000000 1 1 1\n"},
+    {"G 135: 1.0 at 200", FIVE "G 135 -1000 0 0\n", "x max 50000000000000 4 1 1\n"},
+    {"H 45: 0.9 at 100", FIVE "H 45 -1000 0 0\n", "x max 11250000000000 2 1 1\n"},
+    {"a wall marked 90: 0.5 at 100", FIVE "A 90 -1000 0 0\n", "x max 6250000000000 3 1 1\n"},
+    {"a wall marked 0: 0.7 at 100", FIVE "A 0 1000 0 0\n", "x max 8750000000000 1 1 1\n"},
+    {"a single slope in year 2: 1.0 at half of 400",
+     "V 1\n2\n" SINGLE("100") "W 1\n45 400\nI 1\n0\nP 1\n600 500\nF 1\nE - 600 1000 0 0\n",
+     "x max -50000000000000 1 1 1\n"},
 };
 
 static void check_reckonings(const calculator *c)
@@ -292,6 +425,7 @@ int main(void)
 {
     for (int i = 0; i < 2; i++) {
         check_table(&both[i]);
+        check_columns(&both[i]);
         check_questions(&both[i]);
         check_sheets(&both[i]);
         check_reckonings(&both[i]);
