@@ -23,8 +23,12 @@ static const char help[] =
     "FILE is a sheet, or - for standard input. A total is in units of 0.00000000005 N: 20000000000 of them are 1 N.\n"
     "In `ask`: h, a, b in cm (height, longer side, shorter side); kind and x are the roof's, 0 where left out:\n"
     "  kind 0 none; 1 gable, x the slope in tenths of a degree; 2 flat, straight eaves; 3 parapet, x its height\n"
-    "  in cm; 4 curved eaves, x the radius in cm; 5 mansard, x its angle in tenths of a degree;\n"
-    "wind is 0 or 90; zone is A to H, or local is wall, L1 or L2; internal, in hundredths, asks for the net too.\n"
+    "  in cm; 4 curved eaves, x the radius in cm; 5 mansard, x its angle in tenths of a degree; 6 a single slope,\n"
+    "  x in tenths of a degree, 50 to 300;\n"
+    "wind is 0 or 90, with kind 6 also 45, 135 or 180; zone is A to H, or local is wall, L1 or L2; internal, in\n"
+    "hundredths, asks for the net too.\n"
+    "In a sheet of kind 6 winds and marks may be any of these five, and - marks a roof face for all five. A wall\n"
+    "face, A to D, is then marked 0 or 90, since the book has walls in no other wind; one for both takes two lines.\n"
     "A sheet of year 2 opens with `V 1` and the line `2`. After I it has a section P, the wind's profile: heights in\n"
     "cm, each with its part of the speed in thousandths; and each face has a height in cm after its mark.\n"
     "\n"
@@ -154,6 +158,8 @@ static void print_thousandths(int32_t value)
     printf("%s%d.%03d", value < 0 ? "-" : value > 0 ? "+" : "", size / 1000, size % 1000);
 }
 
+static int is_wall(uint8_t place) { return (place >= 'A' && place <= 'D') || place == 'w'; }
+
 static int is_local(uint8_t place) { return place == 'w' || place == '1' || place == '2'; }
 
 static void print_place(uint8_t place)
@@ -174,6 +180,21 @@ static void print_values(const char *which, const aral_coefficient *c)
     }
 }
 
+/* A wall is on every building, but not in every wind. */
+static void refuse_place(const question *q)
+{
+    int64_t kind = q->number[KIND];
+    print_place(q->place);
+    if (is_wall(q->place)) {
+        printf(" under wind %" PRId64 ": the book's table 3.2.2.2.1 has walls under 0 and 90 alone\n", q->number[WIND]);
+        return;
+    }
+    printf(" is not on a building with ");
+    print_roof(kind, q->number[X]);
+    const char *more = kind >= 2 && kind <= 5 ? ", L1 and L2" : " alone";
+    printf(": its zones are %s, its locals wall%s\n", zones_of(kind), more);
+}
+
 static int refuse_question(const question *q, const aral_coefficient *c)
 {
     const int64_t *v = q->number;
@@ -188,12 +209,11 @@ static int refuse_question(const question *q, const aral_coefficient *c)
     }
     printf("refused with %u: ", c->number);
     if (c->number == 6) {
-        print_place(q->place);
-        printf(" is not on a building with ");
+        refuse_place(q);
+    } else if (!has_wind(v[KIND], v[WIND])) {
+        printf("the wind is %" PRId64 "; it must be %s on ", v[WIND], winds_of(v[KIND]));
         print_roof(v[KIND], v[X]);
-        printf(": its zones are %s, its locals wall%s\n", zones_of(v[KIND]), v[KIND] >= 2 ? ", L1 and L2" : " alone");
-    } else if (v[WIND] != 0 && v[WIND] != 90) {
-        printf("the wind is %" PRId64 "; it must be 0 or 90\n", v[WIND]);
+        printf("\n");
     } else {
         printf("the internal coefficient is %" PRId64 " hundredths; it must be -100 to 100\n", v[INTERNAL]);
     }
@@ -218,7 +238,8 @@ static void answer_question(const question *q, const asked *what, const aral_coe
     }
     printf("Rows are counted from 1 as table %s prints them.\n", table_of(what));
     if (c->lower != c->upper) printf("Between rows a value is on the straight line, rounded once to a thousandth.\n");
-    printf("A coefficient is the part of the wind's pressure that acts: positive pushes the surface, negative sucks.\n");
+    printf("A coefficient is the part of the wind's pressure that acts: positive pushes the surface, negative "
+           "sucks.\n");
     if (c->count == 2) printf("Of two alternatives each face takes the one that is worse for the total.\n");
     if (is_local(q->place)) printf("Local coefficients are for secondary elements and enter no total.\n");
 }

@@ -7,6 +7,9 @@
 static const int gable_at[] = {0, 50, 100, 200, 300, 450, 600, 0, 50, 100, 200, 300, 450, 600,
                                0, 50, 100, 200, 300, 400, 500, 600};
 
+/* Single slopes at tenths of a degree; the first row is printed for 5 to 10 degrees. */
+static const int single_at[] = {100, 150, 200, 250, 300};
+
 /* Flat roofs, the kind of each row and where it stands: parapets and curved eaves at thousandths of h, mansards at
    tenths of a degree. */
 static const struct { int kind, at; } flat_at[] = {{2, 0},   {3, 25},  {3, 50},  {3, 100}, {4, 50},
@@ -22,6 +25,7 @@ static void print_place_of_row(const asked *q, uint32_t row)
     uint32_t k = row - 1;
     if (on_wall(q)) printf("h/b %s, a/b %s", tall[k / 2], wide[k % 2]);
     else if (q->kind == 1) printf("%d degrees", gable_at[k] / 10);
+    else if (q->kind == 6) printf("%s%d degrees", k == 0 ? "5 to " : "", single_at[k] / 10);
     else if (flat_at[k].kind == 2) printf("straight eaves%s", q->kind == 5 ? " at 90 degrees" : "");
     else if (flat_at[k].kind == 5) printf("%d degrees", flat_at[k].at / 10);
     else printf("x/h 0.%03d", flat_at[k].at);
@@ -32,7 +36,10 @@ static void print_place_of_row(const asked *q, uint32_t row)
 static aral_coefficient printed_in(const asked *q, uint32_t row)
 {
     uint32_t k = row - 1;
-    if (q->kind == 1) return aral_outside(q->h, q->a, q->b, q->density, 1, gable_at[k], q->direction, q->place);
+    if (q->kind == 1 || q->kind == 6) {
+        int at = q->kind == 1 ? gable_at[k] : single_at[k];
+        return aral_outside(q->h, q->a, q->b, q->density, q->kind, at, q->direction, q->place);
+    }
     int kind = flat_at[k].kind, x = kind == 5 ? flat_at[k].at : 4 * flat_at[k].at;
     return aral_outside(4000, 4800, 4000, q->density, kind, x, q->direction, q->place);
 }
@@ -75,4 +82,8 @@ void print_rows(const asked *q, const aral_coefficient *c)
     print_decimals(c, 3);
 }
 
-const char *table_of(const asked *q) { return on_wall(q) ? "3.2.2.2.1" : q->kind == 1 ? "3.2.2.2.2" : "3.2.2.2.4"; }
+const char *table_of(const asked *q)
+{
+    if (on_wall(q)) return "3.2.2.2.1";
+    return q->kind == 1 ? "3.2.2.2.2" : q->kind == 6 ? "3.2.2.2.3" : "3.2.2.2.4";
+}

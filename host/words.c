@@ -9,25 +9,26 @@ typedef enum {
     V_COUNT, YEAR, B_COUNT, BUILDING, W_COUNT, WIND, I_COUNT, INTERNAL, P_COUNT, STEP, F_COUNT, FACE, HIGH_FACE, AFTER
 } role;
 
-/* A count line has its section's letter. */
+/* A count line has its section's letter. `%s` is what the building's roof kind allows. */
 static const struct { char letter; const char *what, *form; int fields; } roles[] = {
     {'V', "opens section V, the year: the letter V, a space and the count, which is always 1", "V 1", 2},
     {0, "is the year that the sheet is written for", "2", 1},
     {'B', "opens section B, the building: the letter B, a space and the count, which is always 1", "B 1", 2},
     {0, "is the building: height h, longer side a and shorter side b in cm (100 to 30000), air density in g/m3\n"
-     "(1000 to 1500), roof kind (0 to 5) and roof number x (0 to 30000)", "500 1200 1000 1250 2 0", 6},
+     "(1000 to 1500), roof kind (0 to 6) and roof number x (0 to 30000)", "500 1200 1000 1250 2 0", 6},
     {'W', "opens section W, the winds: the letter W, a space and how many winds follow (1 to 8)", "W 1", 2},
-    {0, "is wind %u of %u: its direction (0 or 90) and its speed in tenths of m/s (1 to 1000)", "0 400", 2},
+    {0, "is wind %u of %u: its direction (%s) and its speed in tenths of m/s (1 to 1000)", "0 400", 2},
     {'I', "opens section I, the internal coefficients: the letter I, a space and how many follow (1 to 4)", "I 1", 2},
     {0, "is internal coefficient %u of %u, in hundredths (-100 to 100)", "-30", 1},
     {'P', "opens section P, the wind's profile: the letter P, a space and how many lines follow (1 to 16)", "P 2", 2},
     {0, "is line %u of %u of the profile: a height in cm (0 to 30000), each above the one before it, and the part of\n"
      "the wind's speed that blows there, in thousandths (1 to 1000)", "1200 950", 2},
     {'F', "opens section F, the faces: the letter F, a space and how many follow (1 to 24)", "F 1", 2},
-    {0, "is face %u of %u: its zone (A to H), its mark (0, 90, or - for both winds), and its areas on x, y and z in\n"
-     "dm2 (-100000 to 100000)", "A 0 1000 0 0", 5},
-    {0, "is face %u of %u: its zone (A to H), its mark (0, 90, or - for both winds), its height in cm (within the\n"
-     "profile), and its areas on x, y and z in dm2 (-100000 to 100000)", "A 0 600 1000 0 0", 6},
+    {0, "is face %u of %u: its zone (A to H), its mark (%s),\n"
+     "and its areas on x, y and z in dm2 (-100000 to 100000)", "A 0 1000 0 0", 5},
+    {0, "is face %u of %u: its zone (A to H), its mark (%s),\n"
+     "its height in cm (within the profile), and its areas on x, y and z in dm2 (-100000 to 100000)",
+     "A 0 600 1000 0 0", 6},
     {0, "is after the last face, where the sheet must end", "", 0},
 };
 
@@ -144,6 +145,14 @@ static void numbers_at(const uint8_t *sheet, size_t n, uint32_t line, int count,
     for (int i = 0; i < count; i++) value[i] = strtol(field[i], NULL, 10);
 }
 
+/* The building on its line, which was accepted; answers which line. */
+static uint32_t building_at(const uint8_t *sheet, size_t n, long value[6])
+{
+    uint32_t line = opening_of(sheet, n, B_COUNT) + 1;
+    numbers_at(sheet, n, line, 6, value);
+    return line;
+}
+
 /* ---- 1: the form ---- */
 
 static const char *field_slip(const char *field)
@@ -204,10 +213,32 @@ static void say_range(const char *name, const char *field, long least, long grea
     printf(".\n");
 }
 
-static void say_direction(const char *name, const char *field, const char *allowed)
+int has_wind(int64_t kind, int64_t direction)
 {
-    if (!strcmp(field, "0") || !strcmp(field, "90") || !strcmp(field, "-")) return;
-    printf("The %s is %s; it must be %s.\n", name, field, allowed);
+    if (direction == 0 || direction == 90) return 1;
+    return kind == 6 && (direction == 45 || direction == 135 || direction == 180);
+}
+
+const char *winds_of(int64_t kind) { return kind == 6 ? "0, 45, 90, 135 or 180" : "0 or 90"; }
+
+static const char *marks_of(int64_t kind)
+{
+    return kind == 6 ? "0, 45, 90, 135, 180, or - for all five; walls 0 or 90"
+                     : "0, 90, or - for both winds";
+}
+
+/* A wind's direction, or a face's mark. */
+static void say_direction(const uint8_t *sheet, size_t n, const char *name, const char *field)
+{
+    long direction = strtol(field, NULL, 10), value[6];
+    uint32_t line = building_at(sheet, n, value);
+    long kind = value[4], x = value[5];
+    if (has_wind(kind, direction)) return; /* as `-` does, which reads as 0 */
+    printf("The %s is %s; it must be %s.\n", name, field, strcmp(name, "mark") ? winds_of(kind) : marks_of(kind));
+    if (!has_wind(6, direction)) return;
+    printf("The book has winds 45, 135 and 180 on single-slope roofs (kind 6) alone;\nthis building has ");
+    print_roof(kind, x);
+    printf(" (kind %ld on line %u).\n", kind, line);
 }
 
 static void explain_year(const char *field)
@@ -229,10 +260,10 @@ static void explain_step(const uint8_t *sheet, size_t n, uint32_t item, char fie
            before);
 }
 
-static void explain_face(int high, char field[FIELDS][FIELD_ROOM])
+static void explain_face(const uint8_t *sheet, size_t n, int high, char field[FIELDS][FIELD_ROOM])
 {
     static const char *const axis[] = {"area on x", "area on y", "area on z"};
-    say_direction("mark", field[1], "0, 90, or - for both winds");
+    say_direction(sheet, n, "mark", field[1]);
     if (high) say_range("height", field[2], 0, 30000);
     for (int i = 0; i < 3; i++) say_range(axis[i], field[2 + high + i], -100000, 100000);
 }
@@ -242,7 +273,7 @@ static void explain_house(char field[FIELDS][FIELD_ROOM])
     static const char *const side[] = {"height h", "longer side a", "shorter side b"};
     for (int i = 0; i < 3; i++) say_range(side[i], field[i], 100, 30000);
     say_range("air density", field[3], 1000, 1500);
-    say_range("roof kind", field[4], 0, 5);
+    say_range("roof kind", field[4], 0, 6);
     say_range("roof number x", field[5], 0, 30000);
 }
 
@@ -252,12 +283,12 @@ static void explain_range(const uint8_t *sheet, size_t n, role r, uint32_t item,
     case YEAR: explain_year(field[0]); break;
     case BUILDING: explain_house(field); break;
     case WIND:
-        say_direction("direction", field[0], "0 or 90");
+        say_direction(sheet, n, "direction", field[0]);
         say_range("speed", field[1], 1, 1000);
         break;
     case INTERNAL: say_range("internal coefficient", field[0], -100, 100); break;
     case STEP: explain_step(sheet, n, item, field); break;
-    default: explain_face(r == HIGH_FACE, field); break;
+    default: explain_face(sheet, n, r == HIGH_FACE, field); break;
     }
 }
 
@@ -279,39 +310,52 @@ static void explain_roof(long h, long kind, long x)
         {"a parapet's x is its height in cm, 0.025 to 0.10 of h", 40, 10, 0, 0},
         {"curved eaves' x is their radius in cm, 0.05 to 0.20 of h", 20, 5, 0, 0},
         {"a mansard's x is its angle in tenths of a degree: 300 to 900", 0, 0, 300, 900},
+        {"a single slope's x is in tenths of a degree: 50 to 300", 0, 0, 50, 300},
     };
-    if (kind < 0 || kind > 5) return;
+    if (kind < 0 || kind > 6) return;
     printf("The roof number x is %ld, and for kind %ld, %s", x, kind, rule[kind].what);
     long over = rule[kind].over;
     if (over) printf(", which is %ld to %ld for h %ld", (h + over - 1) / over, h / rule[kind].under, h);
     printf(".\n");
 }
 
-const char *zones_of(int64_t kind) { return kind == 0 ? "A to D" : kind == 1 ? "A to H" : "A to F"; }
+const char *zones_of(int64_t kind)
+{
+    return kind == 0 ? "A to D" : kind == 1 || kind == 6 ? "A to H" : "A to F";
+}
 
 void print_roof(int64_t kind, int64_t x)
 {
     static const char *const what[] = {
         "no roof", "a gable roof of", "a flat roof with straight eaves", "a flat roof with a parapet of",
-        "a flat roof with curved eaves of radius", "a flat roof with a mansard of"};
-    if (kind < 0 || kind > 5) return;
+        "a flat roof with curved eaves of radius", "a flat roof with a mansard of", "a single-slope roof of"};
+    if (kind < 0 || kind > 6) return;
     printf("%s", what[kind]);
-    if (kind == 1 || kind == 5) printf(" %d.%d degrees", (int)(x / 10), (int)(x % 10));
+    if (kind == 1 || kind == 5 || kind == 6) printf(" %d.%d degrees", (int)(x / 10), (int)(x % 10));
     if (kind == 3 || kind == 4) printf(" %d cm", (int)x);
 }
 
-static void explain_building(const uint8_t *sheet, size_t n, uint32_t number, const char *zone)
+/* A wall is on every building: it is refused where its mark is for a wind that the walls' table has not. */
+static void explain_zone(long kind, long x, uint32_t line, const char *zone, const char *mark)
 {
-    uint32_t line = opening_of(sheet, n, B_COUNT) + 1;
+    if (*zone <= 'D') {
+        printf("Zone %s is a wall and marked %s. With a single-slope roof (kind %ld on line %u) a wall must be marked 0 or "
+               "90:\nthe book's table 3.2.2.2.1 has walls in no other wind. A wall for both takes two lines, one for "
+               "each.\n", zone, mark, kind, line);
+        return;
+    }
+    printf("Zone %s is not on this building, which has ", zone);
+    print_roof(kind, x);
+    printf(" (kind %ld on line %u): its zones are %s.\n", kind, line, zones_of(kind));
+}
+
+static void explain_building(const uint8_t *sheet, size_t n, uint32_t number, char field[FIELDS][FIELD_ROOM])
+{
     long value[6];
-    numbers_at(sheet, n, line, 6, value);
+    uint32_t line = building_at(sheet, n, value);
     if (number == 4) explain_ratio(value[0], value[1], value[2]);
     if (number == 5) explain_roof(value[0], value[4], value[5]);
-    if (number == 6) {
-        printf("Zone %s is not on this building, which has ", zone);
-        print_roof(value[4], value[5]);
-        printf(" (kind %ld on line %u): its zones are %s.\n", value[4], line, zones_of(value[4]));
-    }
+    if (number == 6) explain_zone(value[4], value[5], line, field[0], field[1]);
 }
 
 /* ---- 8: the height ---- */
@@ -328,12 +372,21 @@ static void explain_height(const uint8_t *sheet, size_t n, const char *field)
     printf("Outside the profile no speed is known: correct the height, or give the profile a line that reaches it.\n");
 }
 
+/* What may stand as the direction or the mark of a line that has one. */
+static const char *allowed_at(const uint8_t *sheet, size_t n, role r)
+{
+    long value[6];
+    if (r != WIND && !is_face(r)) return "";
+    building_at(sheet, n, value);
+    return r == WIND ? winds_of(value[4]) : marks_of(value[4]);
+}
+
 void explain(const uint8_t *sheet, size_t n, aral_answer refusal)
 {
     static const char *const title[] = {
         "", "not in form", "a count outside its limits", "a number outside its range",
         "proportions that the tables do not cover", "a roof number that its kind does not allow",
-        "a zone that is not on this building", "no room", "a height outside the profile"};
+        "a zone that this building has not, or not in this wind", "no room", "a height outside the profile"};
     char field[FIELDS][FIELD_ROOM];
     uint32_t item, count;
     role r = role_at(sheet, n, refusal.line, &item, &count);
@@ -345,9 +398,9 @@ void explain(const uint8_t *sheet, size_t n, aral_answer refusal)
     else if (refusal.number == 2) printf("The count is %s.\n", field[1]);
     else if (refusal.number == 3) explain_range(sheet, n, r, item, field);
     else if (refusal.number == 8) explain_height(sheet, n, field[2]);
-    else explain_building(sheet, n, refusal.number, field[0]);
+    else explain_building(sheet, n, refusal.number, field);
     printf("Line %u ", refusal.line);
-    printf(roles[r].what, item, count);
+    printf(roles[r].what, item, count, allowed_at(sheet, n, r));
     if (*roles[r].form) printf(", as `%s`", roles[r].form);
     printf(".\n");
 }
@@ -370,10 +423,12 @@ void describe(const uint8_t *sheet, size_t n)
     static const role counted[] = {W_COUNT, I_COUNT, F_COUNT};
     long value[6];
     for (int i = 0; i < 3; i++) count[i] = count_at(sheet, n, opening_of(sheet, n, counted[i]));
-    numbers_at(sheet, n, opening_of(sheet, n, B_COUNT) + 1, 6, value);
+    building_at(sheet, n, value);
     printf("accepted: winds %u, internal coefficients %u, faces %u\n", count[0], count[1], count[2]);
     printf("The building is %ld cm high and %ld by %ld cm wide, with ", value[0], value[1], value[2]);
     print_roof(value[4], value[5]);
     printf("; its zones are %s.\n", zones_of(value[4]));
+    if (value[4] == 6)
+        printf("Its winds may be %s; walls add nothing under 45, 135 and 180, where the book has none.\n", winds_of(6));
     if (later_year(sheet, n)) describe_profile(sheet, n);
 }

@@ -16,4 +16,8 @@ void print_roof(int64_t kind, int64_t x);
 /* The zones that a building of this roof kind has, as `A to D`. */
 const char *zones_of(int64_t kind);
 
+/* Whether a roof of this kind has the wind direction, and those that it has, as `0 or 90`. */
+int has_wind(int64_t kind, int64_t direction);
+const char *winds_of(int64_t kind);
+
 #endif
