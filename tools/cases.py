@@ -115,13 +115,62 @@ case('point 32: 6 before 8', high(f='F 1\nE 0 1201 1000 0 0\n'), 'refused 6 13')
 case('point 32: 3 before 6', high(f='F 1\nE 0 1201 1000 0 100001\n'), 'refused 3 13')
 case('year 2: one LF more', high() + '\n', 'refused 1 14')
 
+# Single slopes, kind 6, of 10 degrees unless said: on row 1 E and F have -1.000 under 0, 45 and 90 (E), -0.500 under 90 (F),
+# -0.900 under 135, -0.500 under 180; G and H -0.500, -0.900, -1.000 (G), -0.500 (H), -1.000, -1.000. The internal is 0.200.
+
+
+def single(x=100, direction=45, face='E -'):
+    return sheet(b=f'B 1\n500 1200 1000 1250 6 {x}\n', w=f'W 1\n{direction} 400\n', f=f'F 1\n{face} 1000 0 0\n')
+
+
+for direction, nets in {0: (-1200, -1200, -700, -700), 45: (-1200, -1200, -1100, -1100), 90: (-1200, -700, -1200, -700),
+                        135: (-1100, -1100, -1200, -1200), 180: (-700, -700, -1200, -1200)}.items():
+    for zone, net in zip('EFGH', nets):
+        case(f'kind 6: zone {zone} marked - under wind {direction}, net {net}', single(100, direction, f'{zone} -'), six(net * 1250 * 400 ** 2 * 1000))
+    case(f'kind 6: zone G marked {direction} under its wind', single(100, direction, f'G {direction}'), six(nets[2] * 1250 * 400 ** 2 * 1000))
+# E under 135: -0.900 to 10 degrees, -0.600 at 15, -0.500 at 20, -0.300 at 25, -0.100 at 30
+for x, net in ((50, -1100), (99, -1100), (100, -1100), (101, -1094), (125, -950), (150, -800), (200, -700), (249, -504), (300, -300)):
+    case(f'kind 6: zone E under wind 135 at {x} tenths of a degree, net {net}', single(x, 135), six(net * 1250 * 400 ** 2 * 1000))
+for mark, direction in ((0, 45), (45, 135), (90, 180), (135, 0), (180, 90)):
+    case(f'kind 6: zone E marked {mark} under wind {direction}: nothing', single(100, direction, f'E {mark}'), six(0))
+case('kind 6: wall A marked 0 under wind 0', single(100, 0, 'A 0'), six(500 * 1250 * 400 ** 2 * 1000))
+case('kind 6: wall A marked 90 under wind 90', single(100, 90, 'A 90'), six(-700 * 1250 * 400 ** 2 * 1000))
+for direction in (45, 135, 180):
+    case(f'kind 6: wall A marked 0 under wind {direction}: nothing', single(100, direction, 'A 0'), six(0))
+case('kind 6: slope 49', single(49), 'refused 5 2')
+case('kind 6: slope 301', single(301), 'refused 5 2')
+case('kind 6: slope -1', single(-1), 'refused 3 2')
+case('kind 7', sheet(b='B 1\n500 1200 1000 1250 7 100\n'), 'refused 3 2')
+case('point 20: a square plan under a single slope, 4 before 5', sheet(b='B 1\n500 1000 1000 1250 6 49\n'), 'refused 4 2')
+for direction in (225, -45):
+    case(f'kind 6: direction {direction}', single(100, direction), 'refused 3 4')
+    case(f'kind 6: mark {direction}', single(100, 45, f'E {direction}'), 'refused 3 8')
+    case(f'kind 6: mark {direction} on a wall: 3 before 6', single(100, 45, f'A {direction}'), 'refused 3 8')
+for direction in (0, 45):
+    for mark in ('-', 45, 135, 180):
+        case(f'point 20: a wall marked {mark} on kind 6, wind {direction}', single(100, direction, f'C {mark}'), 'refused 6 8')
+case('point 20: a wall marked - on kind 6 with an area out of range: 3 before 6', sheet(b='B 1\n500 1200 1000 1250 6 100\n', f='F 1\nA - 100001 0 0\n'), 'refused 3 8')
+for kind, x, direction in ((0, 0, 135), (1, 100, 45), (1, 100, 135), (1, 100, 180), (2, 0, 45), (3, 50, 180), (4, 50, 135), (5, 300, 180)):
+    b = f'B 1\n500 1200 1000 1250 {kind} {x}\n'
+    case(f'direction {direction} on kind {kind}', sheet(b=b, w=f'W 1\n{direction} 400\n'), 'refused 3 4')
+    case(f'mark {direction} on kind {kind}', sheet(b=b, f=f'F 1\nA {direction} 1000 0 0\n'), 'refused 3 8')
+case('kind 1: mark 45 and a zone that is there', sheet(b='B 1\n500 1200 1000 1250 1 100\n', f='F 1\nE 45 1000 0 0\n'), 'refused 3 8')
+case('kind 2: a bad mark and a zone not on the building: 3', sheet(b='B 1\n500 1200 1000 1250 2 0\n', f='F 1\nG 45 1000 0 0\n'), 'refused 3 8')
+slope = 'B 1\n500 1200 1000 1250 6 100\n'
+case('kind 6 in year 2: -1.200 at speed 360', high(b=slope, w='W 1\n45 400\n', f='F 1\nE - 600 1000 0 0\n'), six(-1200 * 1250 * 360 ** 2 * 1000))
+case('kind 6 in year 2: a wall marked -', high(b=slope, f='F 1\nA - 600 1000 0 0\n'), 'refused 6 13')
+case('kind 6 in year 2: a wall marked - above the profile: 6 before 8', high(b=slope, f='F 1\nA - 1201 1000 0 0\n'), 'refused 6 13')
+case('kind 6 in year 2: a wall marked 0 above the profile', high(b=slope, f='F 1\nA 0 1201 1000 0 0\n'), 'refused 8 13')
+case('kind 6 in year 2: slope 301', high(b='B 1\n500 1200 1000 1250 6 301\n'), 'refused 5 4')
+case('kind 1 in year 2: direction 180', high(b='B 1\n500 1200 1000 1250 1 100\n', w='W 1\n180 400\n'), 'refused 3 6')
+
 # Every line as long as it may be: 41 lines of 827 bytes in year 1. Parapet at x/h 0.10, zone F: +0.200, then -0.200; internal -1.000.
 before = 'B 1\n30000 30000 10000 1500 3 3000\n' + 'W 8\n' + '90 1000\n' * 8 + 'I 4\n' + '-100\n' * 4 + 'F 24\n'
 longest = before + 'F 90 -100000 -100000 -100000\n' * 24
 assert len(longest) == 827
 least, greatest = (24 * net * 1500 * 1000 ** 2 * -100000 for net in (1200, 800))
 lines = ''.join(f'{axis} max {greatest} 1 1{" 2" * 24}\n{axis} min {least} 1 1{" 1" * 24}\n' for axis in 'xyz')
-case('point 15: the longest acceptable sheet of year 1, 827 bytes', longest, lines)
+case('point 15: the longest acceptable sheet of year 1 but for kind 6, 827 bytes', longest, lines)
 case('point 15: a longest line in form behind it is still 1 at its own number',
      longest + '9999999 9999999 9999999 9999999 9999999 -999999\n' * 3, 'refused 1 42')
 case('point 15: the last of 24 faces out of range, the line at its longest',
@@ -132,13 +181,27 @@ steps = 'P 16\n' + ''.join(f'{height} 1000\n' for height in range(29985, 30001))
 before = V + before.replace('F 24\n', steps + 'F 24\n')
 longest = before + 'F 90 29985 -100000 -100000 -100000\n' * 24
 assert len(longest) == 827 + 6 + 5 + 16 * 11 + 24 * 6 == 1158
-case('point 15: the longest acceptable sheet, of year 2, 1158 bytes', longest, lines)
+case('point 15: the longest acceptable sheet of year 2 but for kind 6, 1158 bytes', longest, lines)
 case('point 15: a longest line in form behind it too',
      longest + '9999999 9999999 9999999 9999999 9999999 -999999\n' * 3, 'refused 1 61')
 case('point 15: the last of 24 faces out of range, the line at its longest, in year 2',
      before + 'F 90 29985 -100000 -100000 -100000\n' * 23 + 'F -9999999 -9999999 -9999999 -9999999 -9999999\n', 'refused 3 60')
 case('point 15: the last of 24 faces one below the profile',
      before + 'F 90 29985 -100000 -100000 -100000\n' * 23 + 'F 90 29984 -100000 -100000 -100000\n', 'refused 8 60')
+
+# Kind 6 has the longest: one byte more in each of 8 directions and 24 marks, one less in x. E at 30 degrees under 180 is 0.
+before = before.replace('30000 30000 10000 1500 3 3000', '30000 30000 10000 1500 6 300').replace('90 1000\n' * 8, '180 1000\n' * 8)
+longest = before + 'E 180 29985 -100000 -100000 -100000\n' * 24
+assert len(longest) == 1158 + 8 + 24 - 1 == 1189
+total = 24 * 1000 * 1500 * 1000 ** 2 * -100000
+lines = ''.join(f'{axis} {word} {total} 1 1{" 1" * 24}\n' for axis in 'xyz' for word in ('max', 'min'))
+case('point 15: the longest acceptable sheet, of kind 6 in year 2, 1189 bytes', longest, lines)
+case('point 15: a longest line in form behind it too, on kind 6',
+     longest + '9999999 9999999 9999999 9999999 9999999 -999999\n' * 3, 'refused 1 61')
+case('point 15: the last of 24 faces out of range, the line at its longest, on kind 6',
+     before + 'E 180 29985 -100000 -100000 -100000\n' * 23 + 'E -9999999 -9999999 -9999999 -9999999 -9999999\n', 'refused 3 60')
+case('point 15: the last of 24 faces a wall marked 180',
+     before + 'E 180 29985 -100000 -100000 -100000\n' * 23 + 'A 180 29985 -100000 -100000 -100000\n', 'refused 6 60')
 
 # refused sheets, a line each: number, line, and the text with its ends written out
 with open(__file__.replace('cases.py', 'sheets.txt')) as listed:
@@ -171,5 +234,7 @@ point 9: mark 45: 3 8
 point 9: mark 10000000, which no sheet carries: 1 8
 '''
 folder = sys.argv[1]
-open(f'{folder}/stdin', 'w', newline='').write('='.join(title + '\n' + text for title, text, _ in cases))
+texts = '='.join(title + '\n' + text for title, text, _ in cases)
+assert len(texts) <= 65536, 'the program reads no more'
+open(f'{folder}/stdin', 'w', newline='').write(texts)
 open(f'{folder}/stdout', 'w', newline='').write(''.join(title + '\n' + answer for title, _, answer in cases) + asked)
