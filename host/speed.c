@@ -1,7 +1,9 @@
-/* Makes reports over and over, for the benchmark: speed library|plain WINDS INTERNALS STEPS FACES REPORTS [timed].
-   STEPS are the lines of the profile: 0 makes sheets of year 1. The sheets are six, one of each roof kind, taken in
-   turn, and read anew for each report; the buffer is not cleared between reports. Prints a sum over what was written,
-   which is the same for both calculators, or with `timed` reports per second of processor time. */
+/* Makes reports over and over, for the benchmark:
+     speed library|plain KINDS WINDS INTERNALS STEPS FACES REPORTS [timed]
+   KINDS are six digits, the roof kind of each of six sheets; STEPS the lines of the profile: 0 makes sheets of year 1.
+   The sheets are taken in turn, and read anew for each report; the buffer is not cleared between reports. Prints a sum
+   over what was written, which is the same for both calculators, or with `timed` reports per second of processor
+   time. */
 #define _POSIX_C_SOURCE 199309L
 #include "aralimogga.h"
 #include "plain.h"
@@ -27,23 +29,23 @@ int main(int argc, char **argv)
     uint8_t out[1024];
     uint64_t sum = 0;
     dice die = {1};
-    if (argc < 7 || (strcmp(argv[1], "library") && strcmp(argv[1], "plain"))) {
-        fprintf(stderr, "speed library|plain WINDS INTERNALS STEPS FACES REPORTS [timed]\n");
+    if (argc < 8 || (strcmp(argv[1], "library") && strcmp(argv[1], "plain")) || strlen(argv[2]) != 6) {
+        fprintf(stderr, "speed library|plain KINDS WINDS INTERNALS STEPS FACES REPORTS [timed]\n");
         return 2;
     }
     reports *report = strcmp(argv[1], "plain") ? aral_report : plain_report;
-    for (int kind = 0; kind < 6; kind++) {
-        make_sized(&die, &s, kind, atoi(argv[2]), atoi(argv[3]), atoi(argv[4]), atoi(argv[5]));
-        write_sample(&s, &sheet[kind]);
+    for (int i = 0; i < 6; i++) {
+        make_sized(&die, &s, argv[2][i] - '0', atoi(argv[3]), atoi(argv[4]), atoi(argv[5]), atoi(argv[6]));
+        write_sample(&s, &sheet[i]);
     }
-    unsigned long count = strtoul(argv[6], NULL, 10);
+    unsigned long count = strtoul(argv[7], NULL, 10);
     double start = seconds();
     for (unsigned long i = 0; i < count; i++) {
         const text *t = &sheet[i % 6];
         aral_text r = report(t->byte, t->length, out, sizeof out);
         sum = sum * 31 + r.length + out[r.length / 2];
     }
-    if (argc > 7) printf("%.0f\n", (double)count / (seconds() - start));
+    if (argc > 8) printf("%.0f\n", (double)count / (seconds() - start));
     else printf("%016llx\n", (unsigned long long)sum);
     return 0;
 }
