@@ -339,9 +339,9 @@ void print_roof(int64_t kind, int64_t x)
 static void explain_zone(long kind, long x, uint32_t line, const char *zone, const char *mark)
 {
     if (*zone <= 'D') {
-        printf("Zone %s is a wall and marked %s. With a single-slope roof (kind %ld on line %u) a wall must be marked 0 or "
-               "90:\nthe book's table 3.2.2.2.1 has walls in no other wind. A wall for both takes two lines, one for "
-               "each.\n", zone, mark, kind, line);
+        printf("Zone %s is a wall and marked %s. ", zone, mark);
+        printf("With a single-slope roof (kind %ld on line %u) it must be marked 0 or 90:\n", kind, line);
+        printf("the book's table 3.2.2.2.1 has walls in no other wind. For both write two lines, one for each.\n");
         return;
     }
     printf("Zone %s is not on this building, which has ", zone);
