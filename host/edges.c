@@ -149,7 +149,7 @@ static void every_digit(void)
 /* Every count and every field of a sheet as long as it may be. Of all kinds 6 has the longest: its directions and marks
    have one byte more, 8 and 24 of them, and x one less than the 4 bytes of curved eaves. */
 static const struct { int year, kind, x, direction; size_t length; } longest_of[] = {
-    {1, 4, 1200, 90, 827}, {1, 6, 300, 180, 858}, {2, 4, 1200, 90, 1158}, {2, 6, 300, 180, ARAL_SHEET_MOST}};
+    {1, 4, 1200, 90, 827}, {1, 6, 300, 180, 858}, {2, 4, 1200, 90, 1158}, {2, 6, 300, 180, 1189}};
 
 static void longest(int which, text *t)
 {

@@ -55,7 +55,7 @@ enum {
 };
 
 /* The greatest lengths: in bytes of an acceptable sheet, a report and the digits of a number; and of a job's faces. */
-#define ARAL_SHEET_MOST 1189
+#define ARAL_SHEET_MOST 1190
 #define ARAL_REPORT_MOST 474
 #define ARAL_DIGITS_MOST 20
 #define ARAL_FACES_MOST 24
