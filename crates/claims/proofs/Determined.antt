@@ -132,6 +132,18 @@ is-dash-determined κ a r r′ s s′ p q = same p q
 building-of-determined : OneAnswer of.building-of.Post
 building-of-determined κ a r r′ s s′ p q = same p q
 
+year-of-determined : OneAnswer of.year-of.Post
+year-of-determined κ a r r′ s s′ p q = same p q
+
+step-of-determined : OneAnswer of.step-of.Post
+step-of-determined κ a r r′ s s′ p q = same p q
+
+has-heights-determined : OneAnswer of.has-heights.Post
+has-heights-determined κ a r r′ s s′ p q = same p q
+
+carried-face-determined : OneAnswer of.carried-face.Post
+carried-face-determined κ a r r′ s s′ p q = same p q
+
 wind-of-determined : OneAnswer of.wind-of.Post
 wind-of-determined κ a r r′ s s′ p q = same p q
 
@@ -146,6 +158,12 @@ face-of-determined κ a r r′ s s′ p q = same p q
 building-line-determined : OneAnswer of.building-line.Post
 building-line-determined κ a r r′ s s′ p q = same p q
 
+year-line-determined : OneAnswer of.year-line.Post
+year-line-determined κ a r r′ s s′ p q = same p q
+
+step-line-determined : OneAnswer of.step-line.Post
+step-line-determined κ a r r′ s s′ p q = same p q
+
 wind-line-determined : OneAnswer of.wind-line.Post
 wind-line-determined κ a r r′ s s′ p q = same p q
 
@@ -157,6 +175,12 @@ face-line-determined κ a r r′ s s′ p q = same p q
 
 -- ---- rules
 
+section-count-determined : OneAnswer of.section-count.Post
+section-count-determined κ a r r′ s s′ p q = same p q
+
+section-at-determined : OneAnswer of.section-at.Post
+section-at-determined κ a r r′ s s′ p q = same p q
+
 limits-of-determined : OneAnswer of.limits-of.Post
 limits-of-determined κ a r r′ s s′ p q =
     λ k. record { letter = same (p .0) (q .0) k; least = same (p .1) (q .1) k; most = same (p .2) (q .2) k }
@@ -166,6 +190,12 @@ count-line-determined κ a r r′ s s′ p q = same p q
 
 count-fault-determined : OneAnswer of.count-fault.Post
 count-fault-determined κ a r r′ s s′ p q = same p q
+
+year-fault-determined : OneAnswer of.year-fault.Post
+year-fault-determined κ a r r′ s s′ p q = same p q
+
+step-fault-determined : OneAnswer of.step-fault.Post
+step-fault-determined κ a r r′ s s′ p q = same p q
 
 wind-fault-determined : OneAnswer of.wind-fault.Post
 wind-fault-determined κ a r r′ s s′ p q = same p q

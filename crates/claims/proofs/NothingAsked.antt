@@ -116,6 +116,18 @@ is-dash-asks κ a = tt
 building-of-asks : AsksNothing of.building-of.Asked
 building-of-asks κ a = tt
 
+year-of-asks : AsksNothing of.year-of.Asked
+year-of-asks κ a = tt
+
+step-of-asks : AsksNothing of.step-of.Asked
+step-of-asks κ a = tt
+
+has-heights-asks : AsksNothing of.has-heights.Asked
+has-heights-asks κ a = tt
+
+carried-face-asks : AsksNothing of.carried-face.Asked
+carried-face-asks κ a = tt
+
 wind-of-asks : AsksNothing of.wind-of.Asked
 wind-of-asks κ a = tt
 
@@ -130,6 +142,12 @@ face-of-asks κ a = tt
 building-line-asks : AsksNothing of.building-line.Asked
 building-line-asks κ a = tt
 
+year-line-asks : AsksNothing of.year-line.Asked
+year-line-asks κ a = tt
+
+step-line-asks : AsksNothing of.step-line.Asked
+step-line-asks κ a = tt
+
 wind-line-asks : AsksNothing of.wind-line.Asked
 wind-line-asks κ a = tt
 
@@ -141,6 +159,12 @@ face-line-asks κ a = tt
 
 -- ---- rules
 
+section-count-asks : AsksNothing of.section-count.Asked
+section-count-asks κ a = tt
+
+section-at-asks : AsksNothing of.section-at.Asked
+section-at-asks κ a = tt
+
 limits-of-asks : AsksNothing of.limits-of.Asked
 limits-of-asks κ a = tt
 
@@ -149,6 +173,12 @@ count-line-asks κ a = tt
 
 count-fault-asks : AsksNothing of.count-fault.Asked
 count-fault-asks κ a = tt
+
+year-fault-asks : AsksNothing of.year-fault.Asked
+year-fault-asks κ a = tt
+
+step-fault-asks : AsksNothing of.step-fault.Asked
+step-fault-asks κ a = tt
 
 wind-fault-asks : AsksNothing of.wind-fault.Asked
 wind-fault-asks κ a = tt

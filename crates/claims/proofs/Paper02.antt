@@ -8,7 +8,7 @@ use Rattle.building.specs.declared.Sizes.{Sizes}
 use Rattle.building.specs.Building.{sizes}
 use Rattle.building.specs.Places.{wallPlace}
 use Rattle.building.proofs.Accepted.{in-order}
-use Rattle.building.proofs.Places.{needs-roof}
+use Rattle.building.proofs.Places.{needs-roof, place-there}
 use Rattle.book.specs.declared.Answer.the-variants.{Answered}
 use Rattle.book.specs.declared.Cited.{Cited}
 use Rattle.book.specs.Line.{Way}
@@ -74,7 +74,7 @@ again g direction place h =
     let q = answered .0 in
     let o = in-order g (faultless g direction place q) in
     rw (coefficient-only (sizes g) o (natAbs direction) place (answered .1))
-    (redone (sizes g) o (natAbs direction) place (λ w. needs-roof (g .kind) place w (q .there)))
+    (redone (sizes g) o (natAbs direction) place (λ w. needs-roof (g .kind) place w (place-there (g .kind) direction place (q .there))))
 
 pub answers-can-be-redone : AnswersCanBeRedone
 answers-can-be-redone κ a r s p c e = again (a .0) (a .1 .0) (a .1 .1 .0) (sym p ∙ e)

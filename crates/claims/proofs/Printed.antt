@@ -35,6 +35,7 @@ use Rattle.job.specs.Walk.{walk, verdict, readLines}
 use Rattle.sheet.specs.Sheet.{reading}
 use Rattle.worst.specs.declared.Axis.the-variants.{X}
 use Rattle.worst.specs.Forces.{force}
+use Rattle.worst.specs.Speed.{factorAt, speedAt}
 
 -- ---- what a row says
 
@@ -50,7 +51,14 @@ pub data Row : Type 0 where
 abbrev pub alone : ℕ → ℕ → ℤ → ℤ → ℤ
 alone density speed net area =
     force X
-    (record { density = pos density; outside = λ direction zone. net ∷ []; winds = []; internals = []; faces = [] })
+    (record {
+      density = pos density;
+      outside = λ direction zone. net ∷ [];
+      winds = [];
+      internals = [];
+      profile = [];
+      faces = [];
+    })
     (record { direction = pos 0; speed = pos speed }) (pos 0)
     (record { zone = 65; mark = both; height = pos 0; x = area; y = pos 0; z = pos 0 }) 1
 
@@ -108,7 +116,7 @@ unfolding divisorUpTo commonDivisor outsideOf askedOf givenFault buildingFault o
     outOfRoof tooLong beyond zoneOn localOn knows placeOn roofOf coefficientOf wallColumn gableColumn singleColumn
     flatColumn roofColumn twoSigns wallRow blockOf roofWay wayIn onStraight halfUp roundAway roundDown leftOver
     reading linesIn linesFrom split fieldsOf fieldFrom numeral unsigned negative digitsInForm allDigits valueAfter
-    value readLines walk lineFault inForm hasForm
+    value readLines walk lineFault inForm hasForm factorAt speedAt
 printed-hold =
     refl and refl and refl and refl  -- P1 to P4
     and refl and refl and refl and refl and refl  -- P5 to P7

@@ -25,6 +25,7 @@ use Rattle.rules.specs.Sections.{lineFault}
 use Rattle.job.specs.Walk.{walk, readLines}
 use Rattle.sheet.specs.Sheet.{reading}
 use Rattle.worst.specs.Best.{better, best}
+use Rattle.worst.specs.Speed.{factorAt, speedAt}
 use Rattle.worst.specs.Cases.{numbers, each, choices, total, cases, caseTotal, worst}
 use Rattle.worst.specs.Shown.{padded, shown}
 use Rattle.worst.specs.Worst.{sixExtremes}
@@ -49,5 +50,5 @@ unfolding divisorUpTo commonDivisor halfUp roundAway digitsWithin digits decimal
     outOfRoof roofOf roofWay givenFault buildingFault outOfForm outOfRange outOfWalls tooLong zoneOn localOn knows
     placeOn wallColumn gableColumn singleColumn flatColumn roofColumn twoSigns coefficientOf outsideOf askedOf beyond
     hasForm inForm lineFault walk readLines reading better best numbers each choices total cases caseTotal worst
-    padded shown sixExtremes spaced extremeText axisText sixText reportText
+    padded shown sixExtremes spaced extremeText axisText sixText reportText factorAt speedAt
 sample = refl

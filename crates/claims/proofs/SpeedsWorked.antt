@@ -18,10 +18,11 @@ use Rattle.book.specs.Line.{wayIn, onStraight}
 use Rattle.book.specs.Walls.{wallRow}
 use Rattle.book.specs.Gable.{blockOf}
 use Rattle.book.specs.Roofs.{roofWay}
-use Rattle.book.specs.Question.{wallColumn, gableColumn, flatColumn, coefficientOf, outsideOf}
+use Rattle.book.specs.Question.{wallColumn, gableColumn, singleColumn, flatColumn, roofColumn, twoSigns}
+use Rattle.book.specs.Question.{coefficientOf, outsideOf}
 use Rattle.building.specs.Roof.{roofOf}
 use Rattle.building.specs.Building.{givenFault, buildingFault, outOfForm, outOfRange, outOfWalls, outOfRoof}
-use Rattle.building.specs.Places.{zoneOn, localOn}
+use Rattle.building.specs.Places.{zoneOn, localOn, knows, placeOn}
 use Rattle.building.specs.Question.{askedOf}
 use Rattle.building.specs.Test.{beyond, tooLong}
 use Rattle.rules.specs.Form.{hasForm, inForm}
@@ -119,7 +120,7 @@ unfolding divisorUpTo commonDivisor halfUp roundAway allDigits valueAfter value 
     fieldFrom split fieldsOf linesFrom linesIn wayIn onStraight wallRow blockOf outOfRoof roofOf roofWay givenFault
     buildingFault outOfForm outOfRange outOfWalls tooLong zoneOn localOn wallColumn gableColumn flatColumn
     coefficientOf outsideOf askedOf beyond hasForm inForm lineFault walk readLines reading better best numbers each
-    choices total cases caseTotal worst padded shown factorAt speedAt
+    choices total cases caseTotal worst padded shown factorAt speedAt knows placeOn singleColumn roofColumn twoSigns
 rows-hold = (refl, refl) and (refl, refl) and (refl, refl) and (refl, refl) and tt
 
 -- every face's speed is above 0 at speed 2
