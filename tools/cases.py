@@ -221,6 +221,9 @@ L1 on a gable: 6 0
 point 7: h 10000000: 1 2
 point 7: h -9999999: 3 2
 point 7: direction 1000000000000, for a local too: 3 0
+a single slope of 12.5 degrees, zone E under 135: -750 rows 1 2 1 2
+a wall of it under 45: 6 0
+a gable under 45: 3 0
 point 11: rounded first, then the internal coefficient comes off: 602 rows 5 6 1 40
 point 12: the net of the wall local: -1400 rows 5 5 0 1
 point 7: internal 101: 3 0
@@ -232,6 +235,13 @@ point 8: 4000000000 faces: 2 7
 point 9: a zeroed entry inside the count: 1 8
 point 9: mark 45: 3 8
 point 9: mark 10000000, which no sheet carries: 1 8
+point 19: year 0: 3 2
+point 30: year 1 with 17 steps: 0 0
+year 2 with one step: 0 0
+year 2 with none: 2 9
+year 2 with 17: 2 9
+year 2 with two at one height: 3 11
+year 3: 3 2
 '''
 folder = sys.argv[1]
 texts = '='.join(title + '\n' + text for title, text, _ in cases)

@@ -117,6 +117,21 @@ fn outside_questions() {
     );
 }
 
+fn slope_questions() {
+    print_answer(
+        b"a single slope of 12.5 degrees, zone E under 135:",
+        book::outside(building(4000, 6, 125), 135, b'E'),
+    );
+    print_answer(
+        b"a wall of it under 45:",
+        book::outside(building(4000, 6, 100), 45, b'A'),
+    );
+    print_answer(
+        b"a gable under 45:",
+        book::outside(building(4000, 1, 0), 45, b'E'),
+    );
+}
+
 fn net_questions() {
     let g = Building {
         h: 1600,
@@ -143,11 +158,13 @@ fn net_questions() {
 
 pub(crate) fn questions() {
     outside_questions();
+    slope_questions();
     net_questions();
 }
 
-// A job of one wind, one internal coefficient and one face, with these counts, this zone and this mark.
-fn record(winds: u32, faces: u32, zone: u8, mark: i64) -> Job {
+// A job of one wind, one internal coefficient and one face, of this year, with these counts, this zone and this mark.
+// Each step of its profile is at height 0.
+fn dated(year: i64, steps: u32, winds: u32, faces: u32, zone: u8, mark: i64) -> Job {
     let wind = Wind {
         direction: 0,
         speed: 400,
@@ -173,7 +190,7 @@ fn record(winds: u32, faces: u32, zone: u8, mark: i64) -> Job {
         factor: 1000,
     };
     let p = Profile {
-        count: 0,
+        count: steps,
         entry: [step; 16],
     };
     let f = Faces {
@@ -181,13 +198,21 @@ fn record(winds: u32, faces: u32, zone: u8, mark: i64) -> Job {
         entry: [face; 24],
     };
     Job {
-        year: 1,
+        year,
         building: building(2000, 0, 0),
         winds: w,
         internals: i,
         profile: p,
         faces: f,
     }
+}
+
+fn record(winds: u32, faces: u32, zone: u8, mark: i64) -> Job {
+    dated(1, 0, winds, faces, zone, mark)
+}
+
+fn of_year(year: i64, steps: u32) -> Job {
+    dated(year, steps, 1, 1, b'A', 0)
 }
 
 fn print_verdict(title: &[u8], j: Job) {
@@ -217,4 +242,11 @@ pub(crate) fn records() {
         b"point 9: mark 10000000, which no sheet carries:",
         record(1, 1, b'A', 10000000),
     );
+    print_verdict(b"point 19: year 0:", of_year(0, 1));
+    print_verdict(b"point 30: year 1 with 17 steps:", of_year(1, 17));
+    print_verdict(b"year 2 with one step:", of_year(2, 1));
+    print_verdict(b"year 2 with none:", of_year(2, 0));
+    print_verdict(b"year 2 with 17:", of_year(2, 17));
+    print_verdict(b"year 2 with two at one height:", of_year(2, 2));
+    print_verdict(b"year 3:", of_year(3, 1));
 }
