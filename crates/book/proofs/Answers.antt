@@ -153,7 +153,8 @@ module _ (g : Building) (direction : ℤ) (place : ℕ) where
       λ w. needs-roof (g .kind) place w (place-there (g .kind) direction place p) in
       rw (answered e f p)
       (alternatives (sizes g) o (natAbs direction) place 1200 (lit≤ tt) roofed
-      (λ w h. small-zone (sizes g) o (g .kind) refl (natAbs direction) place (roofed w) (roof-zone (g .kind) place z w)))
+      (λ w h. small-zone (sizes g) o (g .kind) refl (natAbs direction) place (roofed w) (roof-zone
+      (g .kind) place z w)))
 
   -- nor is any under whatever direction: where it is refused there is none
   pub zone-small : buildingFault g ≡ 0 → zoneOn (g .kind) place ≡ true → (i : ℕ)

@@ -72,5 +72,6 @@ module _ (g : Building) (direction : ℤ) (place : ℕ) where
   outside-is good known on = (
     coefficientOf (sizes g) (natAbs direction) place,
     answered g direction place good known on,
-    coefficient-is (sizes g) (in-order g good) (natAbs direction) place (λ w. needs-roof (g .kind) place w (place-there (g .kind) direction place on)),
+    coefficient-is (sizes g) (in-order g good) (natAbs direction) place (λ w. needs-roof (g .kind) place w
+        (place-there (g .kind) direction place on)),
   )

@@ -21,7 +21,7 @@ use Rattle.book.specs.Interpolated.{LiesAt}
 use Rattle.book.specs.NoHalf.{NoHalfOn}
 use Rattle.book.specs.Gable.{gableParts, blockOf}
 use Rattle.book.specs.Roofs.{flatRoof, partOf, roofTable, lastNumber, roofWay}
-use Rattle.book.proofs.Ways.{noStanding, way-rows, Proper, way-proper, way-small}
+use Rattle.book.proofs.Ways.{way-rows, Proper, way-proper, way-small}
 use Rattle.book.proofs.Walked.{lastAt, lies-walked, lies-only}
 use Rattle.book.proofs.Tables.{SmallRow, SmallZones, Listed, Part, gable-part, flat-part, gable-small}
 use Rattle.book.proofs.Tables.{single-part, single-small, flat-small}

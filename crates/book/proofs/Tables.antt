@@ -19,7 +19,6 @@ use Rattle.book.specs.Walls.{Wall, noWall, walls, wallTable}
 use Rattle.book.specs.Gable.{low, middle, tall, gableParts, gableTable}
 use Rattle.book.specs.Flat.{straight, parapet, curved, mansard, flatParts, flatTable}
 use Rattle.book.specs.SingleSlope.{singleSlope, singleTable}
-use Rattle.book.proofs.Ways.{noStanding}
 use Rattle.book.proofs.Walked.{lastAt}
 
 -- ---- the rows in the book's order

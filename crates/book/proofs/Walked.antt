@@ -12,7 +12,8 @@ use Rattle.whole.proofs.Tests.{by-test}
 use Rattle.whole.proofs.Lowest.{lowest-terms, lowest-unique}
 use Rattle.book.specs.Row.{Standing}
 use Rattle.book.specs.Line.{Way, on, between, wayIn}
-use Rattle.book.specs.Interpolated.{Neighbours, first, later, Rising, LiesAt, alone, upToFirst, onRow, betweenRows}
+use Rattle.book.specs.Interpolated.{Neighbours, first, later, Rising, LiesAt, alone, upToFirst, onRow}
+use Rattle.book.specs.Interpolated.{betweenRows}
 use Rattle.book.proofs.Neighbours.{neighbours-from, row-from}
 
 -- the number at which the last row stands

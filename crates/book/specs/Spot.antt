@@ -1,4 +1,5 @@
--- A way as the code has it, with its rows by their numbers, and the parts of the roofs' tables in the code's order. Only
+-- A way as the code has it, with its rows by their numbers, and the parts of the roofs' tables in the code's
+-- order. Only
 -- contracts of private functions cite it.
 use mathlib.Core.List.{List, [], _∷_, _++_}
 use Prim.Native.Nat.{ℕ}

@@ -16,7 +16,7 @@ use Rattle.lines.specs.Lines.{linesIn}
 use Rattle.page.specs.declared.Writing.the-variants as written
 use Rattle.page.specs.Writing.{writing}
 use Rattle.job.specs.declared.Job.{Job}
-use Rattle.job.specs.Carried.{Carried, nothing, carried, noJob}
+use Rattle.job.specs.Carried.{Carried, carried, noJob}
 use Rattle.job.specs.Lines.{linesOf}
 use Rattle.job.specs.Walk.{Accepted, verdict, judged}
 use Rattle.sheet.specs.Sheet.{reading, answer, sheetText, jobWriting}

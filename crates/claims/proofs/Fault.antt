@@ -22,15 +22,18 @@ pub faulty-unique : (xs : List (List Field)) {v w : Verdict} → Faulty xs v →
 faulty-unique xs (at f) (at g) = let u = first-unique (sheet (opening xs)) nothing xs f g in rw (u .0, u .1)
 
 module _ (xs : List (List Field)) where
-  faulty-answer : (r : Reading) → Answers (sheet (opening xs)) nothing xs 1 r → {v : Verdict} → Faulty xs v → r ≡ Refused v
+  faulty-answer : (r : Reading) → Answers (sheet (opening xs)) nothing xs 1 r → {v : Verdict} → Faulty xs v
+      → r ≡ Refused v
   faulty-answer r (in-order d none) (at {n} {i} f) = absurd (none i n (f .some) (f .has))
   faulty-answer r (faulty m h g) (at f) = let u = first-unique (sheet (opening xs)) nothing xs g f in rw (u .0, u .1)
 
-  faultless-answer : (r : Reading) → Answers (sheet (opening xs)) nothing xs 1 r → Faultless xs → (c : Carried) × (r ≡ Accepted c)
+  faultless-answer : (r : Reading) → Answers (sheet (opening xs)) nothing xs 1 r → Faultless xs
+      → (c : Carried) × (r ≡ Accepted c)
   faultless-answer r (in-order d none) f = (d, refl)
   faultless-answer r (faulty n i g) f = absurd (f i n (g .some) (g .has))
 
-  accepted-answer : (r : Reading) → Answers (sheet (opening xs)) nothing xs 1 r → (c : Carried) → r ≡ Accepted c → Faultless xs
+  accepted-answer : (r : Reading) → Answers (sheet (opening xs)) nothing xs 1 r → (c : Carried)
+      → r ≡ Accepted c → Faultless xs
   accepted-answer r (in-order d none) c e = none
   accepted-answer r (faulty n i g) c e = let z : _≡_ {A = ℕ} 0 1 = cc in absurd (omega arith)
 

@@ -1,7 +1,6 @@
 -- Item 12 of paper 02, no half on a gable: over the whole of table 3.2.2.2.2, for the reason that the request gives.
-use mathlib.Core.Path.{_≡_, refl}
+use mathlib.Core.Path.{refl}
 use Prim.Native.Nat.{ℕ, _-_, _≤_}
-use lib.IntN.{pos}
 use Rattle.whole.specs.Lists.{Every}
 use Rattle.whole.specs.Lowest.{divisorUpTo, commonDivisor}
 use Rattle.whole.specs.Round.{halfUp, roundAway, leftOver, Half}

@@ -74,7 +74,8 @@ again g direction place h =
     let q = answered .0 in
     let o = in-order g (faultless g direction place q) in
     rw (coefficient-only (sizes g) o (natAbs direction) place (answered .1))
-    (redone (sizes g) o (natAbs direction) place (λ w. needs-roof (g .kind) place w (place-there (g .kind) direction place (q .there))))
+    (redone (sizes g) o (natAbs direction) place (λ w. needs-roof (g .kind) place w (place-there
+    (g .kind) direction place (q .there))))
 
 pub answers-can-be-redone : AnswersCanBeRedone
 answers-can-be-redone κ a r s p c e = again (a .0) (a .1 .0) (a .1 .1 .0) (sym p ∙ e)

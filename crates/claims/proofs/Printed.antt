@@ -27,7 +27,8 @@ use Rattle.book.specs.declared.Values.{Values}
 use Rattle.book.specs.declared.Values.the-variants.{One}
 use Rattle.building.specs.Places.{E, L1, zoneOn, localOn, knows, placeOn}
 use Rattle.building.specs.Question.{askedOf}
-use Rattle.book.specs.Question.{outsideOf, coefficientOf, wallColumn, gableColumn, singleColumn, flatColumn, roofColumn, twoSigns}
+use Rattle.book.specs.Question.{outsideOf, coefficientOf, wallColumn, gableColumn, singleColumn, flatColumn}
+use Rattle.book.specs.Question.{roofColumn, twoSigns}
 use Rattle.rules.specs.Form.{hasForm, inForm}
 use Rattle.entry.specs.Says.{both}
 use Rattle.rules.specs.Sections.{lineFault}

@@ -16,7 +16,8 @@ use Rattle.book.specs.Line.{wayIn, onStraight}
 use Rattle.book.specs.Walls.{wallRow}
 use Rattle.book.specs.Gable.{blockOf}
 use Rattle.book.specs.Roofs.{roofWay}
-use Rattle.book.specs.Question.{outsideOf, coefficientOf, wallColumn, gableColumn, singleColumn, flatColumn, roofColumn, twoSigns}
+use Rattle.book.specs.Question.{outsideOf, coefficientOf, wallColumn, gableColumn, singleColumn, flatColumn}
+use Rattle.book.specs.Question.{roofColumn, twoSigns}
 use Rattle.claims.proofs.Printed.{Row, gives, Holds, shed, m, _and_}
 
 abbrev pub worked : List Row
@@ -44,5 +45,5 @@ unfolding outsideOf askedOf givenFault buildingFault outOfForm outOfRange outOfW
     localOn knows placeOn roofOf coefficientOf wallColumn gableColumn singleColumn flatColumn roofColumn twoSigns
     wallRow blockOf roofWay wayIn divisorUpTo commonDivisor onStraight halfUp roundAway
 worked-hold =
-    refl and refl and refl and refl and refl and refl and refl and refl and refl and refl and refl and refl and refl and refl
-    and refl and refl and tt
+    refl and refl and refl and refl and refl and refl and refl and refl and refl and refl and refl
+    and refl and refl and refl and refl and refl and tt

@@ -1,9 +1,7 @@
 -- The worked sheet of paper 01 and the six lines that `totals` writes for it, from bytes to bytes: the definitions
 -- compute them over every case.
-use Prim.Native.Nat.{ℕ}
 use Prim.Native.String.{String, _++_ as _&_}
 use mathlib.Core.Path.{_≡_, refl}
-use mathlib.Core.List.{List, [], _∷_}
 use Rattle.whole.proofs.Quoted.{bytes}
 use Rattle.whole.specs.Round.{halfUp, roundAway}
 use Rattle.whole.specs.Digits.{digitsWithin, digits, decimal, allDigits, valueAfter, value}
@@ -18,7 +16,8 @@ use Rattle.building.specs.Roof.{roofOf}
 use Rattle.building.specs.Building.{givenFault, buildingFault, outOfForm, outOfRange, outOfWalls, outOfRoof}
 use Rattle.building.specs.Places.{zoneOn, localOn, knows, placeOn}
 use Rattle.building.specs.Question.{askedOf}
-use Rattle.book.specs.Question.{wallColumn, gableColumn, singleColumn, flatColumn, roofColumn, twoSigns, coefficientOf, outsideOf}
+use Rattle.book.specs.Question.{wallColumn, gableColumn, singleColumn, flatColumn, roofColumn, twoSigns}
+use Rattle.book.specs.Question.{coefficientOf, outsideOf}
 use Rattle.building.specs.Test.{beyond, tooLong}
 use Rattle.rules.specs.Form.{hasForm, inForm}
 use Rattle.rules.specs.Sections.{lineFault}

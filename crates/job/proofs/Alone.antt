@@ -5,7 +5,7 @@ use mathlib.Core.List.{List, [], _∷_, _++_, map, append-nil}
 use native.Mathlib.Numerals.{add-one}
 use native.Mathlib.Omega.{arith}
 use mathlib.Core.Bool.{Bool, true, false, cond}
-use lib.IntN.{ℤ, pos, negℤ}
+use lib.IntN.{pos, negℤ}
 use lib.ListN.{length, getD, take, length-map}
 use lib.Seq.{take-all}
 use Rattle.whole.specs.Lists.{firstOf}
@@ -20,7 +20,6 @@ use Rattle.job.specs.declared.Job.{Job}
 use Rattle.job.specs.Carried.{Carried, noWind, noStep, noFace, highestOf, before, carried}
 use Rattle.job.specs.Judging.{Alike}
 use Rattle.rules.specs.declared.Before.{Before}
-use Rattle.entry.specs.declared.Step.{Step}
 use Rattle.entry.specs.declared.Face.{Face}
 use Rattle.entry.specs.Says.{hasHeights, carriedFace}
 use Rattle.rules.specs.Sections.{about, sections, lineFault}
@@ -123,7 +122,8 @@ module _ (j : Job) where
 module _ (j : Job) (d : Carried) (i : ℕ) where
   pub entry-judged : (s : Section) (b : Before) → Apart s → Alike s b d → i < length (entriesOf (carried j) s)
       → lineFault (Entry s) b (entryOf j s i)
-      ≡ lineFault (Entry s) (before (learnAll s (take i (entriesOf (carried j) s)) d)) (getD (entriesOf (carried j) s) i [])
+      ≡ lineFault (Entry s) (before (learnAll s (take i (entriesOf (carried j) s)) d)) (getD (entriesOf
+      (carried j) s) i [])
   entry-judged s b a alike h =
       let x = getD (entriesOf (carried j) s) i [] in
       ap (lineFault (Entry s) b) (sym (entry-is j s i h))

@@ -1,6 +1,6 @@
 -- Lines that are accepted hold at least one field each, and every field is in form: `lines` gives them back from
 -- their text, and their text from them.
-use Prim.Native.Nat.{ℕ, zero, suc, _+_, _≤_, _<_, _^_}
+use Prim.Native.Nat.{ℕ, zero, suc, _+_, _<_}
 use mathlib.Core.Path.{_≡_, subst, sym}
 use mathlib.Core.Bool.{false, cond, not}
 use mathlib.Core.List.{List, [], _∷_, _++_}
@@ -30,7 +30,7 @@ use Rattle.job.specs.Walk.{calls, learn, Accepted, walk, opening, sheet,
 use Rattle.rules.proofs.Form.{Formed, letter, plus, minus, dash, mark, AllFormed, none, more}
 use Rattle.rules.proofs.Line.{in-order}
 use Rattle.job.proofs.Walk.{accepted-line, accepted-next, accepted-no-more}
-use Rattle.job.proofs.Sections.{countLine, count-says}
+use Rattle.job.proofs.Sections.{count-says}
 use Rattle.job.proofs.Alone.{most-24}
 
 -- a line of at least one field, each in form

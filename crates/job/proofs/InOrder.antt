@@ -3,20 +3,19 @@ use Prim.Native.Nat.{ℕ, _≤_}
 use mathlib.Core.Path.{_≡_, refl, ap, _∙_, sym, subst}
 use mathlib.Core.Logic.{_⊎_, ⊎-elim, inl, inr}
 use mathlib.Core.List.{List, [], _∷_, map}
-use mathlib.Core.Bool.{Bool, true, false, cond, not, _&&_, _||_, true≢false}
+use mathlib.Core.Bool.{Bool, true, false, cond, not, _&&_, _||_}
 use native.Mathlib.Omega.{arith}
 use lib.ListN.{length, length-map}
 use lib.Dec.{T}
-use lib.IntN.{ℤ, pos, negℤ, natAbs}
-use lib.Signed.{_≤ℤ_, _<ℤ_}
+use lib.IntN.{ℤ, pos, negℤ}
+use lib.Signed.{_<ℤ_}
 use borrow.Author.Tests.{le-leb, not-false}
 use Rattle.whole.specs.Lists.{Every}
 use Rattle.whole.proofs.Lists.{every-by, every-both, map-every, every-at}
 use Rattle.whole.proofs.Order.{lt-true, true-lt}
 use Rattle.whole.proofs.Parts.{le-by}
-use Rattle.whole.proofs.Tests.{by-test, or-true, is-true}
+use Rattle.whole.proofs.Tests.{by-test, or-true}
 use Rattle.field.specs.declared.Field.{Field}
-use Rattle.building.specs.declared.Building.{Building}
 use Rattle.building.specs.Test.{is, oneOf, beyond, tooLong}
 use Rattle.building.specs.Fault.{Fault, first}
 use Rattle.building.specs.Building.{faults, buildingFault}
@@ -39,17 +38,17 @@ use Rattle.rules.specs.Sections.{about, forms, lineFault}
 use Rattle.rules.proofs.Form.{AllFormed}
 use Rattle.rules.proofs.Rising.{found-none}
 use Rattle.rules.proofs.Line.{in-order}
-use Rattle.entry_written.specs.Fields.{yearFields, buildingFields, windFields, internalFields, stepFields, faceFields}
+use Rattle.entry_written.specs.Fields.{yearFields, windFields, internalFields, stepFields, faceFields}
 use Rattle.job.specs.Lines.{entriesOf, linesOf}
 use Rattle.job.specs.Walk.{learn, Accepted, readLines}
 use Rattle.job.specs.InOrder.{Within, Between, WindInOrder, InternalInOrder, FaceInOrder, StepInOrder}
-use Rattle.job.specs.InOrder.{HeightInOrder, Rising, OfYear1, OfLaterYear, InOrder}
+use Rattle.job.specs.InOrder.{Rising, OfYear1, OfLaterYear, InOrder}
 use Rattle.job.proofs.Walk.{learnAll, EntriesInOrder, Apart, entries-formed}
 use Rattle.job.proofs.Sheet.{Called, saidBy, readBefore, SheetInOrder, in-order-all, all-in-order}
 use Rattle.job.proofs.Sheet.{sheet-accepted, accepted-sheet}
 use Rattle.job.proofs.Lines.{small-short, step-back}
 use Rattle.job.proofs.Years.{later-heights, in-order-year, last-height}
-use Rattle.job.proofs.RoundTrip.{said-year, Writable, said-back}
+use Rattle.job.proofs.RoundTrip.{said-year, said-back}
 use Rattle.job.proofs.Written.{markTooLong, year-given, building-given, wind-given, internal-given, step-given}
 use Rattle.job.proofs.Written.{any, long, face-given}
 

@@ -15,7 +15,7 @@ use Rattle.verdict.specs.declared.Verdict.{Verdict}
 use Rattle.verdict.specs.Verdict.{accepted, Refuses}
 use Rattle.field.specs.declared.Field.{Field}
 use Rattle.rules.specs.declared.Section.{Section}
-use Rattle.rules.specs.declared.Section.the-variants.{«V», B, W, I, P, F}
+use Rattle.rules.specs.declared.Section.the-variants.{«V», W, P, F}
 use Rattle.rules.specs.declared.Kind.{Kind}
 use Rattle.rules.specs.declared.Kind.the-variants.{Count, Entry}
 use Rattle.rules.specs.declared.Before.{Before}

@@ -1,16 +1,15 @@
 -- A field in form, written again, is the same field, and what a value's field says is that value; so for the lines of
 -- what a sheet carries.
-use Prim.Native.Nat.{ℕ, zero, suc, _≤_}
-use mathlib.Core.Path.{_≡_, refl, sym, _∙_}
+use Prim.Native.Nat.{zero, suc, _≤_}
+use mathlib.Core.Path.{_≡_, refl, sym}
 use mathlib.Core.Bool.{Bool, true, false}
 use mathlib.Core.List.{List}
 use native.Mathlib.Omega.{arith}
-use lib.IntN.{ℤ, pos, negsuc, negℤ, natAbs}
+use lib.IntN.{ℤ, pos, negsuc, natAbs}
 use borrow.Author.Tests.{ne-eqb, le-ltb}
 use Rattle.whole.specs.Lists.{Every}
 use Rattle.whole.proofs.Tests.{by-test}
 use Rattle.field.specs.declared.Field.{Field}
-use Rattle.field.specs.declared.Field.the-variants.{Plus, Minus}
 use Rattle.lines.specs.Lines.{NotBad}
 use Rattle.building.specs.declared.Building.{Building}
 use Rattle.building.specs.Test.{is, tooLong}

@@ -1,6 +1,6 @@
 -- The fault of a line is one that it has, and the lowest of those.
 use Prim.Native.Nat.{ℕ, _≤_, _<_}
-use mathlib.Core.Path.{_≡_, sym, _∙_}
+use mathlib.Core.Path.{sym, _∙_}
 use mathlib.Core.List.{List}
 use native.Mathlib.Omega.{arith}
 use Rattle.whole.proofs.Tests.{by-test}

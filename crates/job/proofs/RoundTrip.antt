@@ -16,10 +16,10 @@ use Rattle.rules.specs.declared.Section.the-variants.{«V», B, W, I, P, F}
 use Rattle.rules.specs.declared.Kind.the-variants.{Entry}
 use Rattle.entry.specs.declared.Face.{Face}
 use Rattle.job.specs.declared.Job.{Job}
-use Rattle.job.specs.Carried.{Carried, before, carried}
+use Rattle.job.specs.Carried.{Carried, carried}
 use Rattle.entry.specs.Says.{hasHeights, yearOf, buildingOf, windOf, internalOf, stepOf, faceOf, carriedFace}
 use Rattle.rules.specs.Form.{numberForms}
-use Rattle.rules.specs.Sections.{about, sections, forms}
+use Rattle.rules.specs.Sections.{sections, forms}
 use Rattle.entry_written.specs.Fields.{yearFields, buildingFields, windFields, internalFields, stepFields, faceFields}
 use Rattle.job.specs.Lines.{entriesOf, sectionOf, sectionsOf, sheetOf, linesOf}
 use Rattle.job.specs.Walk.{Accepted, readLines, judged}

@@ -30,7 +30,8 @@ use Rattle.entry_written.specs.Fields.{signed, numberField, markField, yearFiel
 use Rattle.entry_written.specs.Fields.{internalFields, stepFields, faceFields}
 use Rattle.rules.proofs.Form.{in-formed}
 use Rattle.rules.proofs.Line.{fault-out, fault-in}
-use Rattle.job.proofs.Lines.{signed-back, year-back, building-back, wind-back, internal-back, step-back, face-back}
+use Rattle.job.proofs.Lines.{signed-back, year-back, building-back, wind-back, internal-back, step-back}
+use Rattle.job.proofs.Lines.{face-back}
 
 -- ---- the form of a value's field
 
@@ -168,7 +169,8 @@ module _ (b : Before) (f : Face) where
   face-given =
       given-by (Entry F) b (faceFields h f) (long (carriedFace h f)) (first (faceFaults b (carriedFace h f)))
       (face-formed h f)
-      (λ e. ap (λ (g : Face). first (faceFaults b g)) (face-back h f (in-formed (forms h (Entry F)) (faceFields h f) e)))
+      (λ e. ap (λ (g : Face). first (faceFaults b g)) (face-back h f (in-formed (forms h (Entry F))
+      (faceFields h f) e)))
 
 -- what the code finds, by what it goes by
 pub long-by : {t₁ t₂ t₃ t₄ t₅ u₁ u₂ u₃ u₄ u₅ : Bool} {n m r : ℕ} → t₁ ≡ u₁ → t₂ ≡ u₂ → t₃ ≡ u₃ → t₄ ≡ u₄ → t₅ ≡ u₅

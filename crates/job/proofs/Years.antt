@@ -1,22 +1,20 @@
 -- Laws of the year: what a sheet of year 1 does not carry, and the heights of the profile of a later one.
 use Prim.Native.Nat.{ℕ, zero, suc}
-use mathlib.Core.Path.{_≡_, refl, ap, ap₂, _∙_, sym}
+use mathlib.Core.Path.{_≡_, refl, ap₂, _∙_, sym}
 use mathlib.Core.Logic.{⊎-elim}
-use mathlib.Core.Bool.{Bool, true, false, cond, not, true≢false}
+use mathlib.Core.Bool.{Bool, true, false, true≢false}
 use mathlib.Core.List.{List, [], _∷_, _++_, map}
 use lib.IntN.{ℤ, pos}
 use lib.ListN.{getD}
 use borrow.Author.Tests.{not-false}
 use Rattle.whole.specs.Lists.{firstOf, Every}
-use Rattle.building.specs.Test.{is}
 use Rattle.building.proofs.Machine.{is-same}
 use Rattle.entry.specs.declared.Step.{Step}
 use Rattle.entry.specs.declared.Face.{Face}
 use Rattle.entry.specs.Says.{hasHeights, carriedFace}
-use Rattle.rules.specs.Faults.{yearFaults}
 use Rattle.job.specs.declared.Job.{Job}
 use Rattle.job.specs.Carried.{Carried, noStep, noFace, lowestOf, lastHeight, carried}
-use Rattle.job.specs.InOrder.{OfYear1, OfLaterYear, InOrder}
+use Rattle.job.specs.InOrder.{OfYear1, InOrder}
 
 pub year-1 : (y : ℤ) → hasHeights y ≡ false → y ≡ pos 1
 year-1 y e = is-same (pos 1) y (not-false _ e)
@@ -39,7 +37,12 @@ low-faces (f ∷ l) = (refl, low-faces l)
 
 pub carried-year : (j : Job) → OfItsYear (carried j)
 unfolding carried
-carried-year j e = record { year = year-1 (j .year) e; profile = rw e; heights = rw e (low-faces (firstOf noFace (j .faces .count) (j .faces .entry))) }
+carried-year j e = record {
+  year = year-1 (j .year) e;
+  profile = rw e;
+  heights = rw e (low-faces (firstOf noFace
+      (j .faces .count) (j .faces .entry)));
+}
 
 pub faces-kept : (h : Bool) (l : List Face) → (h ≡ false → Every (λ f. f .height ≡ pos 0) l)
     → map (carriedFace h) l ≡ l

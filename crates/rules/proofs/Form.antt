@@ -1,7 +1,6 @@
 -- A line is in form exactly if it has a field for each form and each field has its form.
 use Prim.Native.Nat.{ℕ, zero, suc, _≤_, _<_}
-use mathlib.Core.Path.{_≡_, refl, sym, ap}
-use mathlib.Core.Logic.{⊎-elim}
+use mathlib.Core.Path.{_≡_, refl, ap}
 use mathlib.Core.List.{List, [], _∷_}
 use mathlib.Core.Bool.{Bool, true, false, not, _&&_, false≢true}
 use native.Mathlib.Omega.{arith}
@@ -11,11 +10,11 @@ use lib.ListN.{length, drop, getD}
 use lib.Seq.{drop-cons}
 use borrow.Author.Tests.{ne-eqb, eqb-false, le-ltb, ltb-false, not-true}
 use Rattle.whole.proofs.Size.{natAbs-neg}
-use Rattle.whole.proofs.Tests.{and-true, or-true}
+use Rattle.whole.proofs.Tests.{and-true}
 use Rattle.field.specs.declared.Field.{Field}
 use Rattle.field.specs.declared.Field.the-variants.{Bad, Plus, Minus, Letter, Dash}
 use Rattle.building.specs.Test.{tooLong}
-use Rattle.entry.specs.Says.{number, at}
+use Rattle.entry.specs.Says.{at}
 use Rattle.rules.specs.declared.FieldForm.{FieldForm}
 use Rattle.rules.specs.declared.FieldForm.the-variants.{Capital, Count, Number, Mark}
 use Rattle.rules.specs.Form.{isShort, hasForm, inForm, numberForms}

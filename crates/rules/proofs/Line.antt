@@ -1,5 +1,4 @@
 -- The fault of a line by its two parts: its form, and then the faults of its entry.
-use Prim.Native.Nat.{ℕ}
 use mathlib.Core.Path.{_≡_, _∙_, sym}
 use mathlib.Core.List.{List}
 use mathlib.Core.Bool.{true, false}

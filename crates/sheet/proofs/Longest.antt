@@ -65,7 +65,8 @@ longestLine (Entry P) = 11
 longestLine (Entry F) = 36
 
 -- a number in a range has no sign
-in-range : {f : Field} (k least most : ℕ) → Formed Number f → Between (pos least) (pos most) (number f) → most < 10 ^ suc k
+in-range : {f : Field} (k least most : ℕ) → Formed Number f → Between (pos least) (pos most) (number f)
+    → most < 10 ^ suc k
     → length (fieldText f) ≤ suc k
 in-range {f} k least most h o few =
     let w = within least most (number f) (is-within (pos least) (pos most) (number f) (o .low) (o .high)) in

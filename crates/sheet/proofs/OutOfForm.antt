@@ -40,7 +40,8 @@ module _ (k : Kind) (b : Before) where
   bad-line x y =
       fault-out k b x (by-test (inForm (formsBy b k) x)
       (λ e. absurd
-      (subst NotBad (y .bad) (every-at NotBad x Bad (y .place) (y .within) (all-not-bad (in-formed (formsBy b k) x e)))))
+      (subst NotBad (y .bad) (every-at NotBad x Bad (y .place) (y .within) (all-not-bad (in-formed
+      (formsBy b k) x e)))))
       (λ e. e))
 
   -- not ended

@@ -145,7 +145,8 @@ module _ {s : List ℕ} {h : Bool} {left i : ℕ} {b : Before} {j : Job} {line n
   entry-stops hx hf = line-stops s (Entry (sectionAt h i)) behind (r .carries) (r .judges) line next hx hf entry-called
 
 -- x, the line that begins at `next`, is an entry in order of the section that was begun last
-pub record EntryLine (s : List ℕ) (h : Bool) (left i : ℕ) (b : Before) (j : Job) (line next : ℕ) (x : Line) : Type 0 where
+pub record EntryLine (s : List ℕ) (h : Bool) (left i : ℕ) (b : Before) (j : Job) (line next : ℕ)
+    (x : Line) : Type 0 where
   pub so-far : ReadSoFar s h (sectionAt h i) left (suc i) b j line next
   pub more : left ≡ 0 → ⊥
   pub is : x ≡ lineAt s next

@@ -98,7 +98,8 @@ module _ (es : Section → List (List Field)) where
         let ss = sections h in
         let q : sectionsOf es (take i ss) ++ sectionOf s (es s) ≡ sectionsOf es (take (i + 1) ss) =
         sections-one (take i ss) s
-        ∙ ap (sectionsOf es) (ap (λ (t : Section). take i ss ++ (t ∷ [])) is ∙ sym (take-suc ss i «V» few) ∙ ap (λ (k : ℕ). take k ss) (sym (add-one i))) in
+        ∙ ap (sectionsOf es) (ap (λ (t : Section). take i ss ++ (t ∷ [])) is ∙ sym (take-suc ss i «V» few) ∙ ap
+        (λ (k : ℕ). take k ss) (sym (add-one i))) in
         subst (λ (xs : List (List Field)). Put l 0 (textOfLines xs) n r′) q
         (then-lines (sectionsOf es (take i ss)) (sectionOf s (es s)) v w)
 

@@ -1,7 +1,6 @@
 -- What a record has room for. Only the contract of a private function cites it.
 use Prim.Native.Nat.{_≤_}
 use lib.ListN.{length}
-use Rattle.rules.specs.declared.Section.{Section}
 use Rattle.whole.specs.Lists.{Every}
 use Rattle.entry.specs.Says.{hasHeights}
 use Rattle.rules.specs.Sections.{about, sections}

@@ -1,6 +1,5 @@
 -- From the ranges of paper 01: every number that is reckoned with is small, and so no total leaves 64 bits.
-use mathlib.Core.Path.{_≡_, refl}
-use mathlib.Core.Logic.{_⊎_, inl}
+use mathlib.Core.Path.{refl}
 use mathlib.Core.Bool.{Bool, true, false, cond}
 use mathlib.Core.List.{List, [], _∷_, List·Memᴰ, List·Memᴰ·head, List·Memᴰ·tail}
 use Prim.Native.Nat.{ℕ, _-_, _*_, _≤_}
@@ -104,7 +103,8 @@ module _ (g : Given) (r : InRange g) (axis : Axis) where
     abbrev p : ℤ
     p = pressure (g .density) (faceSpeed (g .profile) w f)
 
-    force-small : natAbs (w .speed) ≤ 1000 → natAbs i ≤ 100 → List·Memᴰ f (g .faces) → natAbs (force axis g w i f k) ≤ 330000000000000000
+    force-small : natAbs (w .speed) ≤ 1000 → natAbs i ≤ 100 → List·Memᴰ f (g .faces)
+        → natAbs (force axis g w i f k) ≤ 330000000000000000
     force-small slow low m = go (acts f (w .direction))
       where
         net-small : natAbs (net o i) ≤ 2200

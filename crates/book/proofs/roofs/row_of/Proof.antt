@@ -1,12 +1,11 @@
 -- `roofs::row_of`: the code's row is the printed one.
-use mathlib.Core.Path.{_≡_, refl, sym, ap, _∙_}
-use Prim.Native.Nat.{_≤_, _<_}
+use mathlib.Core.Path.{refl, sym, ap, _∙_}
+use Prim.Native.Nat.{_<_}
 use native.Mathlib.Omega.{arith}
 use borrow.Author.Needs.{needs}
-use lib.ListN.{length}
 use Rattle.book.specs.declared.roofs.Row as coded-rows
 use Rattle.book.specs.declared.roofs.Slope as coded-slopes
-use Rattle.book.proofs.Coded.{part, Placed, placed, row-is, slope-is, slope-number, number-in}
+use Rattle.book.proofs.Coded.{Placed, placed, row-is, slope-is, slope-number, number-in}
 use Rattle.book.proofs.roofs.row_of.Statement.{statement}
 use Rattle.book.proofs.roofs.row_of.Tie as tie
 

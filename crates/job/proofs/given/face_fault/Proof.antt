@@ -1,6 +1,6 @@
 -- `face_fault` meets its contract.
 use mathlib.Core.Bool.{Bool, cond}
-use mathlib.Core.Path.{_≡_, refl, sym, ap, _∙_}
+use mathlib.Core.Path.{_≡_, sym, ap, _∙_}
 use Rattle.whole.proofs.Size.{said}
 use Rattle.building.specs.Test.{tooLong}
 use Rattle.building.specs.Fault.{first}

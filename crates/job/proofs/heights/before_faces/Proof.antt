@@ -1,5 +1,5 @@
 -- `before_faces` meets its contract.
-use mathlib.Core.Path.{_≡_, refl, _∙_, ap}
+use mathlib.Core.Path.{refl, _∙_, ap}
 use native.Mathlib.Omega.{arith}
 use mir.Syntax.{w64}
 use Rattle.whole.proofs.Size.{returned}

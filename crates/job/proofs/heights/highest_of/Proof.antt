@@ -4,7 +4,6 @@ use native.Mathlib.Omega.{arith}
 use Prim.Native.Nat.{ℕ, suc, _-_}
 use mir.Syntax.{w64}
 use lib.IntN.{pos, negℤ}
-use lib.ListN.{getD}
 use Rattle.whole.specs.Lists.{firstOf}
 use Rattle.whole.proofs.Size.{returned}
 use Rattle.job.specs.Carried.{noStep, highestOf}
@@ -23,7 +22,9 @@ returns-2 c =
     let a = e .before .args in
     let n : a .n ≡ suc (a .n - 1) = omega arith in
     returned w64 _ (c .struct-told .given .0 .1) .same
-    ∙ sym (ap (λ (k : ℕ). highestOf (firstOf noStep k (a .t1 .entry))) n ∙ highest-first (negℤ (pos 1)) (a .n - 1) (a .t1 .entry))
+    ∙ sym (ap (λ (k : ℕ). highestOf (firstOf noStep k (a .t1 .entry))) n ∙ highest-first (negℤ (pos 1))
+    (a .n - 1) (a .t1 .entry))
 
 pub highest-of-spec : {M : Type 1} → statement M
-highest-of-spec = tie.close (tie.spec returns (λ c. search needs) (λ c. search needs) (λ c. search needs) (λ c. search needs) returns-2)
+highest-of-spec = tie.close (tie.spec returns (λ c. search needs) (λ c. search needs) (λ c. search needs)
+    (λ c. search needs) returns-2)

@@ -3,7 +3,6 @@ use mathlib.Core.Path.{_≡_, _∙_, sym, ap}
 use native.Mathlib.Omega.{arith}
 use Prim.Native.Nat.{ℕ, suc, _-_}
 use mir.Syntax.{w64}
-use lib.ListN.{getD}
 use Rattle.whole.specs.Lists.{firstOf}
 use Rattle.whole.proofs.Size.{returned}
 use Rattle.job.specs.Carried.{noStep, lowestOf}

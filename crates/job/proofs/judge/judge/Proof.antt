@@ -1,15 +1,13 @@
 -- `judge` meets its contract: what comes of the sections from i on is what comes of the whole sheet.
 use Prim.Native.Nat.{ℕ, _≤_, _<_, _-_}
-use mathlib.Core.Path.{_≡_, refl, sym, ap, _∙_, subst}
+use mathlib.Core.Path.{_≡_, sym, ap, _∙_, subst}
 use mathlib.Core.Bool.{Bool}
 use native.Mathlib.Omega.{arith}
 use lib.ListN.{length}
 use Rattle.whole.proofs.Size.{said}
 use Rattle.entry.specs.Says.{hasHeights}
-use Rattle.rules.specs.declared.Before.{Before}
 use Rattle.rules.specs.declared.Section.{Section}
 use Rattle.rules.specs.Sections.{sections, sectionAt}
-use Rattle.verdict.specs.declared.Verdict.{Verdict}
 use Rattle.job.specs.declared.Job.{Job}
 use Rattle.job.specs.Judging.{JudgesAs}
 use Rattle.job.proofs.Alone.{alone, few-sections}
@@ -130,5 +128,6 @@ judge-spec =
     tie.close
     (tie.spec Inv-loop μ-loop (λ c κs. search needs) (λ c κs. search needs) (λ c κs. search needs) loop-holds
     (λ c κs. search needs) judge-section-requires returns (λ c κs. search needs)
-    (λ c. omega (arith, short c)) (λ c. omega (arith, short c, low (at c))) (λ c. search needs) (λ c. search needs) loop-again
+    (λ c. omega (arith, short c)) (λ c. omega (arith, short c, low (at c))) (λ c. search needs)
+    (λ c. search needs) loop-again
     returns-2)

@@ -27,7 +27,7 @@ use Rattle.entry_written.specs.Fields.{yearFields, internalFields}
 use Rattle.job.specs.Lines.{entriesOf}
 use Rattle.job.proofs.Walk.{learnAll, EntriesInOrder}
 use Rattle.job.proofs.Sections.{Counted, countLine}
-use Rattle.job.proofs.Alone.{entryOf, entry-is, entry-judged, step-judged, alone, most-24, alone-count}
+use Rattle.job.proofs.Alone.{entry-is, entry-judged, step-judged, alone, most-24, alone-count}
 use Rattle.job.proofs.Alone.{alone-counted, alone-entry, alone-next, alone-passed}
 use Rattle.job.proofs.Written.{building-given}
 use borrow.Author.Needs.{needs, sfits-of}
@@ -102,7 +102,8 @@ returns c d u =
     whole f d (alone-count (section f) d _ (lines f) _ (count-judged f d) (c .if1 .taken))
 
 counted : (c : tie.After-faces Inv-loop μ-loop) → Carried
-    → Counted (section (c .before .before .before .before .before)) (length (lines (c .before .before .before .before .before)))
+    → Counted (section (c .before .before .before .before .before)) (length (lines
+    (c .before .before .before .before .before)))
 counted c d =
     let t = c .before .before .before .before in
     let f = t .before in

@@ -1,5 +1,5 @@
 -- `entries::count_fault` meets its contract.
-use mathlib.Core.Path.{_≡_, refl, ap, _∙_}
+use mathlib.Core.Path.{refl, ap, _∙_}
 use Prim.Native.Nat.{ℕ}
 use mathlib.Core.Bool.{not}
 use native.Mathlib.Omega.{arith}

@@ -1,5 +1,5 @@
 -- `face_fault` meets its contract: each fault in its order.
-use mathlib.Core.Path.{_≡_, refl, ap, _∙_}
+use mathlib.Core.Path.{refl, ap}
 use mathlib.Core.Bool.{not, _||_}
 use lib.IntN.{ℤ}
 use Rattle.whole.proofs.Size.{said}

@@ -1,5 +1,5 @@
 -- `step_fault` meets its contract: each fault in its order.
-use mathlib.Core.Path.{refl, ap, ap₂, _∙_}
+use mathlib.Core.Path.{refl, ap, ap₂}
 use mathlib.Core.Bool.{not}
 use lib.IntN.{pos}
 use lib.Signed.{ltZ}

@@ -1,6 +1,4 @@
 -- `wind_fault` meets its contract.
-use mathlib.Core.Path.{_≡_, _∙_}
-use mathlib.Core.Bool.{not}
 use lib.IntN.{pos}
 use Rattle.whole.proofs.Size.{said, said₂}
 use Rattle.building.specs.Places.{knows}

@@ -1,5 +1,5 @@
 -- `year_fault` meets its contract.
-use mathlib.Core.Path.{refl, ap, _∙_}
+use mathlib.Core.Path.{refl, ap}
 use mathlib.Core.Bool.{not}
 use native.Mathlib.Omega.{arith}
 use lib.IntN.{pos}

@@ -1,6 +1,6 @@
 -- `line_fault` meets its contract: out of form it is 1, and in form the fault of its entry.
 use mathlib.Core.Path.{_≡_, sym, ap, _∙_}
-use mathlib.Core.Bool.{Bool, true}
+use mathlib.Core.Bool.{Bool}
 use lib.IntN.{ℤ}
 use mir.Syntax.{w64}
 use borrow.Author.Tests.{not-true, not-false}
@@ -30,9 +30,11 @@ module _ (c : tie.After-in-form) where
 
   heights-are : c .before .has-heights .result ≡ hasHeights (start .args .b .year)
   heights-are =
-      said hasHeights (start .args .b .year) (c .before .has-heights .ensures) (c .before .before .struct-told .given .0 .1)
+      said hasHeights (start .args .b .year) (c .before .has-heights .ensures)
+      (c .before .before .struct-told .given .0 .1)
 
-  form-is : (t : Bool) → c .in-form .result ≡ t → inForm (formsBy (start .args .b) (start .args .k)) (held (start .args .x)) ≡ t
+  form-is : (t : Bool) → c .in-form .result ≡ t
+      → inForm (formsBy (start .args .b) (start .args .k)) (held (start .args .x)) ≡ t
   form-is t e =
       ap (λ (h : Bool). inForm (forms h (start .args .k)) (held (start .args .x))) (sym heights-are)
       ∙ sym (c .in-form .ensures)

@@ -1,14 +1,12 @@
 -- `in_form` meets its contract: what is left is in form exactly if the whole line is.
-use Prim.Native.Nat.{suc, _≤_, _<_, _-_}
+use Prim.Native.Nat.{suc, _≤_, _-_}
 use mathlib.Core.Path.{_≡_, sym, ap, ap₂, _∙_}
 use mathlib.Core.Bool.{Bool, true, false, _&&_}
 use native.Mathlib.Omega.{arith}
 use native.Mathlib.Numerals.{add-one}
-use lib.ListN.{length, drop, getD, drop-of-length-le}
+use lib.ListN.{length, drop, drop-of-length-le}
 use borrow.Author.Tests.{not-true, not-false}
 use Rattle.lines.specs.Held.{held}
-use Rattle.entry.specs.Says.{at}
-use Rattle.rules.specs.declared.FieldForm.the-variants.{Number}
 use Rattle.rules.specs.Form.{hasForm, inForm}
 use Rattle.rules.specs.Sections.{forms}
 use Rattle.rules.proofs.Form.{uneven-out, form-on}

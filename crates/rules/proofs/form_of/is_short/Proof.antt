@@ -1,7 +1,6 @@
 -- `is_short` meets its contract.
 use mathlib.Core.Path.{sym, ap, _∙_}
 use mathlib.Core.Bool.{not}
-use lib.IntN.{ℤ}
 use Rattle.whole.proofs.Size.{said}
 use Rattle.building.specs.Test.{tooLong}
 use borrow.Author.Needs.{needs}

@@ -6,13 +6,13 @@ use mathlib.Core.List.{List}
 use native.Mathlib.Omega.{arith}
 use lib.IntN.{pos, negℤ}
 use lib.ListN.{length}
-use Rattle.whole.proofs.Size.{said, returned}
+use Rattle.whole.proofs.Size.{said}
 use Rattle.verdict.specs.Verdict.{accepted}
 use Rattle.lines.specs.declared.Line.{Line}
 use Rattle.lines.specs.Held.{held}
 use Rattle.rules.specs.declared.Before.{Before}
 use Rattle.rules.specs.declared.Section.{Section}
-use Rattle.rules.specs.declared.Section.the-variants.{«V», B, W, I, P, F}
+use Rattle.rules.specs.declared.Section.the-variants.{B}
 use Rattle.rules.specs.declared.Kind.{Kind}
 use Rattle.rules.specs.declared.Kind.the-variants.{Count, Entry}
 use Rattle.rules.specs.Sections.{sections, sectionAt, lineFault}
@@ -21,7 +21,7 @@ use Rattle.sheet.specs.Sheet.{answer}
 use Rattle.sheet.proofs.SoFar.{ReadSoFar, EntryLine, read-start, count-stops, count-read, entry-stops}
 use Rattle.sheet.proofs.SoFar.{entry-room, entry-read}
 use Rattle.sheet.proofs.SoFar.{section-end, end-extra, end-accepted}
-use Rattle.entry.specs.Says.{size, hasHeights, faceOf}
+use Rattle.entry.specs.Says.{size, hasHeights}
 use Rattle.job.proofs.Alone.{few-sections}
 use Rattle.job.specs.declared.Job.{Job}
 use Rattle.job.specs.Carried.{recorded}
@@ -96,7 +96,8 @@ module _ (c : tie.After-section-at Inv-loop2 μ-loop2 Inv-loop μ-loop) where
   low = omega (arith, few, few-sections heights)
 
   -- a fault of a line of this section
-  as-section : (k : Section → Kind) (b : Before) (x : Line) {f : ℕ} → f ≡ lineFault (k (c .section-at .result)) b (held x)
+  as-section : (k : Section → Kind) (b : Before) (x : Line) {f : ℕ}
+      → f ≡ lineFault (k (c .section-at .result)) b (held x)
       → f ≡ lineFault (k (sectionAt heights (outer .loop .i))) b (held x)
   as-section k b x e = e ∙ ap (λ (s : Section). lineFault (k s) b (held x)) (c .section-at .ensures)
 
@@ -106,7 +107,8 @@ returns c =
     let a = f .before .before in
     c .refused .ensures ∙ ap answer (sym (
     count-stops (outer a .loop .inv .1 .1) (few a) (f .before .line-at .ensures)
-    (as-section a Count (outer a .loop .b) (f .before .line-at .result) (f .line-fault .ensures)) (c .before .if1 .taken)))
+    (as-section a Count (outer a .loop .b) (f .before .line-at .result) (f .line-fault .ensures))
+    (c .before .if1 .taken)))
 
 add-line : tie.Need-add-line Inv-loop2 μ-loop2 Inv-loop μ-loop
 add-line c =
@@ -242,7 +244,8 @@ loop-again c = (omega arith, (_, section-end (c .before .loop2 .inv) (c .loop2-t
 
 -- behind the last section
 module _ (c : tie.After-loop Inv-loop2 μ-loop2 Inv-loop μ-loop) where
-  all : c .before .loop .i ≡ length (sections (c .before .before .before .before .before .before .before .before .before .opens-tall .result))
+  all : c .before .loop .i ≡ length (sections
+      (c .before .before .before .before .before .before .before .before .before .opens-tall .result))
   all = omega (arith, c .before .before .section-count .ensures, c .before .loop .inv .0, c .loop-test .left)
 
 returns-3 : tie.Need-returns-3 Inv-loop2 μ-loop2 Inv-loop μ-loop
@@ -265,7 +268,8 @@ read-sheet-spec =
     loop-holds (λ c κs. search needs)
     (λ c κs. search needs) (λ c κs. search needs) (λ c κs. search needs) returns add-line
     (λ c κs. search needs) (λ c κs. search needs) loop2-holds (λ c κs. search needs) (λ c κs. search needs)
-    (λ c κs. search needs) returns-2 (λ c. omega (arith, low (here c), turn (c .before) .loop2 .inv .lines)) (λ c. search needs)
+    (λ c κs. search needs) returns-2 (λ c. omega (arith, low (here c), turn (c .before) .loop2 .inv .lines))
+    (λ c. search needs)
     (λ c. search needs)
     (λ c κs. search needs) (λ c. search needs) loop2-again (λ c. search needs) (λ c κs. search needs)
     (λ c. search needs) loop2-again-2 (λ c. search needs) (λ c κs. search needs)
@@ -277,5 +281,9 @@ read-sheet-spec =
     (λ c. omega (arith, steps-room c)) (λ c. search needs) (λ c. search needs) loop2-again-5 (λ c. search needs)
     (λ c κs. search needs)
     (λ c κs. search needs) (λ c. omega (arith, faces-room c)) (λ c. omega (arith, faces-room c)) faces-room
-    (λ c. omega (arith, faces-room c)) (λ c. search needs) loop2-again-6 (λ c. omega (arith, low (section-of c))) (λ c. search needs)
+    (λ c. omega (arith, faces-room c)) (λ c. search needs) loop2-again-6 (λ c. omega (
+      arith,
+      low
+          (section-of c),
+    )) (λ c. search needs)
     loop-again (λ c κs. search needs) returns-3 (λ c κs. search needs) returns-4)

@@ -2,8 +2,8 @@
 use mathlib.Core.Path.{_≡_, sym, _∙_}
 use mir.Syntax.{w64}
 use borrow.Author.Needs.{needs}
-use lib.IntN.{ℤ, natAbs, _*ℤ_}
-use Rattle.whole.proofs.Size.{Num, num≤, back, fit, _⊗_}
+use lib.IntN.{ℤ, _*ℤ_}
+use Rattle.whole.proofs.Size.{Num, back, fit}
 use Rattle.worst.specs.Best.{short}
 use Rattle.worst.specs.Engine.{which}
 use Rattle.worst.proofs.ReadBack.{product}

@@ -3,7 +3,6 @@ use mathlib.Core.Path.{_∙_}
 use Prim.Native.Nat.{_≤_}
 use lib.IntN.{ℤ, natAbs}
 use mir.Syntax.{w64}
-use borrow.Author.Needs.{needs}
 use Rattle.whole.proofs.Size.{Num, num≤, back, fit, bound, _⊗_}
 use Rattle.worst.specs.Engine.{withWeight}
 use Rattle.worst.proofs.sums.with_pressure.Statement.{statement}
