@@ -7,6 +7,7 @@ pub mod Demand3
 pub mod Panel
 pub mod Paper01
 pub mod Paper02
+pub mod Item1
 pub mod Item12
 pub mod Printed
 pub mod RowsWorked

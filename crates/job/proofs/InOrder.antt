@@ -41,8 +41,8 @@ use Rattle.rules.proofs.Line.{in-order}
 use Rattle.entry_written.specs.Fields.{yearFields, windFields, internalFields, stepFields, faceFields}
 use Rattle.job.specs.Lines.{entriesOf, linesOf}
 use Rattle.job.specs.Walk.{learn, Accepted, readLines}
-use Rattle.job.specs.InOrder.{Within, Between, WindInOrder, InternalInOrder, FaceInOrder, StepInOrder}
-use Rattle.job.specs.InOrder.{Rising, OfYear1, OfLaterYear, InOrder}
+use Rattle.job.specs.InOrder.{Within, Limited, WindInOrder, InternalInOrder, FaceInOrder, StepInOrder}
+use Rattle.job.specs.InOrder.{Climbs, OfYear1, OfLaterYear, InOrder}
 use Rattle.job.proofs.Walk.{learnAll, EntriesInOrder, Apart, entries-formed}
 use Rattle.job.proofs.Sheet.{Called, saidBy, readBefore, SheetInOrder, in-order-all, all-in-order}
 use Rattle.job.proofs.Sheet.{sheet-accepted, accepted-sheet}
@@ -54,7 +54,7 @@ use Rattle.job.proofs.Written.{any, long, face-given}
 
 -- ---- an entry is in order exactly if none of its faults is found
 
-between : (least greatest z : ℤ) → beyond least greatest z ≡ false → Between least greatest z
+between : (least greatest z : ℤ) → beyond least greatest z ≡ false → Limited least greatest z
 between least greatest z e = let t = not-beyond least greatest z e in record { low = t .0; high = t .1 }
 
 abbrev NoneFound : List Fault → Type 0
@@ -107,12 +107,12 @@ module _ (b : Before) where
   face-line x z = face-sound (faceOf (hasHeights (b .year)) x) (in-order (Entry F) b x z .none)
 
   pub height-line : (x : List Field) → lineFault (Entry F) b x ≡ 0
-      → Between (pos 0) (pos 30000) (faceOf (hasHeights (b .year)) x .height)
+      → Limited (pos 0) (pos 30000) (faceOf (hasHeights (b .year)) x .height)
   height-line x z = between (pos 0) (pos 30000) _ (in-order (Entry F) b x z .none .1 .1 .0)
 
   -- within the profile, where there is one
   within-line : hasHeights (b .year) ≡ true → (x : List Field) → lineFault (Entry F) b x ≡ 0
-      → Between (b .lowest) (b .highest) (faceOf (hasHeights (b .year)) x .height)
+      → Limited (b .lowest) (b .highest) (faceOf (hasHeights (b .year)) x .height)
   within-line e x z =
       let y = faceOf (hasHeights (b .year)) x .height in
       between (b .lowest) (b .highest) y
@@ -135,7 +135,7 @@ module _ (b : Before) where
   marked z (inl e) = rw e
   marked z (inr e) = by-test (is both z) (λ q. rw q) (λ q. rw (q, e))
 
-  face-none : (f : Face) → FaceInOrder (b .building) f → Between (pos 0) (pos 30000) (f .height)
+  face-none : (f : Face) → FaceInOrder (b .building) f → Limited (pos 0) (pos 30000) (f .height)
       → offProfile b (f .height) ≡ false → NoneFound (faceFaults b f)
   face-none f o h off = (
     rw (le-leb A (f .zone) (o .zone .low), le-leb (f .zone) H (o .zone .high)),
@@ -162,7 +162,7 @@ counted-map f l w = rw (length-map l f) w
 
 -- the steps of a profile, behind one of height z
 steps-sound : (xs : List (List Field)) (c : Carried) {z : ℤ} → highestOf (c .profile) ≡ z → EntriesInOrder P c xs
-    → Every StepInOrder (map stepOf xs) × Rising z (map stepOf xs)
+    → Every StepInOrder (map stepOf xs) × Climbs z (map stepOf xs)
 steps-sound [] c e h = (tt, tt)
 steps-sound (x ∷ xs) c e h =
     let s = step-line (before c) x (h .0) in
@@ -225,7 +225,7 @@ accepted-in-order xs c a =
 known-short : (kind z : ℤ) → knows kind z ≡ true → tooLong z ≡ false
 known-short kind z e = small-short z (omega (arith, known-within kind z e .to))
 
-range-short : (least most : ℕ) (z : ℤ) → most ≤ 9999999 → Between (pos least) (pos most) z → tooLong z ≡ false
+range-short : (least most : ℕ) (z : ℤ) → most ≤ 9999999 → Limited (pos least) (pos most) z → tooLong z ≡ false
 range-short least most z few o =
     small-short z
     (omega (arith, within least most z (is-within (pos least) (pos most) z (o .low) (o .high)) .to))
@@ -264,7 +264,7 @@ module _ (b : Before) where
   mark-short z (inr e) = by-test (is both z) (λ q. rw q) (λ q. rw (q, known-short (b .building .kind) z e))
 
   face-entry : (f : Face) → carriedFace (hasHeights (b .year)) f ≡ f → FaceInOrder (b .building) f
-      → Between (pos 0) (pos 30000) (f .height) → offProfile b (f .height) ≡ false
+      → Limited (pos 0) (pos 30000) (f .height) → offProfile b (f .height) ≡ false
       → lineFault (Entry F) b (faceFields (hasHeights (b .year)) f) ≡ 0
   face-entry f kept o h off =
       face-given b f
@@ -279,7 +279,7 @@ module _ (b : Before) where
       (found-none (faceFaults b f) (face-none b f o h off))
 
 -- the steps of a profile, behind one of height z
-steps-entries : (l : List Step) (c : Carried) {z : ℤ} → highestOf (c .profile) ≡ z → Every StepInOrder l → Rising z l
+steps-entries : (l : List Step) (c : Carried) {z : ℤ} → highestOf (c .profile) ≡ z → Every StepInOrder l → Climbs z l
     → EntriesInOrder P c (map stepFields l)
 steps-entries [] c e h r = tt
 steps-entries (s ∷ l) c {z} e h r =
@@ -304,7 +304,7 @@ learned-height (s ∷ l) c e h =
 -- a face as the sheet of its year carries it
 record FaceFits (b : Before) (f : Face) : Type 0 where
   kept : carriedFace (hasHeights (b .year)) f ≡ f
-  range : Between (pos 0) (pos 30000) (f .height)
+  range : Limited (pos 0) (pos 30000) (f .height)
   within : offProfile b (f .height) ≡ false
 
 low-fits : (b : Before) (f : Face) → hasHeights (b .year) ≡ false → f .height ≡ pos 0 → FaceFits b f
@@ -315,8 +315,8 @@ low-fits b f e z =
       within = rw e;
     }
 
-tall-fits : (b : Before) (f : Face) → hasHeights (b .year) ≡ true → Between (pos 0) (pos 30000) (f .height)
-    → Between (b .lowest) (b .highest) (f .height) → FaceFits b f
+tall-fits : (b : Before) (f : Face) → hasHeights (b .year) ≡ true → Limited (pos 0) (pos 30000) (f .height)
+    → Limited (b .lowest) (b .highest) (f .height) → FaceFits b f
 tall-fits b f e r w =
     record { kept = rw e; range = r; within = rw e (is-within (b .lowest) (b .highest) (f .height) (w .low) (w .high)) }
 

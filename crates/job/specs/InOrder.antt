@@ -47,23 +47,23 @@ pub record FaceInOrder (g : Building) (f : Face) : Type 0 where
 -- ---- the form of its year
 
 -- z lies from the first number to the second, both included
-pub record Between (least greatest z : ℤ) : Type 0 where
+pub record Limited (least greatest z : ℤ) : Type 0 where
   pub low : least ≤ℤ z
   pub high : z ≤ℤ greatest
 
 pub record StepInOrder (s : Step) : Type 0 where
-  pub height : Between (pos 0) (pos 30000) (s .height)
-  pub factor : Between (pos 1) (pos 1000) (s .factor)
+  pub height : Limited (pos 0) (pos 30000) (s .height)
+  pub factor : Limited (pos 1) (pos 1000) (s .factor)
 
 -- from the lowest step of a profile to its highest
 pub record HeightInOrder (profile : List Step) (z : ℤ) : Type 0 where
-  pub range : Between (pos 0) (pos 30000) z
-  pub within : Between (lowestOf profile) (highestOf profile) z
+  pub range : Limited (pos 0) (pos 30000) z
+  pub within : Limited (lowestOf profile) (highestOf profile) z
 
 -- each height is above the one before it, and the first above z
-abbrev pub Rising : ℤ → List Step → Type 0
-Rising z [] = Unit
-Rising z (s ∷ ss) = (z <ℤ s .height) × Rising (s .height) ss
+abbrev pub Climbs : ℤ → List Step → Type 0
+Climbs z [] = Unit
+Climbs z (s ∷ ss) = (z <ℤ s .height) × Climbs (s .height) ss
 
 -- year 1 carries no profile and no heights
 pub record OfYear1 (c : Carried) : Type 0 where
@@ -76,7 +76,7 @@ pub record OfLaterYear (c : Carried) : Type 0 where
   pub year : c .year ≡ pos 2
   pub counted : Within 1 16 (length (c .profile))
   pub profile : Every StepInOrder (c .profile)
-  pub rising : Rising (negℤ (pos 1)) (c .profile)
+  pub rising : Climbs (negℤ (pos 1)) (c .profile)
   pub heights : Every (λ f. HeightInOrder (c .profile) (f .height)) (c .faces)
 
 pub record InOrder (c : Carried) : Type 0 where

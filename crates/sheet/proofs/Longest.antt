@@ -33,7 +33,7 @@ use Rattle.entry.specs.Says.{faceOf}
 use Rattle.rules.specs.Form.{numberForms}
 use Rattle.rules.specs.Sections.{about, forms, lineFault}
 use Rattle.job.specs.Walk.{entries, calls, sheet}
-use Rattle.job.specs.InOrder.{Between, WindInOrder, InternalInOrder, FaceInOrder, StepInOrder}
+use Rattle.job.specs.InOrder.{Limited, WindInOrder, InternalInOrder, FaceInOrder, StepInOrder}
 use Rattle.rules.proofs.Form as form
 use Rattle.rules.proofs.Form.{Formed, letter, plus, minus, dash, AllFormed, none, more}
 use Rattle.rules.proofs.Rising.{found-none}
@@ -65,7 +65,7 @@ longestLine (Entry P) = 11
 longestLine (Entry F) = 36
 
 -- a number in a range has no sign
-in-range : {f : Field} (k least most : ℕ) → Formed Number f → Between (pos least) (pos most) (number f)
+in-range : {f : Field} (k least most : ℕ) → Formed Number f → Limited (pos least) (pos most) (number f)
     → most < 10 ^ suc k
     → length (fieldText f) ≤ suc k
 in-range {f} k least most h o few =
@@ -112,7 +112,7 @@ step-bytes (more h (more f none)) o =
 
 -- a height: 5 digits; each area: a sign and 6 digits
 face-bytes : (h : Bool) (g : Building) {x : List Field} → AllFormed (forms h (Entry F)) x → FaceInOrder g (faceOf h x)
-    → Between (pos 0) (pos 30000) (faceOf h x .height) → fieldBytes x ≤ 36
+    → Limited (pos 0) (pos 30000) (faceOf h x .height) → fieldBytes x ≤ 36
 face-bytes true g (more letter (more m (more h (more a (more b (more d none)))))) o r =
     omega (
       arith,

@@ -15,7 +15,7 @@ use Rattle.whole.proofs.Size.{size-plain, size-rises, size-grows, size-some, po
 use Rattle.whole.proofs.Tests.{by-test}
 use Rattle.entry.specs.declared.Step.{Step}
 use Rattle.job.specs.Carried.{lowestOf, lastHeight}
-use Rattle.job.specs.InOrder.{StepInOrder, HeightInOrder, Rising}
+use Rattle.job.specs.InOrder.{StepInOrder, HeightInOrder, Climbs}
 use Rattle.worst.specs.declared.speeds.Factor.{Factor}
 use Rattle.worst.specs.Speed.{stepFactor, factorBetween, factorAt, FactorLies, onStep, betweenSteps}
 use Rattle.worst.specs.Speed.{FactorIs}
@@ -82,7 +82,7 @@ pub fraction-none : (h : ℤ) → Fraction (factorAt [] h)
 unfolding factorAt
 fraction-none h = fraction 1 1 (omega arith) (omega arith) (omega arith)
 
-pub fraction-at : (profile : List Step) (z h : ℤ) → Every StepInOrder profile → Rising z profile
+pub fraction-at : (profile : List Step) (z h : ℤ) → Every StepInOrder profile → Climbs z profile
     → lowestOf profile ≤ℤ h → Fraction (factorAt profile h)
 unfolding factorAt
 fraction-at [] z h o r low = fraction-none h
@@ -152,7 +152,7 @@ lies-at [] h o = absurd (≤ℤ-trans (o .range .low) (o .within .high) .le)
 lies-at (s ∷ ss) h o = lies-from s ss h (o .within .low) (o .within .high)
 
 -- a height within a rising profile
-pub factor-is : (profile : List Step) (h : ℤ) → Every StepInOrder profile → Rising (negℤ (pos 1)) profile
+pub factor-is : (profile : List Step) (h : ℤ) → Every StepInOrder profile → Climbs (negℤ (pos 1)) profile
     → HeightInOrder profile h → FactorIs profile h (factorAt profile h)
 factor-is profile h o r within =
     let f = fraction-at profile (negℤ (pos 1)) h o r (within .within .low) in
