@@ -114,7 +114,7 @@ pub fn wind_of(x: Line) -> Wind
 pub fn internal_of(x: Line) -> i64
     ensures { λ r. ⌜ r ≡ internalOf (held x) ⌝ }
 {
-    number_at(x, 0)
+    number_at(x, 0) // the coefficient
 }
 
 pub fn year_of(x: Line) -> i64
