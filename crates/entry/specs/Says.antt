@@ -12,7 +12,7 @@ use Rattle.entry.specs.declared.Wind.{Wind}
 use Rattle.entry.specs.declared.Step.{Step}
 use Rattle.entry.specs.declared.Face.{Face}
 
--- a mark that stands for both directions
+-- a mark that stands for every direction
 abbrev pub both : ℤ
 both = pos 4294967295
 

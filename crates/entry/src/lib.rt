@@ -24,5 +24,5 @@ pub struct Face {
     pub z: i64,
 }
 
-// The mark of a face that stands for both directions: no sheet can carry this number.
+// The mark of a face that stands for every direction: no sheet can carry this number.
 pub const BOTH: i64 = 4294967295;

@@ -94,7 +94,7 @@ pub(crate) fn step_fault(highest: i64, s: Step) -> u32
     )
 }
 
-// The mark for both directions is written as a dash.
+// The mark for every direction is written as a dash.
 fn mark_too_long(m: i64) -> bool
     ensures { λ r. ⌜ r ≡ (not (is both m) && tooLong m) ⌝ }
 {

@@ -39,6 +39,6 @@ pub enum FieldForm {
     Count,
     // a number of at most 7 digits
     Number,
-    // such a number, or a dash for both directions
+    // such a number, or a dash for every direction
     Mark,
 }

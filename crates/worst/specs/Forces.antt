@@ -30,7 +30,7 @@ pub record Given : Type 0 where
 
 -- ---- one face
 
--- a face marked for one direction adds nothing under the other
+-- a face marked for one direction adds nothing under another
 abbrev pub acts : Face → ℤ → Bool
 acts f direction = is both (f .mark) || is direction (f .mark)
 
