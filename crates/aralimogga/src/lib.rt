@@ -1,6 +1,7 @@
 // The entry points for a host program in C (include/aralimogga.h). None trusts its caller, and none keeps anything
 // between calls.
 use building::Building;
+use building::Dated;
 use panel::Point;
 use verdict::Verdict;
 ghost use mathlib.Core.Path.{_≡_};
@@ -68,6 +69,7 @@ pub extern "C" fn aral_total(sheet: &[u8], line: i64) -> answers::Extreme
 
 #[no_mangle]
 pub extern "C" fn aral_outside(
+    year: i64,
     h: i64,
     a: i64,
     b: i64,
@@ -78,9 +80,9 @@ pub extern "C" fn aral_outside(
     place: u8,
 ) -> answers::Coefficient
     ensures { λ r. ⌜ r ≡ hostCoefficient
-        (outsideOf (record { h = h; a = a; b = b; density = density; kind = kind; x = x }) direction place) ⌝ }
+        (outsideOf year (record { h = h; a = a; b = b; density = density; kind = kind; x = x }) direction place) ⌝ }
 {
-    let g = Building {
+    let building = Building {
         h: h,
         a: a,
         b: b,
@@ -88,11 +90,13 @@ pub extern "C" fn aral_outside(
         kind: kind,
         x: x,
     };
-    answers::coefficient_of(book::outside(g, direction, place))
+    let d = Dated { year, building };
+    answers::coefficient_of(book::outside(d, direction, place))
 }
 
 #[no_mangle]
 pub extern "C" fn aral_net(
+    year: i64,
     h: i64,
     a: i64,
     b: i64,
@@ -104,9 +108,9 @@ pub extern "C" fn aral_net(
     internal: i64,
 ) -> answers::Coefficient
     ensures { λ r. ⌜ r ≡ hostCoefficient
-        (netOf (record { h = h; a = a; b = b; density = density; kind = kind; x = x }) direction place internal) ⌝ }
+        (netOf year (record { h = h; a = a; b = b; density = density; kind = kind; x = x }) direction place internal) ⌝ }
 {
-    let g = Building {
+    let building = Building {
         h: h,
         a: a,
         b: b,
@@ -114,7 +118,8 @@ pub extern "C" fn aral_net(
         kind: kind,
         x: x,
     };
-    answers::coefficient_of(book::net(g, direction, place, internal))
+    let d = Dated { year, building };
+    answers::coefficient_of(book::net(d, direction, place, internal))
 }
 
 // ---- about numbers

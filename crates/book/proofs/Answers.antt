@@ -16,12 +16,12 @@ use Rattle.building.specs.declared.Sizes.{Sizes}
 use Rattle.building.specs.declared.Question.{Question}
 use Rattle.building.specs.declared.Question.the-variants as asked
 use Rattle.building.specs.Order.{SizesInOrder}
-use Rattle.building.specs.Building.{buildingFault, sizes}
+use Rattle.building.specs.Building.{sizes}
 use Rattle.building.specs.Places.{E, F, wallPlace, zoneOn, knows, placeOn}
 use Rattle.building.specs.Question.{askedOf}
 use Rattle.building.proofs.Places.{among-yes, among-is, needs-roof, place-there, RoofZone, of-gable}
 use Rattle.building.proofs.Places.{of-single, of-flat, roof-zone}
-use Rattle.building.proofs.Judged.{FitIn, question-fits, bad-direction, bad-place, in-question}
+use Rattle.building.proofs.Judged.{InYear, FitIn, question-fits, bad-direction, bad-place, in-question}
 use Rattle.building.proofs.Accepted.{in-order}
 use Rattle.book.specs.declared.Answer.the-variants.{Answered}
 use Rattle.book.specs.declared.Cited.{Cited}
@@ -135,18 +135,18 @@ small-of : {kind place : ℕ} {values : List ℤ} → Alternatives 2500 kind pla
 small-of (one h) = (h, tt)
 small-of (two h k e f) = (h, (k, tt))
 
-module _ (g : Building) (direction : ℤ) (place : ℕ) where
-  pub answered : buildingFault g ≡ 0 → knows (g .kind) direction ≡ true → placeOn (g .kind) direction place ≡ true
-      → outsideOf g direction place ≡ Answered (coefficientOf (sizes g) (natAbs direction) place)
+module _ (year : ℤ) (g : Building) (direction : ℤ) (place : ℕ) where
+  pub answered : InYear year g → knows (g .kind) direction ≡ true → placeOn (g .kind) direction place ≡ true
+      → outsideOf year g direction place ≡ Answered (coefficientOf (sizes g) (natAbs direction) place)
   unfolding outsideOf
-  answered e f k = rw (in-question g direction place e f k)
+  answered e f k = rw (in-question year g direction place e f k)
 
   -- a zone that is on the building, under a direction that it knows, has its alternatives, and none is above 1.200
-  pub zone-answered : buildingFault g ≡ 0 → knows (g .kind) direction ≡ true
+  pub zone-answered : InYear year g → knows (g .kind) direction ≡ true
       → placeOn (g .kind) direction place ≡ true → zoneOn (g .kind) place ≡ true
-      → Alternatives 1200 (natAbs (g .kind)) place (valuesOf (outsideOf g direction place))
+      → Alternatives 1200 (natAbs (g .kind)) place (valuesOf (outsideOf year g direction place))
   zone-answered e f p z =
-      let o = in-order g e in
+      let o = in-order year g (e .none) in
       let kind = natAbs (g .kind) in
       let col = roofColumn kind (natAbs direction) place in
       let roofed : wallPlace place ≡ false → 0 < kind =
@@ -157,18 +157,18 @@ module _ (g : Building) (direction : ℤ) (place : ℕ) where
       (g .kind) place z w)))
 
   -- nor is any under whatever direction: where it is refused there is none
-  pub zone-small : buildingFault g ≡ 0 → zoneOn (g .kind) place ≡ true → (i : ℕ)
-      → natAbs (getD (valuesOf (outsideOf g direction place)) i (pos 0)) ≤ 1200
+  pub zone-small : InYear year g → zoneOn (g .kind) place ≡ true → (i : ℕ)
+      → natAbs (getD (valuesOf (outsideOf year g direction place)) i (pos 0)) ≤ 1200
   unfolding outsideOf
   zone-small e z i =
       by-test (knows (g .kind) direction)
       (λ f. by-test (placeOn (g .kind) direction place)
       (λ p. values-small (zone-answered e f p z) i)
-      (λ p. rw (bad-place g direction place e f p) (omega arith)))
-      (λ f. rw (bad-direction g direction place e f) (omega arith))
+      (λ p. rw (bad-place year g direction place e f p) (omega arith)))
+      (λ f. rw (bad-direction year g direction place e f) (omega arith))
 
   -- any answer: no alternative is above 2.500
-  small-answer : (q : Question) → FitIn g direction place q → Small (valuesOf (answerTo q (natAbs direction) place))
+  small-answer : (q : Question) → FitIn year g direction place q → Small (valuesOf (answerTo q (natAbs direction) place))
   small-answer (asked.Of s) f =
       let o = f .order in
       small-of
@@ -176,6 +176,6 @@ module _ (g : Building) (direction : ℤ) (place : ℕ) where
       (λ w h. roofValue-small s o (f .roofed w) (roofColumn (s .kind) (natAbs direction) place)))
   small-answer (asked.Refused v) f = tt
 
-  pub answer-small : Small (valuesOf (outsideOf g direction place))
+  pub answer-small : Small (valuesOf (outsideOf year g direction place))
   unfolding outsideOf
-  answer-small = small-answer (askedOf g direction place) (question-fits g direction place)
+  answer-small = small-answer (askedOf year g direction place) (question-fits year g direction place)

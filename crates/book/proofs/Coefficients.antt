@@ -8,9 +8,10 @@ use Rattle.whole.proofs.Tests.{by-test}
 use Rattle.building.specs.declared.Building.{Building}
 use Rattle.building.specs.declared.Sizes.{Sizes}
 use Rattle.building.specs.Order.{SizesInOrder}
-use Rattle.building.specs.Building.{buildingFault, sizes}
+use Rattle.building.specs.Building.{sizes}
 use Rattle.building.specs.Places.{wallPlace, knows, placeOn}
 use Rattle.building.proofs.Accepted.{in-order}
+use Rattle.building.proofs.Judged.{InYear}
 use Rattle.building.proofs.Places.{needs-roof, place-there}
 use Rattle.book.specs.declared.Answer.the-variants.{Answered}
 use Rattle.book.specs.declared.Cited.{Cited}
@@ -65,13 +66,13 @@ module _ (s : Sizes) (o : SizesInOrder s) (wind place : ℕ) where
 
 -- ---- the answer about a zone or local that is on the building, under a direction that it knows
 
-module _ (g : Building) (direction : ℤ) (place : ℕ) where
-  pub outside-is : buildingFault g ≡ 0 → knows (g .kind) direction ≡ true
+module _ (year : ℤ) (g : Building) (direction : ℤ) (place : ℕ) where
+  pub outside-is : InYear year g → knows (g .kind) direction ≡ true
       → placeOn (g .kind) direction place ≡ true
-      → (c : Cited) × (outsideOf g direction place ≡ Answered c) × IsCoefficient (sizes g) (natAbs direction) place c
+      → (c : Cited) × (outsideOf year g direction place ≡ Answered c) × IsCoefficient (sizes g) (natAbs direction) place c
   outside-is good known on = (
     coefficientOf (sizes g) (natAbs direction) place,
-    answered g direction place good known on,
-    coefficient-is (sizes g) (in-order g good) (natAbs direction) place (λ w. needs-roof (g .kind) place w
+    answered year g direction place good known on,
+    coefficient-is (sizes g) (in-order year g (good .none)) (natAbs direction) place (λ w. needs-roof (g .kind) place w
         (place-there (g .kind) direction place on)),
   )

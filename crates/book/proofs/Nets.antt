@@ -20,18 +20,18 @@ unfolding beyond
 internal-small (pos n) e = ltb-false 100 n (or-false false (ltb 100 n) e .1)
 internal-small (negsuc n) e = omega (arith, ltb-false 99 n (or-false (ltb 99 n) false e .0))
 
-module _ (g : Building) (direction : ℤ) (place : ℕ) (internal : ℤ) where
-  pub net-refused : {v : Verdict} → outsideOf g direction place ≡ Refused v
-      → netOf g direction place internal ≡ Refused v
+module _ (year : ℤ) (g : Building) (direction : ℤ) (place : ℕ) (internal : ℤ) where
+  pub net-refused : {v : Verdict} → outsideOf year g direction place ≡ Refused v
+      → netOf year g direction place internal ≡ Refused v
   unfolding netOf
   net-refused e = rw e
 
-  pub net-answered : {c : Cited} → outsideOf g direction place ≡ Answered c → tooGreat internal ≡ false
-      → netOf g direction place internal ≡ Answered (netCited c internal)
+  pub net-answered : {c : Cited} → outsideOf year g direction place ≡ Answered c → tooGreat internal ≡ false
+      → netOf year g direction place internal ≡ Answered (netCited c internal)
   unfolding netOf
   net-answered e f = rw (e, f)
 
-  pub net-bad : {c : Cited} → outsideOf g direction place ≡ Answered c → tooGreat internal ≡ true
-      → netOf g direction place internal ≡ Refused (refusal 3 0)
+  pub net-bad : {c : Cited} → outsideOf year g direction place ≡ Answered c → tooGreat internal ≡ true
+      → netOf year g direction place internal ≡ Refused (refusal 3 0)
   unfolding netOf
   net-bad e f = rw (e, f)

@@ -76,8 +76,8 @@ abbrev pub answerTo : Question → ℕ → ℕ → Answer
 answerTo (asked.Of s) wind place = Answered (coefficientOf s wind place)
 answerTo (asked.Refused v) wind place = Refused v
 
-unfoldable pub outsideOf : Building → ℤ → ℕ → Answer
-outsideOf g direction place = answerTo (askedOf g direction place) (natAbs direction) place
+unfoldable pub outsideOf : ℤ → Building → ℤ → ℕ → Answer
+outsideOf year g direction place = answerTo (askedOf year g direction place) (natAbs direction) place
 
 -- net = outside minus internal, which is in hundredths
 abbrev pub net : ℤ → ℤ → ℤ
@@ -107,5 +107,5 @@ abbrev pub netTo : Answer → ℤ → Answer
 netTo (Answered c) internal = cond (tooGreat internal) (Refused (refusal 3 0)) (Answered (netCited c internal))
 netTo (Refused v) internal = Refused v
 
-unfoldable pub netOf : Building → ℤ → ℕ → ℤ → Answer
-netOf g direction place internal = netTo (outsideOf g direction place) internal
+unfoldable pub netOf : ℤ → Building → ℤ → ℕ → ℤ → Answer
+netOf year g direction place internal = netTo (outsideOf year g direction place) internal

@@ -2,7 +2,7 @@
 // zone or local of a building.
 ghost use mathlib.Core.Path.{_≡_};
 ghost use Rattle.book.specs.Question.{outsideOf, netOf};
-use building::Building;
+use building::Dated;
 use building::Question;
 use verdict::Verdict;
 
@@ -34,10 +34,10 @@ pub enum Answer {
 }
 
 // The outside coefficient of a zone or local.
-pub fn outside(g: Building, direction: i64, place: u8) -> Answer
-    ensures { λ r. ⌜ r ≡ outsideOf g direction place ⌝ }
+pub fn outside(d: Dated, direction: i64, place: u8) -> Answer
+    ensures { λ r. ⌜ r ≡ outsideOf (d .year) (d .building) direction place ⌝ }
 {
-    let q = building::asked(g, direction, place);
+    let q = building::asked(d, direction, place);
     match q {
         Question::Of(s) => {
             Answer::Answered(question::coefficient(s, whole::magnitude(direction), place))
@@ -47,10 +47,10 @@ pub fn outside(g: Building, direction: i64, place: u8) -> Answer
 }
 
 // The net coefficient: the outside one less the internal one, which is in hundredths.
-pub fn net(g: Building, direction: i64, place: u8, internal: i64) -> Answer
-    ensures { λ r. ⌜ r ≡ netOf g direction place internal ⌝ }
+pub fn net(d: Dated, direction: i64, place: u8, internal: i64) -> Answer
+    ensures { λ r. ⌜ r ≡ netOf (d .year) (d .building) direction place internal ⌝ }
 {
-    let r = outside(g, direction, place);
+    let r = outside(d, direction, place);
     match r {
         Answer::Answered(c) => {
             if question::too_great(internal) {

@@ -6,12 +6,13 @@ use native.Mathlib.Omega.{arith}
 use lib.IntN.{ℤ, pos, negsuc, natAbs}
 use lib.Dec.{ltb}
 use borrow.Author.Tests.{not-false, le-ltb, ltb-true, ltb-false, leb-true}
-use Rattle.whole.proofs.Tests.{or-false}
+use Rattle.whole.proofs.Tests.{by-test, or-false}
 use Rattle.building.specs.declared.Building.{Building}
 use Rattle.building.specs.declared.Sizes.{Sizes}
 use Rattle.building.specs.Test.{beyond, tooLong}
 use Rattle.building.specs.Ratio.{_÷_, upTo}
 use Rattle.building.specs.Roof.{lastKind, roofOf}
+use Rattle.building.specs.Year.{hasSquares}
 use Rattle.building.specs.Order.{Ranged, SizesInOrder}
 use Rattle.building.specs.Building.{begun, outOfForm, outOfRange, outOfWalls, outOfRoof, sizes, buildingFault}
 use Rattle.building.specs.Building.{givenFault}
@@ -75,13 +76,19 @@ ranged {g} f =
 
 -- ---- the walls' limits and the roof's
 
-pub in-walls : (s : Sizes) → outOfWalls s ≡ false → (s .h ≤ 6 * s .b) × (s .b < s .a) × (s .a ≤ 4 * s .b)
+-- a table that has begun, in whatever year, has b at most a
+pub begun-from : (year : ℤ) (a b : ℕ) → begun year a b ≡ true → b ≤ a
+begun-from year a b e =
+    by-test (hasSquares year) (λ s. leb-true b a (rw s at e)) (λ s. let h = ltb-true b a (rw s at e) in omega arith)
+
+pub in-walls : (year : ℤ) (s : Sizes) → outOfWalls year s ≡ false
+    → (s .h ≤ 6 * s .b) × (s .b ≤ s .a) × (s .a ≤ 4 * s .b)
 unfolding outOfWalls
-in-walls s e =
+in-walls year s e =
     let r₁ = or-false (not (upTo (s .h) (s .b) (6 ÷ 1))) _ e in
-    let r₂ = or-false (not (begun (s .a) (s .b))) (not (upTo (s .a) (s .b) (4 ÷ 1))) (r₁ .1) in
+    let r₂ = or-false (not (begun year (s .a) (s .b))) (not (upTo (s .a) (s .b) (4 ÷ 1))) (r₁ .1) in
     let k₁ = leb-true (1 * s .h) (6 * s .b) (not-false _ (r₁ .0)) in
-    let k₂ = ltb-true (s .b) (s .a) (not-false _ (r₂ .0)) in
+    let k₂ = begun-from year (s .a) (s .b) (not-false _ (r₂ .0)) in
     let k₃ = leb-true (1 * s .a) (4 * s .b) (not-false _ (r₂ .1)) in
     (omega arith, omega arith, omega arith)
 
@@ -94,15 +101,15 @@ in-roof s e =
     let r = or-false (ltb (s .along) least) (ltb greatest (s .along)) e in
     (ltb-false (s .along) least (r .0), ltb-false greatest (s .along) (r .1))
 
-pub orderly : (g : Building) → Fields g → outOfWalls (sizes g) ≡ false → outOfRoof (sizes g) ≡ false
+pub orderly : (year : ℤ) (g : Building) → Fields g → outOfWalls year (sizes g) ≡ false → outOfRoof (sizes g) ≡ false
     → SizesInOrder (sizes g)
-orderly g f e d =
-    let w = in-walls (sizes g) e in
+orderly year g f e d =
+    let w = in-walls year (sizes g) e in
     let r = in-roof (sizes g) d in
     record {
       ranged = ranged f;
       h-over-b = w .0;
-      a-above-b = w .1;
+      a-from-b = w .1;
       a-over-b = w .2;
       x-over = refl;
       x-from = r .0;
@@ -115,12 +122,12 @@ passed : (t : Bool) (n m : ℕ) → cond t (suc n) m ≡ 0 → (t ≡ false) × 
 passed true n m e = absurd (omega arith)
 passed false n m e = (refl, e)
 
-module _ (g : Building) (good : buildingFault g ≡ 0) where
-  passes : (outOfRange g ≡ false) × (outOfWalls (sizes g) ≡ false) × (outOfRoof (sizes g) ≡ false)
+module _ (year : ℤ) (g : Building) (good : buildingFault year g ≡ 0) where
+  pub passes : (outOfRange g ≡ false) × (outOfWalls year (sizes g) ≡ false) × (outOfRoof (sizes g) ≡ false)
   unfolding buildingFault
   passes =
       let r₁ = passed (outOfRange g) 2 _ good in
-      let r₂ = passed (outOfWalls (sizes g)) 3 _ (r₁ .1) in
+      let r₂ = passed (outOfWalls year (sizes g)) 3 _ (r₁ .1) in
       let r₃ = passed (outOfRoof (sizes g)) 4 0 (r₂ .1) in
       (r₁ .0, r₂ .0, r₃ .0)
 
@@ -131,7 +138,7 @@ module _ (g : Building) (good : buildingFault g ≡ 0) where
   good-fields = fields g in-range
 
   pub in-order : SizesInOrder (sizes g)
-  in-order = orderly g good-fields (passes .1) (passes .2)
+  in-order = orderly year g good-fields (passes .1) (passes .2)
 
 -- ---- given as a record: a number in its range is not too long
 
@@ -139,10 +146,10 @@ short : {least greatest : ℕ} {z : ℤ} → Within least greatest z → greates
 unfolding tooLong
 short {z = z} w h = le-ltb 9999999 (natAbs z) (omega (arith, w .to))
 
-pub given-none : (g : Building) → buildingFault g ≡ 0 → givenFault g ≡ 0
+pub given-none : (year : ℤ) (g : Building) → buildingFault year g ≡ 0 → givenFault year g ≡ 0
 unfolding givenFault outOfForm
-given-none g e =
-    let f = good-fields g e in
+given-none year g e =
+    let f = good-fields year g e in
     rw (
       short (f .h) (omega arith),
       short (f .a) (omega arith),
@@ -153,26 +160,26 @@ given-none g e =
     )
     e
 
-pub none-given : (g : Building) → givenFault g ≡ 0 → buildingFault g ≡ 0
+pub none-given : (year : ℤ) (g : Building) → givenFault year g ≡ 0 → buildingFault year g ≡ 0
 unfolding givenFault
-none-given g e = passed (outOfForm g) 0 _ e .1
+none-given year g e = passed (outOfForm g) 0 _ e .1
 
 -- ---- and a fault has failed its test, having passed those before
 
 -- what each number says of the building
-pub data Why (g : Building) : ℕ → Type 0 where
-  in-order-throughout : Fields g → SizesInOrder (sizes g) → Why g 0
-  a-number-out-of-range : outOfRange g ≡ true → Why g 3
-  outside-the-wall-table : Fields g → outOfWalls (sizes g) ≡ true → Why g 4
-  outside-the-roof's-range : Fields g → outOfWalls (sizes g) ≡ false → outOfRoof (sizes g) ≡ true → Why g 5
+pub data Why (year : ℤ) (g : Building) : ℕ → Type 0 where
+  in-order-throughout : Fields g → SizesInOrder (sizes g) → Why year g 0
+  a-number-out-of-range : outOfRange g ≡ true → Why year g 3
+  outside-the-wall-table : Fields g → outOfWalls year (sizes g) ≡ true → Why year g 4
+  outside-the-roof's-range : Fields g → outOfWalls year (sizes g) ≡ false → outOfRoof (sizes g) ≡ true → Why year g 5
 
-pub why : (g : Building) → Why g (buildingFault g)
+pub why : (year : ℤ) (g : Building) → Why year g (buildingFault year g)
 unfolding buildingFault
-why g = go (outOfRange g) (outOfWalls (sizes g)) (outOfRoof (sizes g)) refl refl refl
+why year g = go (outOfRange g) (outOfWalls year (sizes g)) (outOfRoof (sizes g)) refl refl refl
   where
-    go : (t u v : Bool) → outOfRange g ≡ t → outOfWalls (sizes g) ≡ u → outOfRoof (sizes g) ≡ v
-        → Why g (cond t 3 (cond u 4 (cond v 5 0)))
+    go : (t u v : Bool) → outOfRange g ≡ t → outOfWalls year (sizes g) ≡ u → outOfRoof (sizes g) ≡ v
+        → Why year g (cond t 3 (cond u 4 (cond v 5 0)))
     go true u v p q r = a-number-out-of-range p
     go false true v p q r = outside-the-wall-table (fields g p) q
     go false false true p q r = outside-the-roof's-range (fields g p) q r
-    go false false false p q r = in-order-throughout (fields g p) (orderly g (fields g p) q r)
+    go false false false p q r = in-order-throughout (fields g p) (orderly year g (fields g p) q r)

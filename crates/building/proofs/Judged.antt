@@ -1,16 +1,21 @@
--- A question's four outcomes, in the order of its checks; and that the sizes of one in order are those of a building
+-- A question's five outcomes, in the order of its checks; and that the sizes of one in order are those of a building
 -- in order, with a roof where its place needs one.
 use mathlib.Core.Path.{_≡_, refl, sym, subst}
-use mathlib.Core.Bool.{Bool, true, false}
+use mathlib.Core.Bool.{Bool, true, false, cond}
 use Prim.Native.Nat.{ℕ, zero, suc, _<_}
 use lib.Dec.{eqb}
-use lib.IntN.{ℤ}
+use native.Mathlib.Omega.{arith}
+use lib.IntN.{ℤ, pos}
 use borrow.Author.Tests.{eqb-true, eqb-false}
-use Rattle.verdict.specs.Verdict.{refusal}
+use Rattle.whole.proofs.Tests.{by-test}
+use Rattle.verdict.specs.declared.Verdict.{Verdict}
+use Rattle.verdict.specs.Verdict.{refusal, Refuses}
 use Rattle.building.specs.declared.Building.{Building}
 use Rattle.building.specs.declared.Sizes.{Sizes}
 use Rattle.building.specs.declared.Question.{Question}
 use Rattle.building.specs.declared.Question.the-variants.{Of, Refused}
+use Rattle.building.specs.Test.{unless}
+use Rattle.building.specs.Year.{isYear, buildingLine}
 use Rattle.building.specs.Order.{SizesInOrder}
 use Rattle.building.specs.Building.{buildingFault, givenFault, sizes}
 use Rattle.building.specs.Places.{knows, wallPlace, placeOn}
@@ -22,28 +27,59 @@ refuse-some : (n line : ℕ) (a : Question) → (n ≡ 0 → ⊥) → refuse n l
 refuse-some zero line a h = absurd (h refl)
 refuse-some (suc n) line a h = refl
 
-module _ (g : Building) (direction : ℤ) (place : ℕ) where
+-- a year, and a building that is in order in it
+pub record InYear (year : ℤ) (g : Building) : Type 0 where
+  pub is : isYear year ≡ true
+  pub none : buildingFault year g ≡ 0
+
+-- the refusal of the year, then that of the building
+abbrev pub firstRefusal : ℤ → Building → Verdict
+firstRefusal year g =
+    let earlier = refusal (unless 3 (isYear year)) 0 in
+    cond (eqb (earlier .number) 0) (refusal (givenFault year g) (buildingLine year)) earlier
+
+module _ (year : ℤ) (g : Building) (direction : ℤ) (place : ℕ) where
   abbrev pub On : Bool → Type 0
   On t = placeOn (g .kind) direction place ≡ t
 
-  pub bad-building : (givenFault g ≡ 0 → ⊥) → askedOf g direction place ≡ Refused (refusal (givenFault g) 2)
+  pub bad-year : isYear year ≡ false → askedOf year g direction place ≡ Refused (refusal 3 0)
   unfolding askedOf
-  bad-building h = refuse-some (givenFault g) 2 _ h
+  bad-year y = rw y
 
-  pub bad-direction : buildingFault g ≡ 0 → knows (g .kind) direction ≡ false
-      → askedOf g direction place ≡ Refused (refusal 3 0)
+  pub bad-building : isYear year ≡ true → (givenFault year g ≡ 0 → ⊥)
+      → askedOf year g direction place ≡ Refused (refusal (givenFault year g) (buildingLine year))
   unfolding askedOf
-  bad-direction e f = rw (given-none g e, f)
+  bad-building y h = rw y (refuse-some (givenFault year g) (buildingLine year) _ h)
 
-  pub bad-place : buildingFault g ≡ 0 → knows (g .kind) direction ≡ true → On false
-      → askedOf g direction place ≡ Refused (refusal 6 0)
+  pub bad-direction : InYear year g → knows (g .kind) direction ≡ false
+      → askedOf year g direction place ≡ Refused (refusal 3 0)
   unfolding askedOf
-  bad-place e f k = rw (given-none g e, f, k)
+  bad-direction e f = rw (e .is, given-none year g (e .none), f)
 
-  pub in-question : buildingFault g ≡ 0 → knows (g .kind) direction ≡ true → On true
-      → askedOf g direction place ≡ Of (sizes g)
+  pub bad-place : InYear year g → knows (g .kind) direction ≡ true → On false
+      → askedOf year g direction place ≡ Refused (refusal 6 0)
   unfolding askedOf
-  in-question e f k = rw (given-none g e, f, k)
+  bad-place e f k = rw (e .is, given-none year g (e .none), f, k)
+
+  pub in-question : InYear year g → knows (g .kind) direction ≡ true → On true
+      → askedOf year g direction place ≡ Of (sizes g)
+  unfolding askedOf
+  in-question e f k = rw (e .is, given-none year g (e .none), f, k)
+
+  -- the first two checks: their refusal, or a building in order
+  pub first-checks : {P : Type 0} → (isYear year ≡ false → P)
+      → (isYear year ≡ true → (givenFault year g ≡ 0 → ⊥) → P) → (InYear year g → P) → P
+  first-checks not-a-year faulty fine =
+      by-test (isYear year)
+      (λ y. by-test (eqb (givenFault year g) 0)
+      (λ e. fine (record { is = y; none = none-given year g (eqb-true (givenFault year g) 0 e) }))
+      (λ e. faulty y (eqb-false (givenFault year g) 0 e)))
+      not-a-year
+
+  pub asked-refused : Refuses (firstRefusal year g) → askedOf year g direction place ≡ Refused (firstRefusal year g)
+  asked-refused r =
+      first-checks (λ y. rw y (bad-year y)) (λ y h. rw y (bad-building y h))
+      (λ e. absurd (r (rw (e .is, given-none year g (e .none)))))
 
   -- what a question in order tells of its sizes
   pub record Fit (s : Sizes) : Type 0 where
@@ -54,18 +90,24 @@ module _ (g : Building) (direction : ℤ) (place : ℕ) where
   FitIn (Of s) = Fit s
   FitIn (Refused v) = Unit {0}
 
-  pub question-fits : FitIn (askedOf g direction place)
+  fits-in-year : InYear year g → FitIn (askedOf year g direction place)
+  fits-in-year e =
+      by-test (knows (g .kind) direction)
+      (λ f. by-test (placeOn (g .kind) direction place)
+      (λ k.
+      let on = place-there (g .kind) direction place k in
+      subst FitIn (sym (in-question e f k))
+      (record { order = in-order year g (e .none); roofed = λ w. needs-roof (g .kind) place w on }))
+      (λ k. subst FitIn (sym (bad-place e f k)) tt))
+      (λ f. subst FitIn (sym (bad-direction e f)) tt)
+
+  pub question-fits : FitIn (askedOf year g direction place)
   question-fits =
-      go (eqb (givenFault g) 0) (knows (g .kind) direction)
-      (placeOn (g .kind) direction place) refl refl refl
-    where
-      go : (t u v : Bool) → eqb (givenFault g) 0 ≡ t → knows (g .kind) direction ≡ u → On v
-          → FitIn (askedOf g direction place)
-      go false u v p q r = subst FitIn (sym (bad-building (eqb-false (givenFault g) 0 p))) tt
-      go true false v p q r = subst FitIn (sym (bad-direction (none-given g (eqb-true (givenFault g) 0 p)) q)) tt
-      go true true false p q r = subst FitIn (sym (bad-place (none-given g (eqb-true (givenFault g) 0 p)) q r)) tt
-      go true true true p q r =
-          let e = none-given g (eqb-true (givenFault g) 0 p) in
-          let on = place-there (g .kind) direction place r in
-          subst FitIn (sym (in-question e q r))
-          (record { order = in-order g e; roofed = λ w. needs-roof (g .kind) place w on })
+      first-checks (λ y. subst FitIn (sym (bad-year y)) tt) (λ y h. subst FitIn (sym (bad-building y h)) tt)
+      fits-in-year
+
+pub first-passed : (year : ℤ) (g : Building) → firstRefusal year g .number ≡ 0 → InYear year g
+first-passed year g e =
+    first-checks year g (pos 0) 0
+    (λ y. let three : 3 ≡ 0 = rw y at e in absurd (omega arith))
+    (λ y h. let some : givenFault year g ≡ 0 = rw y at e in absurd (h some)) (λ i. i)

@@ -7,3 +7,4 @@ pub mod Roofs
 pub mod Accepted
 pub mod Places
 pub mod Judged
+pub mod Readings

@@ -3,10 +3,11 @@ use mathlib.Core.Bool.{Bool, false, cond, not, _||_}
 use mathlib.Core.List.{List, [], _∷_}
 use Prim.Native.Nat.{ℕ, _*_}
 use lib.IntN.{ℤ, pos, natAbs}
-use lib.Dec.{ltb}
+use lib.Dec.{ltb, leb}
 use Rattle.building.specs.declared.Building.{Building}
 use Rattle.building.specs.declared.Sizes.{Sizes}
 use Rattle.building.specs.Test.{beyond, tooLong}
+use Rattle.building.specs.Year.{hasSquares}
 use Rattle.building.specs.Fault.{Fault, fault, first}
 use Rattle.building.specs.Ratio.{_÷_, upTo}
 use Rattle.building.specs.Roof.{lastKind, roofOf, alongOf, acrossOf}
@@ -53,13 +54,14 @@ sizes g =
       across = acrossOf (natAbs (g .kind)) (natAbs (g .h));
     }
 
--- the walls' table begins just over a/b = 1
-abbrev pub begun : ℕ → ℕ → Bool
-begun a b = ltb b a
+-- the walls' table begins just over a/b = 1, and at 1 where it has square plans
+abbrev pub begun : ℤ → ℕ → ℕ → Bool
+begun year a b = cond (hasSquares year) (leb b a) (ltb b a)
 
--- h/b over 6, a/b before the table begins, a/b over 4
-unfoldable pub outOfWalls : Sizes → Bool
-outOfWalls s = not (upTo (s .h) (s .b) (6 ÷ 1)) || (not (begun (s .a) (s .b)) || not (upTo (s .a) (s .b) (4 ÷ 1)))
+-- h/b over 6, a/b before the table begins in that year, a/b over 4
+unfoldable pub outOfWalls : ℤ → Sizes → Bool
+outOfWalls year s =
+    not (upTo (s .h) (s .b) (6 ÷ 1)) || (not (begun year (s .a) (s .b)) || not (upTo (s .a) (s .b) (4 ÷ 1)))
 
 -- x below the least of its roof, or above the greatest
 unfoldable pub outOfRoof : Sizes → Bool
@@ -68,12 +70,12 @@ outOfRoof s =
 
 -- ---- the faults in their order
 
-abbrev pub faults : Building → List Fault
-faults g = fault 3 (outOfRange g) ∷ fault 4 (outOfWalls (sizes g)) ∷ fault 5 (outOfRoof (sizes g)) ∷ []
+abbrev pub faults : ℤ → Building → List Fault
+faults year g = fault 3 (outOfRange g) ∷ fault 4 (outOfWalls year (sizes g)) ∷ fault 5 (outOfRoof (sizes g)) ∷ []
 
--- the number that the building's line gets, 0 where it is in order
-unfoldable pub buildingFault : Building → ℕ
-buildingFault g = first (faults g)
+-- the number that the building's line gets in a sheet of a year, 0 where it is in order
+unfoldable pub buildingFault : ℤ → Building → ℕ
+buildingFault year g = first (faults year g)
 
 -- ---- a building given as a record
 
@@ -82,5 +84,5 @@ unfoldable pub outOfForm : Building → Bool
 outOfForm g = some (λ r. tooLong (r .number)) (ranges g)
 
 -- the number that its line would get
-unfoldable pub givenFault : Building → ℕ
-givenFault g = cond (outOfForm g) 1 (buildingFault g)
+unfoldable pub givenFault : ℤ → Building → ℕ
+givenFault year g = cond (outOfForm g) 1 (buildingFault year g)

@@ -21,7 +21,7 @@ pub record Ranged (s : Sizes) : Type 0 where
 pub record SizesInOrder (s : Sizes) : Type 0 where
   pub ranged : Ranged s
   pub h-over-b : s .h ≤ 6 * s .b
-  pub a-above-b : s .b < s .a
+  pub a-from-b : s .b ≤ s .a
   pub a-over-b : s .a ≤ 4 * s .b
   pub x-over : s .across ≡ acrossOf (s .kind) (s .h)
   pub x-from : roofOf (s .kind) .least * s .across ≤ s .along

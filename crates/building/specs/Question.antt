@@ -1,5 +1,5 @@
--- A question about one zone or local, judged: the building, with the line that it has in the sheet; then the
--- direction; then the zone or local.
+-- A question about one zone or local in a year, judged: the year; the building, with the line that it has in a sheet
+-- of that year; then the direction; then the zone or local.
 use Prim.Native.Nat.{ℕ, zero, suc}
 use lib.IntN.{ℤ}
 use Rattle.verdict.specs.Verdict.{refusal}
@@ -7,6 +7,7 @@ use Rattle.building.specs.declared.Building.{Building}
 use Rattle.building.specs.declared.Question.{Question}
 use Rattle.building.specs.declared.Question.the-variants.{Of, Refused}
 use Rattle.building.specs.Test.{unless}
+use Rattle.building.specs.Year.{isYear, buildingLine}
 use Rattle.building.specs.Building.{givenFault, sizes}
 use Rattle.building.specs.Places.{knows, placeOn}
 
@@ -15,9 +16,10 @@ abbrev pub refuse : ℕ → ℕ → Question → Question
 refuse zero line asked = asked
 refuse (suc n) line asked = Refused (refusal (suc n) line)
 
-unfoldable pub askedOf : Building → ℤ → ℕ → Question
-askedOf g direction place =
-    refuse (givenFault g) 2
+unfoldable pub askedOf : ℤ → Building → ℤ → ℕ → Question
+askedOf year g direction place =
+    refuse (unless 3 (isYear year)) 0
+    (refuse (givenFault year g) (buildingLine year)
     (refuse (unless 3 (knows (g .kind) direction)) 0
     (refuse (unless 6 (placeOn (g .kind) direction place)) 0
-    (Of (sizes g))))
+    (Of (sizes g)))))

@@ -4,6 +4,7 @@ ghost use mathlib.Core.Bool.{false, _||_};
 ghost use Prim.Native.Nat.{_≤_};
 ghost use Rattle.building.specs.Roof.{lastKind, roofOf, alongOf, acrossOf};
 ghost use Rattle.building.specs.Order.{Ranged};
+ghost use Rattle.building.specs.Building as building;
 ghost use Rattle.building.specs.Building.{outOfForm, outOfRange, outOfWalls, outOfRoof, sizes};
 use super::Building;
 use super::Sizes;
@@ -12,6 +13,7 @@ use super::limits::too_long;
 use super::ratio::up_to;
 use super::tests::any;
 use super::tests::either;
+use super::year::has_squares;
 
 pub(crate) fn out_of_form(g: Building) -> bool
     ensures { λ r. ⌜ r ≡ outOfForm g ⌝ }
@@ -106,13 +108,23 @@ pub(crate) fn sizes_of(g: Building) -> Sizes
     }
 }
 
-// h/b over 6; a/b not over 1; a/b over 4.
-pub(crate) fn out_of_walls(s: Sizes) -> bool
-    ensures { λ r. ⌜ r ≡ outOfWalls s ⌝ }
+// Whether the walls' table has begun at a/b: just over 1, and at 1 where it has square plans.
+fn begun(year: i64, a: u32, b: u32) -> bool
+    ensures { λ r. ⌜ r ≡ building.begun year a b ⌝ }
+{
+    if has_squares(year) {
+        return b <= a;
+    }
+    b < a
+}
+
+// h/b over 6; a/b before the table begins; a/b over 4.
+pub(crate) fn out_of_walls(year: i64, s: Sizes) -> bool
+    ensures { λ r. ⌜ r ≡ outOfWalls year s ⌝ }
 {
     either(
         !up_to(s.h, s.b, 6, 1),
-        either(!(s.b < s.a), !up_to(s.a, s.b, 4, 1)),
+        either(!begun(year, s.a, s.b), !up_to(s.a, s.b, 4, 1)),
     )
 }
 

@@ -3,6 +3,11 @@ ghost use mathlib.Core.Path.{_≡_};
 ghost use Rattle.building.specs.Building.{buildingFault, givenFault};
 ghost use Rattle.building.specs.Places.{zoneOn};
 ghost use Rattle.building.specs.Question.{askedOf};
+ghost use mathlib.Core.Bool.{cond};
+ghost use lib.Dec.{eqb};
+ghost use Rattle.verdict.specs.Verdict.{refusal};
+ghost use Rattle.building.specs.Test.{unless};
+ghost use Rattle.building.specs.Year.{isYear, buildingLine};
 use verdict::Verdict;
 
 mod faults;
@@ -10,6 +15,7 @@ pub mod kinds;
 pub mod limits;
 pub mod ratio;
 mod tests;
+pub mod year;
 
 // The numbers of a building's line: cm, g/m³, the roof's kind and number. 64 bits, so that no number of a host
 // program is cut.
@@ -20,6 +26,12 @@ pub struct Building {
     pub density: i64,
     pub kind: i64,
     pub x: i64,
+}
+
+// A building with the year whose sheet it stands in, which it is judged by.
+pub struct Dated {
+    pub year: i64,
+    pub building: Building,
 }
 
 // What of a building the tables ask for, without signs. Lengths have 32 bits, and so their products with a limit fit
@@ -40,15 +52,15 @@ pub enum Question {
     Refused(Verdict),
 }
 
-// The number that the building's line gets: 0 where it is in order.
-pub fn building_fault(g: Building) -> u32
-    ensures { λ r. ⌜ r ≡ buildingFault g ⌝ }
+// The number that the building's line gets in a sheet of its year: 0 where it is in order.
+pub fn building_fault(d: Dated) -> u32
+    ensures { λ r. ⌜ r ≡ buildingFault (d .year) (d .building) ⌝ }
 {
-    if faults::out_of_range(g) {
+    if faults::out_of_range(d.building) {
         return 3;
     }
-    let s = faults::sizes_of(g);
-    if faults::out_of_walls(s) {
+    let s = faults::sizes_of(d.building);
+    if faults::out_of_walls(d.year, s) {
         return 4;
     }
     if faults::out_of_roof(s) {
@@ -58,13 +70,13 @@ pub fn building_fault(g: Building) -> u32
 }
 
 // The number that the line of a building given as a record would get.
-pub fn given_fault(g: Building) -> u32
-    ensures { λ r. ⌜ r ≡ givenFault g ⌝ }
+pub fn given_fault(d: Dated) -> u32
+    ensures { λ r. ⌜ r ≡ givenFault (d .year) (d .building) ⌝ }
 {
-    if faults::out_of_form(g) {
+    if faults::out_of_form(d.building) {
         return 1;
     }
-    building_fault(g)
+    building_fault(d)
 }
 
 // Whether a roof of this kind has the zone.
@@ -83,19 +95,50 @@ pub fn zone_on(kind: i64, zone: u8) -> bool
     )
 }
 
-// A question about one zone or local under a wind's direction.
-pub fn asked(g: Building, direction: i64, place: u8) -> Question
-    ensures { λ r. ⌜ r ≡ askedOf g direction place ⌝ }
+// What a question's year gets, and its building: number 0 where that is in order.
+fn year_refusal(year: i64) -> Verdict
+    ensures { λ r. ⌜ r ≡ refusal (unless 3 (isYear year)) 0 ⌝ }
 {
-    let n = given_fault(g);
-    if n != 0 {
-        return Question::Refused(Verdict { number: n, line: 2 });
+    if year::is_year(year) {
+        return Verdict { number: 0, line: 0 };
     }
-    if !kinds::knows(g.kind, direction) {
+    Verdict { number: 3, line: 0 }
+}
+
+fn building_refusal(d: Dated) -> Verdict
+    ensures { λ r. ⌜ r ≡ refusal (givenFault (d .year) (d .building)) (buildingLine (d .year)) ⌝ }
+{
+    Verdict {
+        number: given_fault(d),
+        line: year::building_line(d.year),
+    }
+}
+
+// The earlier of two, and the later where that is in order.
+fn first_of(earlier: Verdict, later: Verdict) -> Verdict
+    ensures { λ r. ⌜ r ≡ cond (eqb (earlier .number) 0) later earlier ⌝ }
+{
+    if earlier.number == 0 {
+        return later;
+    }
+    earlier
+}
+
+// A question about one zone or local under a wind's direction.
+pub fn asked(d: Dated, direction: i64, place: u8) -> Question
+    ensures { λ r. ⌜ r ≡ askedOf (d .year) (d .building) direction place ⌝ }
+{
+    let by_year = year_refusal(d.year);
+    let by_building = building_refusal(d);
+    let v = first_of(by_year, by_building);
+    if v.number != 0 {
+        return Question::Refused(v);
+    }
+    if !kinds::knows(d.building.kind, direction) {
         return Question::Refused(Verdict { number: 3, line: 0 });
     }
-    if !kinds::place_on(g.kind, direction, place) {
+    if !kinds::place_on(d.building.kind, direction, place) {
         return Question::Refused(Verdict { number: 6, line: 0 });
     }
-    Question::Of(faults::sizes_of(g))
+    Question::Of(faults::sizes_of(d.building))
 }

@@ -3,6 +3,7 @@ use book::Answer;
 use book::Cited;
 use book::Values;
 use building::Building;
+use building::Dated;
 use entry::Face;
 use entry::Step;
 use entry::Wind;
@@ -82,53 +83,96 @@ fn building(h: i64, kind: i64, x: i64) -> Building {
     }
 }
 
+fn in_year_1(g: Building) -> Dated {
+    Dated {
+        year: 1,
+        building: g,
+    }
+}
+
 fn outside_questions() {
     print_answer(
         b"point 18: curved, zone E, exactly -0.3995:",
-        book::outside(building(4000, 4, 201), 0, b'E'),
+        book::outside(in_year_1(building(4000, 4, 201)), 0, b'E'),
     );
     print_answer(
         b"flat, zone F:",
-        book::outside(building(4000, 2, 0), 90, b'F'),
+        book::outside(in_year_1(building(4000, 2, 0)), 90, b'F'),
     );
     print_answer(
         b"point 6: zone I:",
-        book::outside(building(4000, 2, 0), 0, b'I'),
+        book::outside(in_year_1(building(4000, 2, 0)), 0, b'I'),
     );
     print_answer(
         b"zone G on a flat roof:",
-        book::outside(building(4000, 2, 0), 0, b'G'),
+        book::outside(in_year_1(building(4000, 2, 0)), 0, b'G'),
     );
     print_answer(
         b"L1 on a gable:",
-        book::outside(building(4000, 1, 0), 0, b'1'),
+        book::outside(in_year_1(building(4000, 1, 0)), 0, b'1'),
     );
     print_answer(
         b"point 7: h 10000000:",
-        book::outside(building(10000000, 2, 0), 0, b'E'),
+        book::outside(in_year_1(building(10000000, 2, 0)), 0, b'E'),
     );
     print_answer(
         b"point 7: h -9999999:",
-        book::outside(building(-9999999, 2, 0), 0, b'E'),
+        book::outside(in_year_1(building(-9999999, 2, 0)), 0, b'E'),
     );
     print_answer(
         b"point 7: direction 1000000000000, for a local too:",
-        book::outside(building(4000, 2, 0), 1000000000000, b'w'),
+        book::outside(in_year_1(building(4000, 2, 0)), 1000000000000, b'w'),
     );
 }
 
 fn slope_questions() {
     print_answer(
         b"a single slope of 12.5 degrees, zone E under 135:",
-        book::outside(building(4000, 6, 125), 135, b'E'),
+        book::outside(in_year_1(building(4000, 6, 125)), 135, b'E'),
     );
     print_answer(
         b"a wall of it under 45:",
-        book::outside(building(4000, 6, 100), 45, b'A'),
+        book::outside(in_year_1(building(4000, 6, 100)), 45, b'A'),
     );
     print_answer(
         b"a gable under 45:",
-        book::outside(building(4000, 1, 0), 45, b'E'),
+        book::outside(in_year_1(building(4000, 1, 0)), 45, b'E'),
+    );
+}
+
+// A square plan or one beside it, of this year, whose longer side is a.
+fn square(year: i64, a: i64) -> Dated {
+    let building = Building {
+        h: 500,
+        a,
+        b: 1000,
+        density: 1250,
+        kind: 0,
+        x: 0,
+    };
+    Dated { year, building }
+}
+
+fn square_questions() {
+    print_answer(
+        b"year 1, a square plan:",
+        book::outside(square(1, 1000), 0, b'B'),
+    );
+    print_answer(
+        b"year 2, a square plan:",
+        book::outside(square(2, 1000), 0, b'B'),
+    );
+    print_answer(
+        b"year 3, a square plan, zone B:",
+        book::outside(square(3, 1000), 0, b'B'),
+    );
+    print_answer(
+        b"year 3, a below b:",
+        book::outside(square(3, 999), 0, b'B'),
+    );
+    print_answer(
+        b"year 4, before a square plan:",
+        book::outside(square(4, 1000), 0, b'B'),
     );
 }
 
@@ -143,21 +187,25 @@ fn net_questions() {
     };
     print_answer(
         b"point 11: rounded first, then the internal coefficient comes off:",
-        book::net(g, 0, b'E', -100),
+        book::net(in_year_1(g), 0, b'E', -100),
     );
     print_answer(
         b"point 12: the net of the wall local:",
-        book::net(g, 0, b'w', 20),
+        book::net(in_year_1(g), 0, b'w', 20),
     );
-    print_answer(b"point 7: internal 101:", book::net(g, 0, b'E', 101));
+    print_answer(
+        b"point 7: internal 101:",
+        book::net(in_year_1(g), 0, b'E', 101),
+    );
     print_answer(
         b"6 before 3: zone H with internal 101:",
-        book::net(g, 0, b'H', 101),
+        book::net(in_year_1(g), 0, b'H', 101),
     );
 }
 
 pub(crate) fn questions() {
     outside_questions();
+    square_questions();
     slope_questions();
     net_questions();
 }
@@ -249,4 +297,7 @@ pub(crate) fn records() {
     print_verdict(b"year 2 with 17:", of_year(2, 17));
     print_verdict(b"year 2 with two at one height:", of_year(2, 2));
     print_verdict(b"year 3:", of_year(3, 1));
+    print_verdict(b"year 3 with none:", of_year(3, 0));
+    print_verdict(b"year 4:", of_year(4, 1));
+    print_verdict(b"year 10000000, of 8 digits:", of_year(10000000, 1));
 }

@@ -36,7 +36,7 @@ pub use Rattle.entry.proofs.says.is_dash.Reads as is-dash
 pub use Rattle.entry.proofs.says.building_of.Reads as building-of
 pub use Rattle.entry.proofs.says.year_of.Reads as year-of
 pub use Rattle.entry.proofs.says.step_of.Reads as step-of
-pub use Rattle.entry.proofs.says.has_heights.Reads as has-heights
+pub use Rattle.building.proofs.year.has_heights.Reads as has-heights
 pub use Rattle.entry.proofs.says.carried_face.Reads as carried-face
 pub use Rattle.entry.proofs.says.wind_of.Reads as wind-of
 pub use Rattle.entry.proofs.says.internal_of.Reads as internal-of

@@ -25,7 +25,7 @@ use Rattle.worst.specs.Forces.{windAt, internalAt, loads}
 use Rattle.worst.specs.Worst.{given}
 use Rattle.answers.specs.Answers.{hostCoefficient, hostText}
 use Rattle.claims.specs.Contract.{Always}
-use Rattle.claims.specs.Question.{Judged, Outside, Net, buildingIn, directionIn, placeIn, restIn}
+use Rattle.claims.specs.Question.{Judged, Outside, Net, yearIn, buildingIn, directionIn, placeIn, restIn}
 use Rattle.claims.specs.Total.{Total}
 use Rattle.claims.specs.Decimal.{IsDecimal}
 use Rattle.claims.specs.Written.{Written}
@@ -41,19 +41,19 @@ use Rattle.claims.proofs.Total as total
 
 -- "Coefficients, net coefficients .. are those of the ROM's tables .. under paper 01's rounding."
 pub record AnswersAreTheBooks : Type 0 where
-  pub asked : Always of.asked.Post (λ κ a r s. Judged (a .0) (a .1 .0) (a .1 .1 .0) r)
-  pub outside : Always of.outside.Post (λ κ a r s. Outside (a .0) (a .1 .0) (a .1 .1 .0) r)
-  pub net : Always of.net.Post (λ κ a r s. Net (a .0) (a .1 .0) (a .1 .1 .0) (a .1 .1 .1 .0) r)
+  pub asked : Always of.asked.Post (λ κ a r s. Judged (a .0 .year) (a .0 .building) (a .1 .0) (a .1 .1 .0) r)
+  pub outside : Always of.outside.Post (λ κ a r s. Outside (a .0 .year) (a .0 .building) (a .1 .0) (a .1 .1 .0) r)
+  pub net : Always of.net.Post (λ κ a r s. Net (a .0 .year) (a .0 .building) (a .1 .0) (a .1 .1 .0) (a .1 .1 .1 .0) r)
   pub aral-outside : Always of.aral-outside.Post (λ κ a r s. (q : book.Answer)
-      × Outside (buildingIn a) (directionIn a) (placeIn a) q × (r ≡ hostCoefficient q))
+      × Outside (yearIn a) (buildingIn a) (directionIn a) (placeIn a) q × (r ≡ hostCoefficient q))
   pub aral-net : Always of.aral-net.Post (λ κ a r s. (q : book.Answer)
-      × Net (buildingIn a) (directionIn a) (placeIn a) (restIn a .0) q × (r ≡ hostCoefficient q))
+      × Net (yearIn a) (buildingIn a) (directionIn a) (placeIn a) (restIn a .0) q × (r ≡ hostCoefficient q))
 
 -- What a question gets leaves no choice.
 abbrev pub AnswersAreOne : Type 0
-AnswersAreOne = (g : Building) (direction : ℤ) (place : ℕ) (internal : ℤ) (r r′ : book.Answer)
-    → (Outside g direction place r → Outside g direction place r′ → r ≡ r′)
-    × (Net g direction place internal r → Net g direction place internal r′ → r ≡ r′)
+AnswersAreOne = (year : ℤ) (g : Building) (direction : ℤ) (place : ℕ) (internal : ℤ) (r r′ : book.Answer)
+    → (Outside year g direction place r → Outside year g direction place r′ → r ≡ r′)
+    × (Net year g direction place internal r → Net year g direction place internal r′ → r ≡ r′)
 
 -- "totals are those of .. its sum over faces": of each permitted case, and of nothing else
 abbrev pub TotalsAreSums : Type 0
@@ -104,23 +104,23 @@ WritingIsOne = ((z : ℤ) (t u : List ℕ) → IsDecimal z t → IsDecimal z u �
 pub answers-are-the-books : AnswersAreTheBooks
 answers-are-the-books =
     record {
-      asked = λ κ a r s p. rw p (question.question-judged (a .0) (a .1 .0) (a .1 .1 .0));
+      asked = λ κ a r s p. rw p (question.question-judged (a .0 .year) (a .0 .building) (a .1 .0) (a .1 .1 .0));
       outside = λ κ a r s p.
-          rw p (question.outside-got (a .0) (a .1 .0) (a .1 .1 .0));
+          rw p (question.outside-got (a .0 .year) (a .0 .building) (a .1 .0) (a .1 .1 .0));
       net = λ κ a r s p.
-          rw p (question.net-got (a .0) (a .1 .0) (a .1 .1 .0) (a .1 .1 .1 .0));
+          rw p (question.net-got (a .0 .year) (a .0 .building) (a .1 .0) (a .1 .1 .0) (a .1 .1 .1 .0));
       aral-outside = λ κ a r s p.
           let g = buildingIn a in
-          (outsideOf g (directionIn a) (placeIn a), question.outside-got g (directionIn a) (placeIn a), p);
+          (outsideOf (yearIn a) g (directionIn a) (placeIn a), question.outside-got (yearIn a) g (directionIn a) (placeIn a), p);
       aral-net = λ κ a r s p.
           let g = buildingIn a in
           let i = restIn a .0 in
-          (netOf g (directionIn a) (placeIn a) i, question.net-got g (directionIn a) (placeIn a) i, p);
+          (netOf (yearIn a) g (directionIn a) (placeIn a) i, question.net-got (yearIn a) g (directionIn a) (placeIn a) i, p);
     }
 
 pub answers-are-one : AnswersAreOne
-answers-are-one g direction place internal r r′ =
-    (question.outside-unique g direction place, question.net-unique g direction place internal)
+answers-are-one year g direction place internal r r′ =
+    (question.outside-unique year g direction place, question.net-unique year g direction place internal)
 
 pub totals-are-sums : TotalsAreSums
 totals-are-sums j c a axis k h = total.case-total c (job-in-order j c a) axis k h

@@ -48,7 +48,7 @@ NoHalfOnAGable = Every (λ block. (x : ℕ) → x ≤ 600 → (w : Way) × LiesA
 -- between two thousandths; E is -0.400 there.
 abbrev pub HalfOnAFlatRoof : Type 0
 HalfOnAFlatRoof =
-    Half (alongLine (m 40) (m 30) 1 200) 200 × Holds (gives (shed 4000 1200 1000 4 201) 0 E (One (m 400)) 5 6 1 200)
+    Half (alongLine (m 40) (m 30) 1 200) 200 × Holds (gives 1 (shed 4000 1200 1000 4 201) 0 E (One (m 400)) 5 6 1 200)
 
 -- ---- the proofs
 

@@ -8,6 +8,7 @@ pub mod Panel
 pub mod Paper01
 pub mod Paper02
 pub mod Item1
+pub mod Item6
 pub mod Item12
 pub mod Printed
 pub mod RowsWorked

@@ -31,16 +31,16 @@ use Rattle.claims.proofs.Question.{clash, faultless, answered-so}
 -- terms; on a row itself .. both are that row and the fraction is 0 over 1."
 abbrev pub AnswersCiteRows : Type 0
 AnswersCiteRows = Always of.outside.Post (λ κ a r s. (c : Cited) → r ≡ Answered c → wallPlace (a .1 .1 .0) ≡ false
-    → let b = sizes (a .0) in (w : Way) × LiesAt (partOf b) (b .along) (b .across) w × (c ≡ cites (c .values) w))
+    → let b = sizes (a .0 .building) in (w : Way) × LiesAt (partOf b) (b .along) (b .across) w × (c ≡ cites (c .values) w))
 
 -- "or where the table has nothing to interpolate": on a wall, the row that its building has
 abbrev pub WallsCiteTheirRow : Type 0
 WallsCiteTheirRow = Always of.outside.Post (λ κ a r s. (c : Cited) → r ≡ Answered c → wallPlace (a .1 .1 .0) ≡ true
-    → c ≡ cites (c .values) (wallWay (sizes (a .0))))
+    → c ≡ cites (c .values) (wallWay (sizes (a .0 .building))))
 
 -- "Students ask where 0.303 came from": the answer, the printed table and the column are enough to work it out again.
 abbrev pub AnswersCanBeRedone : Type 0
-AnswersCanBeRedone = Always of.outside.Post (λ κ a r s. (c : Cited) → r ≡ Answered c → let b = sizes (a .0) in
+AnswersCanBeRedone = Always of.outside.Post (λ κ a r s. (c : Cited) → r ≡ Answered c → let b = sizes (a .0 .building) in
     ByHand (tableFor b (a .1 .1 .0)) (columnFor b (natAbs (a .1 .0)) (a .1 .1 .0)) c)
 
 -- ---- the proofs
@@ -59,23 +59,23 @@ module _ (s : Sizes) (wind place : ℕ) where
 
 pub answers-cite-rows : AnswersCiteRows
 answers-cite-rows κ a r s p c e =
-    let i = answered-so (a .0) (a .1 .0) (a .1 .1 .0) (sym p ∙ e) .1 in
-    on-roof (sizes (a .0)) (natAbs (a .1 .0)) (a .1 .1 .0) i
+    let i = answered-so (a .0 .year) (a .0 .building) (a .1 .0) (a .1 .1 .0) (sym p ∙ e) .1 in
+    on-roof (sizes (a .0 .building)) (natAbs (a .1 .0)) (a .1 .1 .0) i
 
 pub walls-cite-their-row : WallsCiteTheirRow
 walls-cite-their-row κ a r s p c e =
-    let i = answered-so (a .0) (a .1 .0) (a .1 .1 .0) (sym p ∙ e) .1 in
-    on-wall (sizes (a .0)) (natAbs (a .1 .0)) (a .1 .1 .0) i
+    let i = answered-so (a .0 .year) (a .0 .building) (a .1 .0) (a .1 .1 .0) (sym p ∙ e) .1 in
+    on-wall (sizes (a .0 .building)) (natAbs (a .1 .0)) (a .1 .1 .0) i
 
-again : (g : Building) (direction : ℤ) (place : ℕ) {c : Cited} → outsideOf g direction place ≡ Answered c
+again : (year : ℤ) (g : Building) (direction : ℤ) (place : ℕ) {c : Cited} → outsideOf year g direction place ≡ Answered c
     → ByHand (tableFor (sizes g) place) (columnFor (sizes g) (natAbs direction) place) c
-again g direction place h =
-    let answered = answered-so g direction place h in
+again year g direction place h =
+    let answered = answered-so year g direction place h in
     let q = answered .0 in
-    let o = in-order g (faultless g direction place q) in
+    let o = in-order year g (faultless year g direction place q .none) in
     rw (coefficient-only (sizes g) o (natAbs direction) place (answered .1))
     (redone (sizes g) o (natAbs direction) place (λ w. needs-roof (g .kind) place w (place-there
     (g .kind) direction place (q .there))))
 
 pub answers-can-be-redone : AnswersCanBeRedone
-answers-can-be-redone κ a r s p c e = again (a .0) (a .1 .0) (a .1 .1 .0) (sym p ∙ e)
+answers-can-be-redone κ a r s p c e = again (a .0 .year) (a .0 .building) (a .1 .0) (a .1 .1 .0) (sym p ∙ e)

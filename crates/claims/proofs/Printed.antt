@@ -43,8 +43,8 @@ use Rattle.worst.specs.Speed.{factorAt, speedAt}
 -- a coefficient's alternatives, in thousandths, with its two rows and the fraction; the number that a building gets;
 -- a face's force in units and in whole newtons; the number and line that a text gets
 pub data Row : Type 0 where
-  gives : Building → (direction place : ℕ) → Values → (lower upper part whole : ℕ) → Row
-  gets : Building → (number : ℕ) → Row
+  gives : (year : ℕ) → Building → (direction place : ℕ) → Values → (lower upper part whole : ℕ) → Row
+  gets : (year : ℕ) → Building → (number : ℕ) → Row
   pushes : (density speed : ℕ) (net area units newtons : ℤ) → Row
   reads : String → (number line : ℕ) → Row
 
@@ -64,9 +64,9 @@ alone density speed net area =
     (record { zone = 65; mark = both; height = pos 0; x = area; y = pos 0; z = pos 0 }) 1
 
 abbrev pub Holds : Row → Type 0
-Holds (gives g direction place values lower upper part whole) = (outsideOf g (pos direction) place
+Holds (gives year g direction place values lower upper part whole) = (outsideOf (pos year) g (pos direction) place
     ≡ Answered (record { values = values; lower = lower; upper = upper; part = part; whole = whole }))
-Holds (gets g number) = (givenFault g ≡ number)
+Holds (gets year g number) = (givenFault (pos year) g ≡ number)
 Holds (pushes density speed net area units whole) =
     (alone density speed net area ≡ units) × (newtons units ≡ whole) × (remainder units ≡ 0)
 Holds (reads text number line) = (verdict (reading (bytes text)) ≡ refusal number line)
@@ -89,19 +89,21 @@ C = 67
 
 abbrev pub printed : List Row
 printed =
-    gives (shed 500 1200 1000 0 0) 0 B (One (m 200)) 1 1 0 1  -- P1
-    ∷ gives (shed 501 1200 1000 0 0) 0 B (One (m 250)) 3 3 0 1  -- P2
-    ∷ gives (shed 500 1500 1000 0 0) 0 C (One (m 500)) 1 1 0 1  -- P3
-    ∷ gives (shed 500 1501 1000 0 0) 0 C (One (m 600)) 2 2 0 1  -- P4
-    ∷ gets (shed 500 1000 1000 0 0) 4  -- P5
-    ∷ gets (shed 500 4000 1000 0 0) 0  -- P6
-    ∷ gets (shed 500 4001 1000 0 0) 4
-    ∷ gets (shed 6000 1200 1000 0 0) 0  -- P7
-    ∷ gets (shed 6001 1200 1000 0 0) 4
-    ∷ gives (shed 500 1200 1000 1 123) 0 E (One (m 1016)) 3 4 23 100  -- P8
-    ∷ gives (shed 500 1200 1000 1 451) 0 E (One (pos 303)) 6 7 1 150  -- P9
-    ∷ gives (shed 500 1200 1000 1 150) 0 E (One (m 800)) 3 4 1 2  -- P10
-    ∷ gives (shed 12000 12000 10000 4 603) 0 L1 (One (m 1499)) 5 6 1 200  -- P11
+    gives 1 (shed 500 1200 1000 0 0) 0 B (One (m 200)) 1 1 0 1  -- P1
+    ∷ gives 1 (shed 501 1200 1000 0 0) 0 B (One (m 250)) 3 3 0 1  -- P2
+    ∷ gives 1 (shed 500 1500 1000 0 0) 0 C (One (m 500)) 1 1 0 1  -- P3
+    ∷ gives 1 (shed 500 1501 1000 0 0) 0 C (One (m 600)) 2 2 0 1  -- P4
+    ∷ gets 1 (shed 500 1000 1000 0 0) 4  -- P5
+    ∷ gets 2 (shed 500 1000 1000 0 0) 4
+    ∷ gives 3 (shed 500 1000 1000 0 0) 0 B (One (m 200)) 1 1 0 1  -- and from year 3 on
+    ∷ gets 1 (shed 500 4000 1000 0 0) 0  -- P6
+    ∷ gets 1 (shed 500 4001 1000 0 0) 4
+    ∷ gets 1 (shed 6000 1200 1000 0 0) 0  -- P7
+    ∷ gets 1 (shed 6001 1200 1000 0 0) 4
+    ∷ gives 1 (shed 500 1200 1000 1 123) 0 E (One (m 1016)) 3 4 23 100  -- P8
+    ∷ gives 1 (shed 500 1200 1000 1 451) 0 E (One (pos 303)) 6 7 1 150  -- P9
+    ∷ gives 1 (shed 500 1200 1000 1 150) 0 E (One (m 800)) 3 4 1 2  -- P10
+    ∷ gives 1 (shed 12000 12000 10000 4 603) 0 L1 (One (m 1499)) 5 6 1 200  -- P11
     ∷ pushes 1250 400 (pos 700) (pos 1000) (pos 140_000_000_000_000) (pos 7000)  -- P12
     ∷ reads "" 1 1
     ∷ reads "B 1\n500 1200 1000 1250 0 0\nW 1\n0 400\nI 1\n0\nF 25\n" 2 7
@@ -120,7 +122,8 @@ unfolding divisorUpTo commonDivisor outsideOf askedOf givenFault buildingFault o
     value readLines walk lineFault inForm hasForm factorAt speedAt
 printed-hold =
     refl and refl and refl and refl  -- P1 to P4
-    and refl and refl and refl and refl and refl  -- P5 to P7
+    and refl and refl and refl  -- P5 in years 1 to 3
+    and refl and refl and refl and refl  -- P6 and P7
     and refl and refl and refl and refl  -- P8 to P11
     and (refl, refl, refl)  -- P12
     and refl and refl and tt

@@ -4,9 +4,8 @@ use mathlib.Core.Bool.{Bool, true, false}
 use mathlib.Core.List.{map}
 use Prim.Native.Nat.{ℕ}
 use native.Mathlib.Omega.{arith}
-use lib.Dec.{T, eqb}
+use lib.Dec.{T}
 use lib.IntN.{ℤ, natAbs}
-use borrow.Author.Tests.{eqb-true, eqb-false}
 use Rattle.whole.proofs.Tests.{by-test}
 use Rattle.verdict.specs.declared.Verdict.{Verdict}
 use Rattle.verdict.specs.Verdict.{refusal}
@@ -14,10 +13,12 @@ use Rattle.building.specs.declared.Building.{Building}
 use Rattle.building.specs.declared.Question.{Question}
 use Rattle.building.specs.declared.Question.the-variants as asked
 use Rattle.building.specs.Question.{askedOf}
-use Rattle.building.specs.Building.{buildingFault, givenFault, sizes}
+use Rattle.building.specs.Building.{givenFault, sizes}
 use Rattle.building.specs.Places.{knows, placeOn}
 use Rattle.building.proofs.Accepted.{in-order, given-none, none-given}
 use Rattle.building.proofs.Judged as judged
+use Rattle.building.proofs.Judged.{InYear}
+use Rattle.building.specs.Year.{isYear, buildingLine}
 use Rattle.job.proofs.Written.{building-given}
 use Rattle.book.specs.declared.Answer as book
 use Rattle.book.specs.declared.Answer.the-variants.{Answered, Refused}
@@ -29,8 +30,8 @@ use Rattle.book.specs.Coefficient.{IsCoefficient}
 use Rattle.book.specs.Question.{outsideOf, net, minus, netCited, tooGreat, netOf}
 use Rattle.book.proofs.Coefficients.{coefficient-unique, outside-is}
 use Rattle.claims.specs.Question.{Judged, not-asked, asked-of}
-use Rattle.job.specs.Carried.{nothing, before}
-use Rattle.claims.specs.Question.{Refusal, bad-building, bad-direction, bad-place, InQuestion, Outside, refused}
+use Rattle.job.specs.Carried.{nothing, withYear, before}
+use Rattle.claims.specs.Question.{InSheet, Refusal, bad-year, bad-building, bad-direction, bad-place, InQuestion, Outside, refused}
 use Rattle.claims.specs.Question.{answered, SameRows, Net, as-outside, bad-internal, less-internal, sheetFault}
 
 -- no test both holds and fails
@@ -60,59 +61,68 @@ same-cited {c} {d} e r =
       whole = r .whole i;
     }
 
-module _ (g : Building) (direction : ℤ) (place : ℕ) where
-  sheet-fault : givenFault g ≡ sheetFault g
-  sheet-fault = building-given g (before nothing)
+module _ (year : ℤ) (g : Building) (direction : ℤ) (place : ℕ) where
+  sheet-fault : givenFault year g ≡ sheetFault year g
+  sheet-fault = building-given g (before (withYear year nothing))
+
+  pub in-year : InSheet year g → InYear year g
+  in-year q = record { is = q .year-is; none = none-given year g (sheet-fault ∙ q .in-order) }
 
   -- a building in question has no fault
-  pub faultless : InQuestion g direction place → buildingFault g ≡ 0
-  faultless q = none-given g (sheet-fault ∙ q .in-order)
+  pub faultless : InQuestion year g direction place → InYear year g
+  faultless q = in-year (q .in-sheet)
 
   -- ---- the refusals come in one order, and not where the question is in order
 
-  refusal-unique : {v w : Verdict} → Refusal g direction place v → Refusal g direction place w → v ≡ w
-  refusal-unique (bad-building p e) (bad-building q f) = ap (λ n. refusal n 2) (sym e ∙ f)
-  refusal-unique (bad-building p e) (bad-direction f h) = absurd (omega arith)
-  refusal-unique (bad-building p e) (bad-place f h i) = absurd (omega arith)
-  refusal-unique (bad-direction e h) (bad-building q f) = absurd (omega arith)
+  refusal-unique : {v w : Verdict} → Refusal year g direction place v → Refusal year g direction place w → v ≡ w
+  refusal-unique (bad-year y) (bad-year z) = refl
+  refusal-unique (bad-year y) (bad-building z q f) = clash z y
+  refusal-unique (bad-year y) (bad-direction f h) = refl
+  refusal-unique (bad-year y) (bad-place f h i) = clash (f .year-is) y
+  refusal-unique (bad-building y p e) (bad-year z) = clash y z
+  refusal-unique (bad-building y p e) (bad-building z q f) = ap (λ n. refusal n (buildingLine year)) (sym e ∙ f)
+  refusal-unique (bad-building y p e) (bad-direction f h) = absurd (omega (arith, f .in-order))
+  refusal-unique (bad-building y p e) (bad-place f h i) = absurd (omega (arith, f .in-order))
+  refusal-unique (bad-direction e h) (bad-year z) = refl
+  refusal-unique (bad-direction e h) (bad-building z q f) = absurd (omega (arith, e .in-order))
   refusal-unique (bad-direction e h) (bad-direction f i) = refl
   refusal-unique (bad-direction e h) (bad-place f i j) = clash i h
-  refusal-unique (bad-place e h i) (bad-building q f) = absurd (omega arith)
+  refusal-unique (bad-place e h i) (bad-year z) = clash (e .year-is) z
+  refusal-unique (bad-place e h i) (bad-building z q f) = absurd (omega (arith, e .in-order))
   refusal-unique (bad-place e h i) (bad-direction f j) = clash h j
   refusal-unique (bad-place e h i) (bad-place f j k) = refl
 
-  not-both : {A : Type 0} {v : Verdict} → Refusal g direction place v → InQuestion g direction place → A
-  not-both (bad-building p e) q = absurd (omega (arith, q .in-order))
+  not-both : {A : Type 0} {v : Verdict} → Refusal year g direction place v → InQuestion year g direction place → A
+  not-both (bad-year y) q = clash (q .in-sheet .year-is) y
+  not-both (bad-building y p e) q = absurd (omega (arith, q .in-sheet .in-order))
   not-both (bad-direction e h) q = clash (q .known) h
   not-both (bad-place e h i) q = clash (q .there) i
 
   -- ---- the question judged
 
-  in-question : buildingFault g ≡ 0 → knows (g .kind) direction ≡ true → placeOn (g .kind) direction place ≡ true
-      → InQuestion g direction place
-  in-question e f h = record { in-order = sym sheet-fault ∙ given-none g e; known = f; there = h }
+  in-sheet : InYear year g → InSheet year g
+  in-sheet e = record { year-is = e .is; in-order = sym sheet-fault ∙ given-none year g (e .none) }
 
   -- the refusal, or that there is none
   judged-so : {P : Type 0}
-      → ((v : Verdict) → Refusal g direction place v → askedOf g direction place ≡ asked.Refused v → P)
-      → (InQuestion g direction place → askedOf g direction place ≡ asked.Of (sizes g) → P) → P
+      → ((v : Verdict) → Refusal year g direction place v → askedOf year g direction place ≡ asked.Refused v → P)
+      → (InQuestion year g direction place → askedOf year g direction place ≡ asked.Of (sizes g) → P) → P
   judged-so bad good =
-      by-test (eqb (givenFault g) 0)
-      (λ e. let none = eqb-true (givenFault g) 0 e in
-      let fine = none-given g none in
-      by-test (knows (g .kind) direction)
+      judged.first-checks year g direction place
+      (λ y. bad _ (bad-year y) (judged.bad-year year g direction place y))
+      (λ y faulty. bad _ (bad-building y (omega arith) (sym sheet-fault))
+      (judged.bad-building year g direction place y faulty))
+      (λ fine. by-test (knows (g .kind) direction)
       (λ f. by-test (placeOn (g .kind) direction place)
-      (λ h. good (in-question fine f h) (judged.in-question g direction place fine f h))
-      (λ h. bad _ (bad-place (sym sheet-fault ∙ none) f h) (judged.bad-place g direction place fine f h)))
-      (λ f. bad _ (bad-direction (sym sheet-fault ∙ none) f) (judged.bad-direction g direction place fine f)))
-      (λ e. let faulty = eqb-false (givenFault g) 0 e in
-      bad _ (bad-building (omega arith) (sym sheet-fault))
-      (judged.bad-building g direction place faulty))
+      (λ h. good (record { in-sheet = in-sheet fine; known = f; there = h })
+      (judged.in-question year g direction place fine f h))
+      (λ h. bad _ (bad-place (in-sheet fine) f h) (judged.bad-place year g direction place fine f h)))
+      (λ f. bad _ (bad-direction (in-sheet fine) f) (judged.bad-direction year g direction place fine f)))
 
-  pub question-judged : Judged g direction place (askedOf g direction place)
+  pub question-judged : Judged year g direction place (askedOf year g direction place)
   question-judged = judged-so (λ v f e. rw e (not-asked f)) (λ q e. rw e (asked-of q))
 
-  pub judged-unique : {r r′ : Question} → Judged g direction place r → Judged g direction place r′ → r ≡ r′
+  pub judged-unique : {r r′ : Question} → Judged year g direction place r → Judged year g direction place r′ → r ≡ r′
   judged-unique (not-asked f) (not-asked h) = ap asked.Refused (refusal-unique f h)
   judged-unique (not-asked f) (asked-of q) = not-both f q
   judged-unique (asked-of q) (not-asked f) = not-both f q
@@ -121,34 +131,34 @@ module _ (g : Building) (direction : ℤ) (place : ℕ) where
   -- ---- the coefficient
 
   outside-by : {P : Type 0}
-      → ((v : Verdict) → Refusal g direction place v → outsideOf g direction place ≡ Refused v → P)
-      → (InQuestion g direction place → (c : Cited) → outsideOf g direction place ≡ Answered c
+      → ((v : Verdict) → Refusal year g direction place v → outsideOf year g direction place ≡ Refused v → P)
+      → (InQuestion year g direction place → (c : Cited) → outsideOf year g direction place ≡ Answered c
       → IsCoefficient (sizes g) (natAbs direction) place c → P) → P
   unfolding outsideOf
   outside-by bad good =
       judged-so (λ v f e. bad v f (rw e))
       (λ q e.
-      let is = outside-is g direction place (faultless q) (q .known) (q .there) in
+      let is = outside-is year g direction place (faultless q) (q .known) (q .there) in
       good q (is .0) (is .1) (is .2))
 
-  pub outside-got : Outside g direction place (outsideOf g direction place)
+  pub outside-got : Outside year g direction place (outsideOf year g direction place)
   outside-got =
-      outside-by (λ v f e. subst (Outside g direction place) (sym e) (refused f))
-      (λ q c e i. subst (Outside g direction place) (sym e) (answered q i))
+      outside-by (λ v f e. subst (Outside year g direction place) (sym e) (refused f))
+      (λ q c e i. subst (Outside year g direction place) (sym e) (answered q i))
 
   -- what is answered is the coefficient, and the question was in order
-  pub answered-so : {c : Cited} → outsideOf g direction place ≡ Answered c
-      → InQuestion g direction place × IsCoefficient (sizes g) (natAbs direction) place c
+  pub answered-so : {c : Cited} → outsideOf year g direction place ≡ Answered c
+      → InQuestion year g direction place × IsCoefficient (sizes g) (natAbs direction) place c
   answered-so {c} h =
       outside-by (λ v f e. let z : _≡_ {A = ℕ} 0 1 = cc in absurd (omega arith))
       (λ q d e i. let same : d ≡ c = cc in (q, subst (IsCoefficient (sizes g) (natAbs direction) place) same i))
 
   -- the coefficient of a question in order is one
-  coefficient-one : {c d : Cited} → InQuestion g direction place → IsCoefficient (sizes g) (natAbs direction) place c
+  coefficient-one : {c d : Cited} → InQuestion year g direction place → IsCoefficient (sizes g) (natAbs direction) place c
       → IsCoefficient (sizes g) (natAbs direction) place d → c ≡ d
-  coefficient-one q = coefficient-unique (sizes g) (in-order g (faultless q)) (natAbs direction) place
+  coefficient-one q = coefficient-unique (sizes g) (in-order year g (faultless q .none)) (natAbs direction) place
 
-  pub outside-unique : {r r′ : book.Answer} → Outside g direction place r → Outside g direction place r′ → r ≡ r′
+  pub outside-unique : {r r′ : book.Answer} → Outside year g direction place r → Outside year g direction place r′ → r ≡ r′
   outside-unique (refused f) (refused h) = ap Refused (refusal-unique f h)
   outside-unique (refused f) (answered q i) = not-both f q
   outside-unique (answered q i) (refused f) = not-both f q
@@ -157,7 +167,7 @@ module _ (g : Building) (direction : ℤ) (place : ℕ) where
   -- ---- the net coefficient
 
   module _ (internal : ℤ) where
-    pub net-got : Net g direction place internal (netOf g direction place internal)
+    pub net-got : Net year g direction place internal (netOf year g direction place internal)
     unfolding netOf
     net-got =
         outside-by (λ v f e. rw e (as-outside f))
@@ -168,7 +178,7 @@ module _ (g : Building) (direction : ℤ) (place : ℕ) where
         record { lower = refl; upper = refl; part = refl; whole = refl } in
         rw (e, t) (less-internal q t i (minus-values internal (c .values)) same)))
 
-    pub net-unique : {r r′ : book.Answer} → Net g direction place internal r → Net g direction place internal r′
+    pub net-unique : {r r′ : book.Answer} → Net year g direction place internal r → Net year g direction place internal r′
         → r ≡ r′
     net-unique (as-outside f) (as-outside h) = ap Refused (refusal-unique f h)
     net-unique (as-outside f) (bad-internal q e) = not-both f q

@@ -1,6 +1,7 @@
 -- The six extremes of an accepted job are what may be shown for it, and nothing else is.
 use mathlib.Core.Path.{_≡_, refl, sym, ap, subst, _∙_}
 use mathlib.Core.Logic.{⊎-elim}
+use mathlib.Core.Bool.{true≢false}
 use mathlib.Core.List.{List, [], _∷_, List·Memᴰ, List·Memᴰ·head, List·Memᴰ·tail, List·Memᴰ·not-nil}
 use mathlib.Core.List.{List·Memᴰ·cases-cons}
 use native.Mathlib.Omega.{arith}
@@ -16,11 +17,13 @@ use Rattle.whole.proofs.ByPlace.{getD-member}
 use Rattle.page.specs.declared.Writing.{Writing}
 use Rattle.page.specs.Writing.{writing, bufferAfter}
 use Rattle.building.specs.declared.Building.{Building}
+use Rattle.building.specs.Year.{hasHeights}
 use Rattle.entry.specs.declared.Wind.{Wind}
 use Rattle.entry.specs.declared.Face.{Face}
 use Rattle.job.specs.Carried.{Carried, noFace}
 use Rattle.job.specs.InOrder.{InOrder, WindInOrder}
 use Rattle.job.specs.Walk.{Reading, Accepted}
+use Rattle.job.proofs.Years.{later-heights}
 use Rattle.sheet.specs.Sheet.{jobWriting, jobBuffer}
 use Rattle.worst.specs.declared.Side.{Side}
 use Rattle.worst.specs.declared.Side.the-variants.{Greatest, Least}
@@ -168,7 +171,7 @@ at-one-factor : (c : Carried) → InOrder c → OneSpeed c → AtOneFactor c
 at-one-factor c o =
     ⊎-elim
     (λ e.
-    ⊎-elim (λ y. first-year c o (y .profile)) (λ y. absurd (omega (arith, ap natAbs (sym e ∙ y .year)))) (o .form))
+    ⊎-elim (λ y. first-year c o (y .profile)) (λ y. absurd (true≢false (sym (later-heights (c .year) (y .year)) ∙ ap hasHeights e))) (o .form))
     (λ s. one-height c o (s .0) (s .1))
 
 -- each wind has its faster one in its own place

@@ -43,22 +43,22 @@ net-values (Refused v) internal e = refl
 
 module _ (c : Carried) (axis : Axis) (w : Wind) (internal : ℤ) where
   outs : Face → List ℤ
-  outs f = valuesOf (outsideOf (c .building) (w .direction) (f .zone))
+  outs f = valuesOf (outsideOf (c .year) (c .building) (w .direction) (f .zone))
 
   module _ (small : natAbs internal ≤ 100) where
     force-acting : (f : Face) (k : ℕ) → acts f (w .direction) ≡ true → 0 < k → k ≤ length (outs f)
         → Force c axis w internal f k (force axis (given c) w internal f k)
     unfolding netOf outs
     force-acting f k e some h =
-        let r = netOf (c .building) (w .direction) (f .zone) internal in
+        let r = netOf (c .year) (c .building) (w .direction) (f .zone) internal in
         let v : valuesOf r ≡ map (λ v. net v internal) (outs f) =
-        net-values (outsideOf (c .building) (w .direction) (f .zone)) internal
+        net-values (outsideOf (c .year) (c .building) (w .direction) (f .zone)) internal
         (not-too-great internal small) in
         let got : getD (valuesOf r) (k - 1) (pos 0) ≡ net (getD (outs f) (k - 1) (pos 0)) internal =
         ap (λ l. getD l (k - 1) (pos 0)) v
         ∙ getD-map (λ v. net v internal) (outs f) (k - 1) (pos 0) (pos 0) (omega arith) in
         rw (e, ← got)
-        (acting e (net-got (c .building) (w .direction) (f .zone) internal) some (rw (v, length-map) h))
+        (acting e (net-got (c .year) (c .building) (w .direction) (f .zone) internal) some (rw (v, length-map) h))
 
     pub force-is : (f : Face) (k : ℕ) → List·Memᴰ k (alternatives (given c) w f)
         → Force c axis w internal f k (force axis (given c) w internal f k)
@@ -85,7 +85,7 @@ module _ (c : Carried) (axis : Axis) (w : Wind) (internal : ℤ) where
   force-unique {f} {k} (acting e n p h) (acting e′ n′ p′ h′) =
       let p = pressure (c .building .density) (faceSpeed (c .profile) w f) in
       ap (λ r. getD (valuesOf r) (k - 1) (pos 0) *ℤ p *ℤ area axis f)
-      (net-unique (c .building) (w .direction) (f .zone) internal n n′)
+      (net-unique (c .year) (c .building) (w .direction) (f .zone) internal n n′)
   force-unique (acting e n p h) (idle e′) = clash e e′
   force-unique (idle e) (acting e′ n p h) = clash e′ e
   force-unique (idle e) (idle e′) = refl

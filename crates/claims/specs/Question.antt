@@ -10,12 +10,13 @@ use Rattle.building.specs.declared.Building.{Building}
 use Rattle.building.specs.declared.Question as asked
 use Rattle.building.specs.declared.Question.the-variants as judged
 use Rattle.building.specs.Building.{sizes}
+use Rattle.building.specs.Year.{isYear, buildingLine}
 use Rattle.building.specs.Places.{knows, placeOn}
 use Rattle.rules.specs.declared.Section.the-variants.{B}
 use Rattle.rules.specs.declared.Kind.the-variants.{Entry}
 use Rattle.rules.specs.Sections.{lineFault}
 use Rattle.entry_written.specs.Fields.{buildingFields}
-use Rattle.job.specs.Carried.{nothing, before}
+use Rattle.job.specs.Carried.{nothing, withYear, before}
 use Rattle.book.specs.declared.Answer as book
 use Rattle.book.specs.declared.Answer.the-variants.{Answered, Refused}
 use Rattle.book.specs.declared.Cited.{Cited}
@@ -23,9 +24,9 @@ use Rattle.book.specs.Answer.{valuesIn}
 use Rattle.book.specs.Coefficient.{IsCoefficient}
 use Rattle.book.specs.Question.{net, tooGreat}
 
--- the number that the building's line would get in its sheet, where it stands on line 2 and nothing is carried yet
-abbrev pub sheetFault : Building → ℕ
-sheetFault g = lineFault (Entry B) (before nothing) (buildingFields g)
+-- the number that the building's line would get in a sheet of that year, where nothing but the year is carried yet
+abbrev pub sheetFault : ℤ → Building → ℕ
+sheetFault year g = lineFault (Entry B) (before (withYear year nothing)) (buildingFields g)
 
 -- the rows and the fraction of two answers are the same
 pub record SameRows (c d : Cited) : Type 0 where
@@ -34,18 +35,26 @@ pub record SameRows (c d : Cited) : Type 0 where
   pub part : c .part ≡ d .part
   pub whole : c .whole ≡ d .whole
 
-module _ (g : Building) (direction : ℤ) (place : ℕ) where
-  -- "the building, with the number and line that its sheet would get; then the direction, 3 with line 0, for locals
-  -- too; then the zone or local, 6 with line 0"
+module _ (year : ℤ) (g : Building) where
+  -- the year is one that there is, and its sheet has no fault at the building's line
+  pub record InSheet : Type 0 where
+    pub year-is : isYear year ≡ true
+    pub in-order : sheetFault year g ≡ 0
+
+module _ (year : ℤ) (g : Building) (direction : ℤ) (place : ℕ) where
+  -- "a year other than 1 to 3 is 3 with line 0, before all else"; "the building, with the number and line that its
+  -- sheet would get; then the direction, 3 with line 0, for locals too; then the zone or local, 6 with line 0"
   pub data Refusal : Verdict → Type 0 where
-    bad-building : {n : ℕ} → 0 < n → sheetFault g ≡ n → Refusal (refusal n 2)
-    bad-direction : sheetFault g ≡ 0 → knows (g .kind) direction ≡ false → Refusal (refusal 3 0)
-    bad-place : sheetFault g ≡ 0 → knows (g .kind) direction ≡ true → placeOn (g .kind) direction place ≡ false
+    bad-year : isYear year ≡ false → Refusal (refusal 3 0)
+    bad-building : {n : ℕ} → isYear year ≡ true → 0 < n → sheetFault year g ≡ n
+        → Refusal (refusal n (buildingLine year))
+    bad-direction : InSheet year g → knows (g .kind) direction ≡ false → Refusal (refusal 3 0)
+    bad-place : InSheet year g → knows (g .kind) direction ≡ true → placeOn (g .kind) direction place ≡ false
         → Refusal (refusal 6 0)
 
   -- none of these
   pub record InQuestion : Type 0 where
-    pub in-order : sheetFault g ≡ 0
+    pub in-sheet : InSheet year g
     pub known : knows (g .kind) direction ≡ true
     pub there : placeOn (g .kind) direction place ≡ true
 
@@ -71,27 +80,31 @@ module _ (g : Building) (direction : ℤ) (place : ℕ) where
 
 -- ---- from C
 
--- the arguments: h, a, b, density, kind, x, direction, place, and then the rest
+-- the arguments: year, h, a, b, density, kind, x, direction, place, and then the rest
 abbrev pub HostQuestion : Type 0 → Type 0
-HostQuestion Rest = ℤ × (ℤ × (ℤ × (ℤ × (ℤ × (ℤ × (ℤ × (ℕ × Rest)))))))
+HostQuestion Rest = ℤ × (ℤ × (ℤ × (ℤ × (ℤ × (ℤ × (ℤ × (ℤ × (ℕ × Rest))))))))
 
 module _ {Rest : Type 0} where
+  abbrev pub yearIn : HostQuestion Rest → ℤ
+  yearIn a = a .0
+
   abbrev pub buildingIn : HostQuestion Rest → Building
   buildingIn a =
+      let b = a .1 in
       record {
-        h = a .0;
-        a = a .1 .0;
-        b = a .1 .1 .0;
-        density = a .1 .1 .1 .0;
-        kind = a .1 .1 .1 .1 .0;
-        x = a .1 .1 .1 .1 .1 .0;
+        h = b .0;
+        a = b .1 .0;
+        b = b .1 .1 .0;
+        density = b .1 .1 .1 .0;
+        kind = b .1 .1 .1 .1 .0;
+        x = b .1 .1 .1 .1 .1 .0;
       }
 
   abbrev pub directionIn : HostQuestion Rest → ℤ
-  directionIn a = a .1 .1 .1 .1 .1 .1 .0
+  directionIn a = a .1 .1 .1 .1 .1 .1 .1 .0
 
   abbrev pub placeIn : HostQuestion Rest → ℕ
-  placeIn a = a .1 .1 .1 .1 .1 .1 .1 .0
+  placeIn a = a .1 .1 .1 .1 .1 .1 .1 .1 .0
 
   abbrev pub restIn : HostQuestion Rest → Rest
-  restIn a = a .1 .1 .1 .1 .1 .1 .1 .1
+  restIn a = a .1 .1 .1 .1 .1 .1 .1 .1 .1

@@ -19,7 +19,7 @@ module _ (c : Carried) (axis : Axis) (w : Wind) (internal : ℤ) where
   -- "A face's force on an axis is net coefficient × P × projected area": at its alternative k, from 1
   pub data Force (f : Face) : ℕ → ℤ → Type 0 where
     acting : {k : ℕ} {r : book.Answer} → acts f (w .direction) ≡ true
-        → Net (c .building) (w .direction) (f .zone) internal r → 0 < k → k ≤ length (valuesOf r)
+        → Net (c .year) (c .building) (w .direction) (f .zone) internal r → 0 < k → k ≤ length (valuesOf r)
         → Force f k (getD (valuesOf r) (k - 1) (pos 0) *ℤ pressure (c .building .density) (faceSpeed (c .profile) w f)
         *ℤ area axis f)
     -- "A face marked for one wind direction adds nothing under the other and has one alternative there, number 1."

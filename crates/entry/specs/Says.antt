@@ -1,13 +1,12 @@
 -- What a field says, as a number, a letter or a mark; and what the fields of a line say, as an entry.
 use Prim.Native.Nat.{ℕ}
-use mathlib.Core.Bool.{Bool, true, false, cond, not}
+use mathlib.Core.Bool.{Bool, true, false, cond}
 use mathlib.Core.List.{List}
 use lib.ListN.{getD}
 use lib.IntN.{ℤ, pos, negℤ}
 use Rattle.field.specs.declared.Field.{Field}
 use Rattle.field.specs.declared.Field.the-variants.{Bad, Plus, Minus, Letter, Dash}
 use Rattle.building.specs.declared.Building.{Building}
-use Rattle.building.specs.Test.{is}
 use Rattle.entry.specs.declared.Wind.{Wind}
 use Rattle.entry.specs.declared.Step.{Step}
 use Rattle.entry.specs.declared.Face.{Face}
@@ -69,10 +68,6 @@ abbrev pub internalOf : List Field → ℤ
 internalOf fs = number (at fs 0)
 
 -- ---- the year, and what goes by it
-
--- a sheet of any year but the first has a profile, and a height on each face line
-abbrev pub hasHeights : ℤ → Bool
-hasHeights year = not (is (pos 1) year)
 
 abbrev pub yearOf : List Field → ℤ
 yearOf fs = number (at fs 0)

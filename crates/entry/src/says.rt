@@ -9,7 +9,7 @@ use lines::Line;
 ghost use mathlib.Core.Path.{_≡_};
 ghost use Rattle.lines.specs.Held.{held};
 ghost use Rattle.entry.specs.Says.{number, size, letter, isDash, mark, at, buildingOf, windOf, internalOf};
-ghost use Rattle.entry.specs.Says.{hasHeights, yearOf, stepOf, faceOf, carriedFace};
+ghost use Rattle.entry.specs.Says.{yearOf, stepOf, faceOf, carriedFace};
 
 pub fn number_of(f: Field) -> i64
     ensures { λ r. ⌜ r ≡ number f ⌝ }
@@ -153,18 +153,6 @@ pub fn face_of(heights: bool, x: Line) -> Face
         y: number_at(x, 3),
         z: number_at(x, 4),
     }
-}
-
-// ---- the year
-
-// Every year but the first has a profile, and a height for each face.
-pub fn has_heights(year: i64) -> bool
-    ensures { λ r. ⌜ r ≡ hasHeights year ⌝ }
-{
-    if year == 1 {
-        return false;
-    }
-    true
 }
 
 // A face as a sheet carries it, with heights or without.

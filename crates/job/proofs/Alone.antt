@@ -21,7 +21,8 @@ use Rattle.job.specs.Carried.{Carried, noWind, noStep, noFace, highestOf
 use Rattle.job.specs.Judging.{Alike}
 use Rattle.rules.specs.declared.Before.{Before}
 use Rattle.entry.specs.declared.Face.{Face}
-use Rattle.entry.specs.Says.{hasHeights, carriedFace}
+use Rattle.building.specs.Year.{hasHeights}
+use Rattle.entry.specs.Says.{carriedFace}
 use Rattle.rules.specs.Sections.{about, sections, lineFault}
 use Rattle.entry_written.specs.Fields.{yearFields, buildingFields, windFields, internalFields, stepFields, faceFields}
 use Rattle.job.specs.Lines.{entriesOf, sectionOf}

@@ -22,6 +22,7 @@ use Rattle.rules.specs.declared.Section.the-variants.{«V», B, W, I, P, F}
 use Rattle.rules.specs.declared.Kind.{Kind}
 use Rattle.rules.specs.declared.Kind.the-variants.{Count, Entry}
 use Rattle.job.specs.Carried.{Carried, nothing, before}
+use Rattle.building.specs.Year.{hasHeights}
 use Rattle.entry.specs.Says as say
 use Rattle.entry.specs.Says.{at}
 use Rattle.rules.specs.Form.{numberForms}
@@ -53,7 +54,7 @@ face-form : (b : Before) {x : List Field} → AllFormed (formsBy b (Entry F)) x
     → not (among A H (say.letter (at x 0))) ≡ false → LineInForm x
 face-form b (more (letter {b = l}) (more m a)) e =
     let t = among-yes A H l (not-false _ e) in
-    (omega arith, ((t .0, omega (arith, t .1)), (mark-form m, numbers-form (cond (say.hasHeights (b .year)) 4 3) a)))
+    (omega arith, ((t .0, omega (arith, t .1)), (mark-form m, numbers-form (cond (hasHeights (b .year)) 4 3) a)))
 
 some-number : (n : ℕ) {fs : List Field} → AllFormed (numberForms (suc n)) fs → LineInForm fs
 some-number n (more h a) = (omega arith, numbers-form (suc n) (more h a))

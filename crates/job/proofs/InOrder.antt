@@ -32,8 +32,9 @@ use Rattle.entry.specs.declared.Wind.{Wind}
 use Rattle.entry.specs.declared.Step.{Step}
 use Rattle.entry.specs.declared.Face.{Face}
 use Rattle.job.specs.Carried.{Carried, nothing, lastHeight, highestOf, before}
-use Rattle.entry.specs.Says.{both, hasHeights, windOf, internalOf, stepOf, faceOf, carriedFace}
-use Rattle.rules.specs.Faults.{windFaults, stepFaults, unmarkedWall, offProfile, faceFaults}
+use Rattle.building.specs.Year.{lastYear, hasHeights}
+use Rattle.entry.specs.Says.{both, windOf, internalOf, stepOf, faceOf, carriedFace}
+use Rattle.rules.specs.Faults.{yearFaults, windFaults, stepFaults, unmarkedWall, offProfile, faceFaults}
 use Rattle.rules.specs.Sections.{about, forms, lineFault}
 use Rattle.rules.proofs.Form.{AllFormed}
 use Rattle.rules.proofs.Rising.{found-none}
@@ -47,15 +48,12 @@ use Rattle.job.proofs.Walk.{learnAll, EntriesInOrder, Apart, entries-fo
 use Rattle.job.proofs.Sheet.{Called, saidBy, readBefore, SheetInOrder, in-order-all, all-in-order}
 use Rattle.job.proofs.Sheet.{sheet-accepted, accepted-sheet}
 use Rattle.job.proofs.Lines.{small-short, step-back}
-use Rattle.job.proofs.Years.{later-heights, in-order-year, last-height}
+use Rattle.job.proofs.Years.{between, later-heights, in-order-year, last-height}
 use Rattle.job.proofs.RoundTrip.{said-year, said-back}
 use Rattle.job.proofs.Written.{markTooLong, year-given, building-given, wind-given, internal-given, step-given}
 use Rattle.job.proofs.Written.{any, long, face-given}
 
 -- ---- an entry is in order exactly if none of its faults is found
-
-between : (least greatest z : ℤ) → beyond least greatest z ≡ false → Limited least greatest z
-between least greatest z e = let t = not-beyond least greatest z e in record { low = t .0; high = t .1 }
 
 abbrev NoneFound : List Fault → Type 0
 NoneFound fs = Every (λ (f : Fault). f .found ≡ false) fs
@@ -202,7 +200,7 @@ module _ (es : Section → List (List Field)) where
       let b = before (saidBy es h) in
       record {
         building =
-            found-none (faults (b .building))
+            found-none (faults (b .year) (b .building))
             (in-order (Entry B) b _
             (every-at _ (es B) [] 0 (omega (arith, o .counted B tt .low)) (in-order-all es o B tt tt)) .none);
         winds-counted = counted-map windOf (es W) (o .counted W tt);
@@ -343,9 +341,14 @@ module _ (c : Carried) (o : InOrder c) where
   line-in-order : (s : Section) → Called h s → Apart s
       → Every (λ x. lineFault (Entry s) (before c) x ≡ 0) (entriesOf c s)
   line-in-order «V» k a =
-      let e = ap (λ (y : ℤ). lineFault (Entry «V») (before c) (yearFields y)) (later k .year) in
-      (e ∙ year-given (before c) (pos 2) ∙ rw (small-short (pos 2) (omega arith)), tt)
-  line-in-order B k a = (sym (building-given (c .building) (before c)) ∙ given-none (c .building) (o .building), tt)
+      let y = later k .year in (
+        year-given (before c) (c .year)
+            ∙ rw (range-short 2 lastYear (c .year) (omega arith) y)
+            (found-none (yearFaults (c .year)) (is-within (pos 2) (pos lastYear) (c .year) (y .low) (y .high), tt)),
+        tt,
+      )
+  line-in-order B k a =
+      (sym (building-given (c .building) (before c)) ∙ given-none (c .year) (c .building) (o .building), tt)
   line-in-order W k a = map-every _ windFields (c .winds) (every-by (wind-entry (before c)) (c .winds) (o .winds))
   line-in-order I k a =
       map-every _ internalFields (c .internals) (every-by (internal-entry (before c)) (c .internals) (o .internals))

@@ -6,6 +6,7 @@ use mathlib.Core.Bool.{Bool, true, false, cond}
 use native.Mathlib.Numerals.{add-one}
 use native.Mathlib.Omega.{arith}
 use lib.Dec.{eqb, ltb}
+use lib.IntN.{ℤ}
 use lib.ListN.{length, take, drop, drop-of-length-le}
 use lib.Seq.{take-suc, drop-cons}
 use borrow.Author.Tests.{eqb-true, eqb-false, ltb-true, ltb-false}
@@ -15,17 +16,19 @@ use Rattle.verdict.specs.declared.Verdict.{Verdict}
 use Rattle.verdict.specs.Verdict.{accepted, Refuses}
 use Rattle.field.specs.declared.Field.{Field}
 use Rattle.rules.specs.declared.Section.{Section}
-use Rattle.rules.specs.declared.Section.the-variants.{«V», W, P, F}
+use Rattle.rules.specs.declared.Section.the-variants.{«V», B, W, P, F}
 use Rattle.rules.specs.declared.Kind.{Kind}
 use Rattle.rules.specs.declared.Kind.the-variants.{Count, Entry}
 use Rattle.rules.specs.declared.Before.{Before}
 use Rattle.building.specs.declared.Building.{Building}
 use Rattle.building.specs.Fault.{first}
+use Rattle.building.specs.Building.{faults}
 use Rattle.rules.specs.Faults.{windFaults}
 use Rattle.rules.specs.Form.{inForm, numberForms}
 use Rattle.rules.specs.Sections.{sections, sectionAt, forms, formsBy, lineFault}
 use Rattle.rules.proofs.Form.{AllFormed}
-use Rattle.entry.specs.Says.{hasHeights, windOf, internalOf, stepOf, faceOf}
+use Rattle.building.specs.Year.{hasHeights}
+use Rattle.entry.specs.Says.{buildingOf, windOf, internalOf, stepOf, faceOf}
 use Rattle.entry_written.specs.Fields.{windFields, internalFields, stepFields, faceFields}
 use Rattle.job.specs.declared.Job.{Job}
 use Rattle.job.specs.Carried.{Carried, nothing, withYear, withBuilding, withWinds, withInternals, withProfile}
@@ -175,6 +178,11 @@ module _ (j : Job) where
   -- what the sections before one carry judges its entries as b does, which has all but perhaps the profile
   module _ (b : Before) (by-year : b .year ≡ j .year) (by-building : b .building ≡ j .building)
       (by-all : length (es P) ≤ 16 → b ≡ before (carried j)) where
+    building-alike : (d : Carried) → d .year ≡ carried j .year → Alike B b d
+    unfolding lineFault carried
+    building-alike d e x =
+        ap (λ (y : ℤ). cond (inForm (numberForms 6) x) (first (faults y (buildingOf x))) 1) (e ∙ sym by-year)
+
     winds-alike : (d : Carried) → d .building ≡ carried j .building → Alike W b d
     unfolding lineFault carried
     winds-alike d e x =
@@ -186,14 +194,14 @@ module _ (j : Job) where
         → JudgesAs (sectionAt h i) b (carriedIn (take i (sections h)) (carried j))
     unfolding lineFault
     judges-as true e zero h few = λ x. refl
-    judges-as true e (suc zero) h few = λ x. refl
+    judges-as true e (suc zero) h few = building-alike (carriedIn (take 1 (sections true)) (carried j)) refl
     judges-as true e (suc (suc zero)) h few = winds-alike (carriedIn (take 2 (sections true)) (carried j)) refl
     judges-as true e (suc (suc (suc zero))) h few = λ x. refl
     judges-as true e (suc (suc (suc (suc zero)))) h few = refl
     judges-as true e (suc (suc (suc (suc (suc zero))))) h few =
         λ x. ap (λ (d : Before). lineFault (Entry F) d x) (sym (by-all (few (omega arith))))
     judges-as true e (suc (suc (suc (suc (suc (suc i)))))) h few = absurd (omega arith)
-    judges-as false e zero h few = λ x. refl
+    judges-as false e zero h few = building-alike nothing (sym (carried-year j e .year))
     judges-as false e (suc zero) h few = winds-alike (carriedIn (take 1 (sections false)) (carried j)) refl
     judges-as false e (suc (suc zero)) h few = λ x. refl
     judges-as false e (suc (suc (suc zero))) h few =

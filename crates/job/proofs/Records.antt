@@ -13,7 +13,8 @@ use Rattle.field.specs.declared.Field.{Field}
 use Rattle.job.specs.declared.Job.{Job}
 use Rattle.job.specs.Carried.{Carried, noWind, noStep, noFace, carried, recorded, SameJob}
 use Rattle.entry.specs.declared.Face.{Face}
-use Rattle.entry.specs.Says.{hasHeights, carriedFace}
+use Rattle.building.specs.Year.{hasHeights}
+use Rattle.entry.specs.Says.{carriedFace}
 use Rattle.job.specs.Lines.{linesOf}
 use Rattle.job.specs.Walk.{Accepted, readLines, judged}
 use Rattle.job.specs.InOrder.{OfYear1, OfLaterYear, InOrder}

@@ -5,11 +5,9 @@ use mathlib.Core.List.{List, [], _∷_, _++_, map}
 use native.Mathlib.Omega.{arith}
 use lib.IntN.{pos}
 use lib.ListN.{length, getD}
-use borrow.Author.Tests.{not-false}
 use Rattle.whole.specs.Lists.{Every}
 use Rattle.whole.proofs.Lists.{every-by, every-map, every-at, map-back, only-one}
 use Rattle.field.specs.declared.Field.{Field}
-use Rattle.building.proofs.Machine.{is-same}
 use Rattle.rules.specs.declared.FieldForm.{FieldForm}
 use Rattle.rules.specs.declared.Section.{Section}
 use Rattle.rules.specs.declared.Section.the-variants.{«V», B, W, I, P, F}
@@ -17,7 +15,9 @@ use Rattle.rules.specs.declared.Kind.the-variants.{Entry}
 use Rattle.entry.specs.declared.Face.{Face}
 use Rattle.job.specs.declared.Job.{Job}
 use Rattle.job.specs.Carried.{Carried, carried}
-use Rattle.entry.specs.Says.{hasHeights, yearOf, buildingOf, windOf, internalOf, stepOf, faceOf, carriedFace}
+use Rattle.job.specs.InOrder.{Limited}
+use Rattle.building.specs.Year.{lastYear, hasHeights}
+use Rattle.entry.specs.Says.{yearOf, buildingOf, windOf, internalOf, stepOf, faceOf, carriedFace}
 use Rattle.rules.specs.Form.{numberForms}
 use Rattle.rules.specs.Sections.{sections, forms}
 use Rattle.entry_written.specs.Fields.{yearFields, buildingFields, windFields, internalFields, stepFields, faceFields}
@@ -26,7 +26,7 @@ use Rattle.job.specs.Walk.{Accepted, readLines, judged}
 use Rattle.rules.proofs.Form.{AllFormed}
 use Rattle.rules.proofs.Line.{in-order}
 use Rattle.job.proofs.Walk.{entries-formed}
-use Rattle.job.proofs.Years.{later-heights, OfItsYear, carried-year, faces-kept}
+use Rattle.job.proofs.Years.{between, later-heights, OfItsYear, carried-year, faces-kept}
 use Rattle.job.proofs.Sheet.{Called, saidBy, readBefore, SheetInOrder, in-order-all, sheet-in-order, sheet-said}
 use Rattle.job.proofs.Sheet.{accepted-sheet}
 use Rattle.job.proofs.Lines.{year-again, building-again, wind-again, internal-again, step-again, face-again}
@@ -47,10 +47,10 @@ sheets-alike es fs false e =
     sections-alike es fs (sections false) (e B tt, (e W tt, (e I tt, (e F tt, tt))))
 
 module _ (es : Section → List (List Field)) where
-  pub said-year : SheetInOrder es true → saidBy es true .year ≡ pos 2
+  pub said-year : SheetInOrder es true → Limited (pos 2) (pos lastYear) (saidBy es true .year)
   said-year o =
       let z = every-at _ (es «V») [] 0 (omega (arith, o .counted «V» tt .low)) (in-order-all es o «V» tt tt) in
-      is-same (pos 2) (yearOf (getD (es «V») 0 [])) (not-false _ (in-order (Entry «V») _ _ z .none .0))
+      between (pos 2) (pos lastYear) _ (in-order (Entry «V») _ _ z .none .0)
 
   -- the year that is said has heights exactly if the sheet has them
   said-heights : (h : Bool) → SheetInOrder es h → hasHeights (saidBy es h .year) ≡ h

@@ -15,7 +15,8 @@ use Rattle.rules.specs.declared.Section.{Section}
 use Rattle.rules.specs.declared.Section.the-variants.{«V», B, W, I, P, F}
 use Rattle.rules.specs.declared.Kind.the-variants.{Count, Entry}
 use Rattle.rules.specs.Sections.{sections, lineFault}
-use Rattle.entry.specs.Says.{hasHeights, yearOf, buildingOf, windOf, internalOf, stepOf, faceOf}
+use Rattle.building.specs.Year.{hasHeights}
+use Rattle.entry.specs.Says.{yearOf, buildingOf, windOf, internalOf, stepOf, faceOf}
 use Rattle.job.specs.Carried.{Carried, nothing, withYear, withBuilding, withWinds, withInternals, withProfile}
 use Rattle.job.specs.Carried.{withFaces, before}
 use Rattle.job.specs.Lines.{sectionOf, sectionsOf, sheetOf}
@@ -207,12 +208,13 @@ module _ (es : Section → List (List Field)) where
       let o = sections-in-order (sections h) nothing e 1 (rw (opens h) at a) in
       record { counted = counted-in h o; entries = entries-in h o }
 
-  -- the sections behind tell one nothing, and the building's line is judged by itself
+  -- the sections behind tell one nothing
   behind-tell : (h : Bool) (s : Section) → Called h s → Apart s → (x : List Field)
       → lineFault (Entry s) (before (readBefore h s)) x ≡ lineFault (Entry s) (before (saidBy h)) x
   unfolding lineFault
   behind-tell h «V» k a x = refl
-  behind-tell h B k a x = refl
+  behind-tell true B k a x = refl
+  behind-tell false B k a x = refl
   behind-tell true W k a x = refl
   behind-tell false W k a x = refl
   behind-tell h I k a x = refl

@@ -22,7 +22,8 @@ use Rattle.rules.specs.declared.Kind.the-variants.{Entry}
 use Rattle.entry.specs.declared.Wind.{Wind}
 use Rattle.entry.specs.declared.Step.{Step}
 use Rattle.entry.specs.declared.Face.{Face}
-use Rattle.entry.specs.Says.{both, hasHeights, carriedFace}
+use Rattle.building.specs.Year.{hasHeights}
+use Rattle.entry.specs.Says.{both, carriedFace}
 use Rattle.rules.specs.Form.{isNumber, hasForm, inForm, numberForms}
 use Rattle.rules.specs.Faults.{yearFaults, windFaults, internalFaults, stepFaults, faceFaults}
 use Rattle.rules.specs.Sections.{forms, formsBy, faultsOf, lineFault}
@@ -84,10 +85,10 @@ given-by k b fs ts n e h =
     (λ q. let y = e ∙ none-any ts ∙ ap not q in fault-in k b fs y ∙ h y ∙ rw q)
 
 -- the building of a record has the fault of its line
-pub building-given : (g : Building) (b : Before) → givenFault g ≡ lineFault (Entry B) b (buildingFields g)
+pub building-given : (g : Building) (b : Before) → givenFault (b .year) g ≡ lineFault (Entry B) b (buildingFields g)
 unfolding givenFault outOfForm buildingFault inForm
 building-given g b =
-    sym (given-by (Entry B) b (buildingFields g) long (first (faults g))
+    sym (given-by (Entry B) b (buildingFields g) long (first (faults (b .year) g))
     (rw (
       number-form (g .h),
       number-form (g .a),
@@ -97,7 +98,7 @@ building-given g b =
       number-form (g .x),
     ))
     (λ e.
-    ap (λ (h : Building). first (faults h)) (building-back g (in-formed (numberForms 6) (buildingFields g) e))))
+    ap (λ (h : Building). first (faults (b .year) h)) (building-back g (in-formed (numberForms 6) (buildingFields g) e))))
   where
     long : List Bool
     long =

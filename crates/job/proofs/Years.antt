@@ -1,26 +1,37 @@
 -- Laws of the year: what a sheet of year 1 does not carry, and the heights of the profile of a later one.
 use Prim.Native.Nat.{ℕ, zero, suc}
-use mathlib.Core.Path.{_≡_, refl, ap₂, _∙_, sym}
+use mathlib.Core.Path.{_≡_, refl, ap, ap₂, _∙_, sym}
 use mathlib.Core.Logic.{⊎-elim}
-use mathlib.Core.Bool.{Bool, true, false, true≢false}
+use mathlib.Core.Bool.{Bool, true, false, not, true≢false}
 use mathlib.Core.List.{List, [], _∷_, _++_, map}
-use lib.IntN.{ℤ, pos}
+use lib.IntN.{ℤ, pos, negsuc}
 use lib.ListN.{getD}
-use borrow.Author.Tests.{not-false}
+use native.Mathlib.Omega.{arith}
+use borrow.Author.Tests.{not-false, ne-eqb}
+use lib.Signed.{leZ-yes}
+use Rattle.whole.proofs.Parts.{le-at}
+use Rattle.whole.proofs.Order.{≤ℤ-trans}
 use Rattle.whole.specs.Lists.{firstOf, Every}
+use Rattle.building.specs.Test.{beyond}
+use Rattle.building.proofs.Ranges.{not-beyond, is-within}
 use Rattle.building.proofs.Machine.{is-same}
 use Rattle.entry.specs.declared.Step.{Step}
 use Rattle.entry.specs.declared.Face.{Face}
-use Rattle.entry.specs.Says.{hasHeights, carriedFace}
+use Rattle.building.specs.Year.{lastYear, isYear, hasHeights}
+use Rattle.entry.specs.Says.{carriedFace}
 use Rattle.job.specs.declared.Job.{Job}
 use Rattle.job.specs.Carried.{Carried, noStep, noFace, lowestOf, lastHeight, carried}
-use Rattle.job.specs.InOrder.{OfYear1, InOrder}
+use Rattle.job.specs.InOrder.{Limited, OfYear1, InOrder}
+
+pub between : (least greatest z : ℤ) → beyond least greatest z ≡ false → Limited least greatest z
+between least greatest z e = let t = not-beyond least greatest z e in record { low = t .0; high = t .1 }
 
 pub year-1 : (y : ℤ) → hasHeights y ≡ false → y ≡ pos 1
 year-1 y e = is-same (pos 1) y (not-false _ e)
 
-pub later-heights : (y : ℤ) → y ≡ pos 2 → hasHeights y ≡ true
-later-heights y e = rw e
+pub later-heights : (y : ℤ) → Limited (pos 2) (pos lastYear) y → hasHeights y ≡ true
+later-heights (pos n) w = rw (ne-eqb n 1 (λ e. absurd (omega (arith, le-at _ _ (w .low)))))
+later-heights (negsuc n) w = refl
 
 -- ---- a sheet of year 1 carries no profile and no heights
 
@@ -30,6 +41,14 @@ OfItsYear c = hasHeights (c .year) ≡ false → OfYear1 c
 pub in-order-year : (c : Carried) → InOrder c → OfItsYear c
 in-order-year c o e =
     ⊎-elim (λ y. y) (λ l. absurd (true≢false (sym (later-heights (c .year) (l .year)) ∙ e))) (o .form)
+
+-- its year is one that there is
+pub year-is : (c : Carried) → InOrder c → isYear (c .year) ≡ true
+unfolding beyond
+year-is c o =
+    ⊎-elim (λ y. rw (y .year))
+    (λ l. ap not (is-within (pos 1) (pos lastYear) (c .year) (≤ℤ-trans (leZ-yes tt) (l .year .low)) (l .year .high)))
+    (o .form)
 
 low-faces : (l : List Face) → Every (λ f. f .height ≡ pos 0) (map (carriedFace false) l)
 low-faces [] = tt

@@ -11,6 +11,7 @@ use lib.Signed.{_≤ℤ_, _<ℤ_}
 use Rattle.whole.specs.Lists.{Every}
 use Rattle.building.specs.declared.Building.{Building}
 use Rattle.building.specs.Building.{buildingFault}
+use Rattle.building.specs.Year.{lastYear}
 use Rattle.building.specs.Test.{oneOf}
 use Rattle.building.specs.Places.{A, H, single, zoneOn, wallDirections, knows, wallPlace}
 use Rattle.entry.specs.declared.Wind.{Wind}
@@ -73,14 +74,14 @@ pub record OfYear1 (c : Carried) : Type 0 where
 
 -- a later year carries a profile, and a height within it for each face
 pub record OfLaterYear (c : Carried) : Type 0 where
-  pub year : c .year ≡ pos 2
+  pub year : Limited (pos 2) (pos lastYear) (c .year)
   pub counted : Within 1 16 (length (c .profile))
   pub profile : Every StepInOrder (c .profile)
   pub rising : Climbs (negℤ (pos 1)) (c .profile)
   pub heights : Every (λ f. HeightInOrder (c .profile) (f .height)) (c .faces)
 
 pub record InOrder (c : Carried) : Type 0 where
-  pub building : buildingFault (c .building) ≡ 0
+  pub building : buildingFault (c .year) (c .building) ≡ 0
   pub winds-counted : Within 1 8 (length (c .winds))
   pub winds : Every (WindInOrder (c .building)) (c .winds)
   pub internals-counted : Within 1 4 (length (c .internals))

@@ -8,7 +8,7 @@ use Rattle.field.specs.declared.Field.the-variants.{Plus, Letter}
 use Rattle.rules.specs.declared.Section.{Section}
 use Rattle.rules.specs.declared.Section.the-variants.{«V», B, W, I, P, F}
 use Rattle.job.specs.Carried.{Carried}
-use Rattle.entry.specs.Says.{hasHeights}
+use Rattle.building.specs.Year.{hasHeights}
 use Rattle.entry_written.specs.Fields.{yearFields, buildingFields, windFields, internalFields, stepFields, faceFields}
 use Rattle.rules.specs.Sections.{about, sections}
 

@@ -10,7 +10,8 @@ use Rattle.rules.specs.declared.Section.{Section}
 use Rattle.rules.specs.declared.Section.the-variants.{«V», B, W, I, P, F}
 use Rattle.rules.specs.declared.Kind.{Kind}
 use Rattle.rules.specs.declared.Kind.the-variants.{Count, Entry}
-use Rattle.entry.specs.Says.{letter, size, at, hasHeights, yearOf, buildingOf, windOf, internalOf, stepOf, faceOf}
+use Rattle.building.specs.Year.{hasHeights}
+use Rattle.entry.specs.Says.{letter, size, at, yearOf, buildingOf, windOf, internalOf, stepOf, faceOf}
 use Rattle.job.specs.declared.Job.{Job}
 use Rattle.job.specs.Carried.{Carried, nothing, withYear, withBuilding, withWinds, withInternals, withProfile}
 use Rattle.job.specs.Carried.{withFaces, before, carried}

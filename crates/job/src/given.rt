@@ -1,12 +1,13 @@
 // The fault of a count or an entry of a job given as a record, as its line would get it: a number too long is out of
 // form.
+use building::Dated;
 use building::limits::too_long;
+use building::year::has_heights;
 use entry::BOTH;
 use entry::Face;
 use entry::Step;
 use entry::Wind;
 use entry::says::carried_face;
-use entry::says::has_heights;
 use field::Field;
 use rules::Before;
 use rules::Kind;
@@ -18,9 +19,10 @@ ghost use mathlib.Core.Bool.{false, cond, not, _&&_, _||_};
 ghost use mathlib.Core.List.{[], _∷_};
 ghost use Rattle.building.specs.Test.{is, tooLong};
 ghost use lib.IntN.{ℤ};
-ghost use Rattle.entry.specs.Says.{both, hasHeights};
+ghost use Rattle.building.specs.Year.{hasHeights};
+ghost use Rattle.entry.specs.Says.{both};
 ghost use Rattle.rules.specs.Sections.{about, lineFault};
-ghost use Rattle.entry_written.specs.Fields.{yearFields, windFields, internalFields, stepFields, faceFields};
+ghost use Rattle.entry_written.specs.Fields.{yearFields, buildingFields, windFields, internalFields, stepFields, faceFields};
 
 pub(crate) fn count_fault(s: Section, n: u32) -> u32
     ensures { λ r. ⌜ ((b : Before)
@@ -57,6 +59,15 @@ pub(crate) fn year_fault(year: i64) -> u32
 {
     let long = too_long(year);
     in_form(long, false, false, false, false, entries::year_fault(year))
+}
+
+// The building, by the year that was read before it.
+pub(crate) fn building_fault(b: Before) -> u32
+    ensures { λ r. ⌜ r ≡ lineFault (Kind.Entry Section.B) b (buildingFields (b .building)) ⌝ }
+{
+    let year = b.year;
+    let building = b.building;
+    building::given_fault(Dated { year, building })
 }
 
 pub(crate) fn wind_fault(b: Before, w: Wind) -> u32

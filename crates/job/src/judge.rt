@@ -4,7 +4,7 @@ use crate::entry_count;
 use crate::given;
 use crate::heights::before_faces;
 use crate::heights::highest_of;
-use entry::says::has_heights;
+use building::year::has_heights;
 use rules::Before;
 use rules::Kind;
 use rules::Section;
@@ -39,7 +39,7 @@ fn judge_section(j: Job, s: Section, b: Before, line: u32) -> Verdict
         let k = i as usize;
         let number = match s {
             Section::V => given::year_fault(b.year),
-            Section::B => building::given_fault(b.building),
+            Section::B => given::building_fault(b),
             Section::W => {
                 let w = winds.entry[k];
                 given::wind_fault(b, w)

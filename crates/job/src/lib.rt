@@ -1,9 +1,9 @@
 // The job: a year, and a building with its winds, internal coefficients, profile and faces, as a record by value.
 use building::Building;
+use building::year::has_heights;
 use entry::Face;
 use entry::Step;
 use entry::Wind;
-use entry::says::has_heights;
 use rules::Section;
 ghost use mathlib.Core.Path.{_≡_};
 ghost use lib.ListN.{length};

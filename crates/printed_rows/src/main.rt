@@ -3,11 +3,14 @@
 use book::Answer;
 use book::Values;
 use building::Building;
+use building::Dated;
 
 // At b 1000: the limits of h/b and of a/b, and the places on the walls.
 const HEIGHTS: [i64; 10] = [100, 499, 500, 501, 1499, 1500, 1501, 5999, 6000, 6001];
 
 const SIDES: [i64; 9] = [999, 1000, 1001, 1499, 1500, 1501, 3999, 4000, 4001];
+
+const YEARS: [i64; 5] = [0, 1, 2, 3, 4];
 
 const WALL_WINDS: [i64; 10] = [0, 0, 0, 0, 90, 90, 90, 90, 0, 45];
 
@@ -200,7 +203,7 @@ fn put_rows(answer: Answer) {
     }
 }
 
-fn show(g: Building, direction: i64, place: u8) {
+fn show_in(year: i64, g: Building, direction: i64, place: u8) {
     put(g.h);
     put(g.a);
     put(g.b);
@@ -208,12 +211,17 @@ fn show(g: Building, direction: i64, place: u8) {
     put(g.x);
     put(direction);
     io::write_all(1, &[place, b' ']);
-    put_answer(book::outside(g, direction, place));
+    let d = Dated { year, building: g };
+    put_answer(book::outside(d, direction, place));
     io::write_all(1, b"net ");
-    let net = book::net(g, direction, place, -30);
+    let net = book::net(d, direction, place, -30);
     put_answer(net);
     put_rows(net);
     io::write_all(1, b"\n");
+}
+
+fn show(g: Building, direction: i64, place: u8) {
+    show_in(1, g, direction, place);
 }
 
 fn wall(n: usize) {
@@ -264,7 +272,23 @@ fn single(n: usize) {
     show(g, SINGLE_WINDS[n / 7 % 6], SINGLE_PLACES[n % 7]);
 }
 
-// 900 questions on walls, 1040 on gables, 320 on flat roofs, 756 on single slopes.
+// Square plans and one step to either side, in each year and in one before and after them.
+fn square(n: usize) {
+    let g = Building {
+        h: HEIGHTS[n / 30 % 10],
+        a: SIDES[n / 10 % 3],
+        b: 1000,
+        density: 1250,
+        kind: 0,
+        x: 0,
+    };
+    let year = YEARS[n / 300 % 5];
+    io::write_all(1, b"year ");
+    put(year);
+    show_in(year, g, WALL_WINDS[n % 10], WALL_PLACES[n % 10]);
+}
+
+// 900 questions on walls, 1040 on gables, 320 on flat roofs, 756 on single slopes, 1500 on square plans by the year.
 fn ask(n: usize) {
     if n < 900 {
         return wall(n);
@@ -275,12 +299,15 @@ fn ask(n: usize) {
     if n < 2260 {
         return flat(n - 1940);
     }
-    single(n - 2260);
+    if n < 3016 {
+        return single(n - 2260);
+    }
+    square(n - 3016);
 }
 
 fn main() {
     let mut n: usize = 0;
-    while n < 3016 {
+    while n < 4516 {
         ask(n);
         n += 1;
     }

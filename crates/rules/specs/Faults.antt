@@ -10,12 +10,12 @@ use Rattle.building.specs.Places.{A, H, single, zoneOn, wallDirections, knows, 
 use Rattle.entry.specs.declared.Wind.{Wind}
 use Rattle.entry.specs.declared.Step.{Step}
 use Rattle.entry.specs.declared.Face.{Face}
-use Rattle.entry.specs.Says.{both, hasHeights}
+use Rattle.building.specs.Year.{lastYear, hasHeights}
+use Rattle.entry.specs.Says.{both}
 use Rattle.rules.specs.declared.Before.{Before}
 
--- no year but 2 is written
 abbrev pub yearFaults : ℤ → List Fault
-yearFaults year = fault 3 (not (is (pos 2) year)) ∷ []
+yearFaults year = fault 3 (beyond (pos 2) (pos lastYear) year) ∷ []
 
 abbrev pub windFaults : Building → Wind → List Fault
 windFaults g w =

@@ -16,7 +16,8 @@ use Rattle.rules.specs.declared.Section.{Section}
 use Rattle.rules.specs.declared.Section.the-variants.{«V», B, W, I, P, F}
 use Rattle.rules.specs.declared.Kind.{Kind}
 use Rattle.rules.specs.declared.Kind.the-variants.{Count, Entry}
-use Rattle.entry.specs.Says.{number, letter, at, hasHeights, yearOf, buildingOf, windOf, internalOf, stepOf, faceOf}
+use Rattle.building.specs.Year.{hasHeights}
+use Rattle.entry.specs.Says.{number, letter, at, yearOf, buildingOf, windOf, internalOf, stepOf, faceOf}
 use Rattle.rules.specs.Form.{inForm, numberForms}
 use Rattle.rules.specs.Faults.{yearFaults, windFaults, internalFaults, stepFaults, faceFaults}
 
@@ -69,7 +70,7 @@ countFaults s l n =
 abbrev pub faultsOf : Kind → Before → List Field → List Fault
 faultsOf (Count s) b fs = countFaults s (letter (at fs 0)) (number (at fs 1))
 faultsOf (Entry «V») b fs = yearFaults (yearOf fs)
-faultsOf (Entry B) b fs = faults (buildingOf fs)
+faultsOf (Entry B) b fs = faults (b .year) (buildingOf fs)
 faultsOf (Entry W) b fs = windFaults (b .building) (windOf fs)
 faultsOf (Entry I) b fs = internalFaults (internalOf fs)
 faultsOf (Entry P) b fs = stepFaults (b .highest) (stepOf fs)

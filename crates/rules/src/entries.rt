@@ -8,11 +8,12 @@ use building::kinds::on_walls;
 use building::kinds::single;
 use building::kinds::wall_place;
 use building::limits::beyond;
+use building::year::LAST_YEAR;
+use building::year::has_heights;
 use entry::BOTH;
 use entry::Face;
 use entry::Step;
 use entry::Wind;
-use entry::says::has_heights;
 ghost use mathlib.Core.Path.{_≡_};
 ghost use mathlib.Core.Bool.{cond, _||_};
 ghost use lib.IntN.{pos, negℤ};
@@ -48,7 +49,7 @@ pub fn count_fault(s: Section, letter: u8, n: i64) -> u32
 pub fn year_fault(year: i64) -> u32
     ensures { λ r. ⌜ r ≡ first (yearFaults year) ⌝ }
 {
-    fault(3, year != 2, 0)
+    fault(3, beyond(2, LAST_YEAR, year), 0)
 }
 
 pub fn wind_fault(g: Building, w: Wind) -> u32

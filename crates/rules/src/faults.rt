@@ -4,12 +4,16 @@ use crate::Kind;
 use crate::Section;
 use crate::entries;
 use crate::form_of::in_form;
+use building::Building;
+use building::Dated;
+use building::year::has_heights;
 use entry::says;
 use lines::Line;
 use lines::field_at;
 ghost use mathlib.Core.Path.{_≡_};
 ghost use Rattle.lines.specs.Held.{held};
 ghost use Rattle.building.specs.Fault.{first};
+ghost use Rattle.building.specs.Building.{faults};
 ghost use Rattle.rules.specs.Sections.{faultsOf, lineFault};
 
 // A count line in form.
@@ -23,11 +27,19 @@ fn count_fault(s: Section, x: Line) -> u32
     )
 }
 
+// A building by the year that was read before it.
+fn building_fault(b: Before, building: Building) -> u32
+    ensures { λ r. ⌜ r ≡ first (faults (b .year) building) ⌝ }
+{
+    let year = b.year;
+    building::building_fault(Dated { year, building })
+}
+
 // The lowest fault of a line of this kind by what was read before it, 0 where there is none.
 pub fn line_fault(k: Kind, b: Before, x: Line) -> u32
     ensures { λ r. ⌜ r ≡ lineFault k b (held x) ⌝ }
 {
-    let heights = says::has_heights(b.year);
+    let heights = has_heights(b.year);
     if !in_form(heights, k, x) {
         return 1;
     }
@@ -35,7 +47,7 @@ pub fn line_fault(k: Kind, b: Before, x: Line) -> u32
         Kind::Count(s) => count_fault(s, x),
         Kind::Entry(s) => match s {
             Section::V => entries::year_fault(says::year_of(x)),
-            Section::B => building::building_fault(says::building_of(x)),
+            Section::B => building_fault(b, says::building_of(x)),
             Section::W => entries::wind_fault(b.building, says::wind_of(x)),
             Section::I => entries::internal_fault(says::internal_of(x)),
             Section::P => entries::step_fault(b.highest, says::step_of(x)),

@@ -5,7 +5,7 @@ use mathlib.Core.Bool.{false, cond}
 use mathlib.Core.List.{List}
 use native.Mathlib.Nat.{mul-le-mul-right}
 use native.Mathlib.Omega.{arith}
-use lib.IntN.{pos, natAbs}
+use lib.IntN.{ℤ, pos, natAbs}
 use lib.Dec.{leb, leb→le}
 use lib.ListN.{length}
 use Rattle.whole.proofs.Size.{natAbs-neg}
@@ -64,17 +64,18 @@ unfolding roofOf
 roof-most kind =
     leb→le _ _ (all-at (λ r. leb (r .greatest) (cond (r .byHeight) 200 900)) roofs (roof 0 0 false) tt tt kind)
 
-x-most : (g : Building) → buildingFault g ≡ 0 → natAbs (g .x) ≤ 6000
-x-most g z =
+x-most : (year : ℤ) (g : Building) → buildingFault year g ≡ 0 → natAbs (g .x) ≤ 6000
+x-most year g z =
     roof-x (roofOf (natAbs (g .kind))) (natAbs (g .h)) (natAbs (g .x)) (roof-most (natAbs (g .kind)))
-    (good-fields g z .h .to) (in-order g z .x-to)
+    (good-fields year g z .h .to) (in-order year g z .x-to)
 
 -- ---- the line
 
-pub building-bytes : {fs : List Field} → AllFormed (numberForms 6) fs → buildingFault (buildingOf fs) ≡ 0
+pub building-bytes : (year : ℤ) {fs : List Field} → AllFormed (numberForms 6) fs
+    → buildingFault year (buildingOf fs) ≡ 0
     → fieldBytes fs ≤ 30
-building-bytes {fs} (more h (more a (more b (more density (more kind (more x none)))))) z =
-    let n = good-fields (buildingOf fs) z in
+building-bytes year {fs} (more h (more a (more b (more density (more kind (more x none)))))) z =
+    let n = good-fields year (buildingOf fs) z in
     omega (
       arith,
       short 4 h (n .h .plain) (omega (arith, n .h .to)),
@@ -82,5 +83,5 @@ building-bytes {fs} (more h (more a (more b (more density (more kind (more x non
       short 4 b (n .b .plain) (omega (arith, n .b .to)),
       short 3 density (n .density .plain) (omega (arith, n .density .to)),
       short 0 kind (n .kind .plain) (omega (arith, n .kind .to)),
-      short 3 x (n .x .plain) (omega (arith, x-most (buildingOf fs) z)),
+      short 3 x (n .x .plain) (omega (arith, x-most year (buildingOf fs) z)),
     )

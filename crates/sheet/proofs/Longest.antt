@@ -28,7 +28,8 @@ use Rattle.rules.specs.declared.Section.{Section}
 use Rattle.rules.specs.declared.Section.the-variants.{«V», B, W, I, P, F}
 use Rattle.rules.specs.declared.Kind.{Kind}
 use Rattle.rules.specs.declared.Kind.the-variants.{Count, Entry}
-use Rattle.entry.specs.Says.{number, size, mark, both, at, hasHeights, yearOf, buildingOf, windOf, internalOf, stepOf}
+use Rattle.building.specs.Year.{lastYear, hasHeights}
+use Rattle.entry.specs.Says.{number, size, mark, both, at, yearOf, buildingOf, windOf, internalOf, stepOf}
 use Rattle.entry.specs.Says.{faceOf}
 use Rattle.rules.specs.Form.{numberForms}
 use Rattle.rules.specs.Sections.{about, forms, lineFault}
@@ -40,6 +41,7 @@ use Rattle.rules.proofs.Rising.{found-none}
 use Rattle.rules.proofs.Line.{in-order}
 use Rattle.job.proofs.Lines.{all-not-bad}
 use Rattle.job.proofs.Sections.{CountLine, count-says}
+use Rattle.job.proofs.Years.{between}
 use Rattle.job.proofs.InOrder.{wind-line, internal-line, step-line, face-line, height-line}
 use Rattle.sheet.proofs.Bytes.{fieldBytes, line-bytes}
 use Rattle.sheet.proofs.Building.{short, signed, building-bytes}
@@ -73,10 +75,8 @@ in-range {f} k least most h o few =
     short k h (w .plain) (omega (arith, w .to))
 
 -- one digit
-year-bytes : {x : List Field} → AllFormed (numberForms 1) x → yearOf x ≡ pos 2 → fieldBytes x ≤ 2
-year-bytes {x} (more y none) e =
-    let n = ap natAbs e in
-    omega (arith, short 0 y (ap (λ (z : ℤ). pos (natAbs z)) e ∙ sym e) (omega arith))
+year-bytes : {x : List Field} → AllFormed (numberForms 1) x → Limited (pos 2) (pos lastYear) (yearOf x) → fieldBytes x ≤ 2
+year-bytes (more y none) o = omega (arith, in-range 0 2 lastYear y o (omega arith))
 
 -- a direction has no sign and at most 3 digits
 known-short : {f : Field} (kind : ℤ) → Formed Number f → knows kind (number f) ≡ true → length (fieldText f) ≤ 3
@@ -139,9 +139,9 @@ unfolding longestLine buildingFault
 in-order-bytes (Count s) b x z = count-bytes s x (count-says s b x z)
 in-order-bytes (Entry «V») b x z =
     let o = in-order (Entry «V») b x z in
-    year-bytes (o .formed) (is-same (pos 2) (yearOf x) (not-false _ (o .none .0)))
+    year-bytes (o .formed) (between (pos 2) (pos lastYear) _ (o .none .0))
 in-order-bytes (Entry B) b x z =
-    let o = in-order (Entry B) b x z in building-bytes (o .formed) (found-none (faults (buildingOf x)) (o .none))
+    let o = in-order (Entry B) b x z in building-bytes (b .year) (o .formed) (found-none (faults (b .year) (buildingOf x)) (o .none))
 in-order-bytes (Entry W) b x z = wind-bytes (b .building) (in-order (Entry W) b x z .formed) (wind-line b x z)
 in-order-bytes (Entry I) b x z = internal-bytes (in-order (Entry I) b x z .formed) (internal-line b x z)
 in-order-bytes (Entry P) b x z = step-bytes (in-order (Entry P) b x z .formed) (step-line b x z .0)

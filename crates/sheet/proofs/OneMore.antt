@@ -11,7 +11,8 @@ use Rattle.whole.specs.Lists.{firstOf, Every}
 use Rattle.whole.proofs.Lists.{firstOf-more}
 use Rattle.field.specs.declared.Field.{Field}
 use Rattle.entry.specs.declared.Step.{Step}
-use Rattle.entry.specs.Says.{hasHeights, yearOf, buildingOf, windOf, internalOf, stepOf, faceOf}
+use Rattle.building.specs.Year.{hasHeights}
+use Rattle.entry.specs.Says.{yearOf, buildingOf, windOf, internalOf, stepOf, faceOf}
 use Rattle.rules.specs.declared.Before.{Before}
 use Rattle.rules.specs.declared.Section.{Section}
 use Rattle.rules.specs.declared.Section.the-variants.{«V», B, W, I, P, F}

@@ -56,6 +56,10 @@ profile lines = tall "2" & lines & "F 1\nA 0 600 1 0 0\n"
 abbrev high : String → String
 high line = tall "2" & "P 2\n100 800\n1200 1000\nF 1\n" & line & "\n"
 
+-- of that year, up to a building with these sides
+abbrev plan : String → String → String
+plan year sides = "V 1\n" & year & "\nB 1\n500 " & sides & " 1250 2 0\n"
+
 -- the longest sheet
 abbrev times : ℕ → String → String
 times zero s = ""
@@ -142,8 +146,13 @@ cases =
     ∷ case "V 1\n" 1 2
     ∷ case (tall "1") 3 2
     ∷ case (tall "0") 3 2
-    ∷ case (tall "3") 3 2
+    ∷ case (tall "4") 3 2
     ∷ case (tall "2 2") 1 2
+    -- a square plan has a row from year 3 on: the sheet ends behind it, where W is called for
+    ∷ case (plan "2" "1000 1000") 4 4
+    ∷ case (plan "3" "1000 1000") 1 5
+    ∷ case (plan "3" "999 1000") 4 4
+    ∷ case (plan "2" "1001 1000") 1 5
     -- it has a profile, whose heights rise
     ∷ case (tall "2" & "F 1\nA 0 600 1 0 0\n") 1 9
     ∷ case (profile "P 0\n") 2 9

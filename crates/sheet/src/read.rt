@@ -1,9 +1,9 @@
 // A sheet read: its sections in order, each its count and as many entries, up to the first fault; and nothing after
 // them.
 use crate::empty::no_job;
+use building::year::has_heights;
 use entry::says::building_of;
 use entry::says::face_of;
-use entry::says::has_heights;
 use entry::says::internal_of;
 use entry::says::letter_of;
 use entry::says::size_of;

@@ -17,7 +17,7 @@ use Rattle.job.specs.Carried.{carried}
 use Rattle.job.specs.Lines.{entriesOf, linesOf}
 use Rattle.job.specs.Walk.{Accepted, verdict, judged}
 use Rattle.whole.specs.Lists.{Every}
-use Rattle.entry.specs.Says.{hasHeights}
+use Rattle.building.specs.Year.{hasHeights}
 use Rattle.rules.specs.declared.Section.the-variants.{«V», B, W, I, P, F}
 use Rattle.rules.specs.Sections.{about, sections}
 use Rattle.job.proofs.Sheet.{SheetInOrder, sheet-in-order}

@@ -19,7 +19,7 @@ use Rattle.page.proofs.Put.{then, put-nothing, put-length}
 use Rattle.rules.specs.declared.Section.{Section}
 use Rattle.rules.specs.declared.Section.the-variants.{«V», B, W, I, P, F}
 use Rattle.job.specs.declared.Job.{Job}
-use Rattle.entry.specs.Says.{hasHeights}
+use Rattle.building.specs.Year.{hasHeights}
 use Rattle.entry_written.specs.Fields.{faceFields}
 use Rattle.job.specs.Carried.{noFace, carried}
 use Rattle.rules.specs.Sections.{sections, sectionAt}

@@ -2,7 +2,7 @@
 use Prim.Native.Nat.{_≤_}
 use lib.ListN.{length}
 use Rattle.whole.specs.Lists.{Every}
-use Rattle.entry.specs.Says.{hasHeights}
+use Rattle.building.specs.Year.{hasHeights}
 use Rattle.rules.specs.Sections.{about, sections}
 use Rattle.job.specs.Carried.{Carried}
 use Rattle.job.specs.Lines.{entriesOf}

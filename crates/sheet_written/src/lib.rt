@@ -1,5 +1,5 @@
 // A job written: its own refusal first, and then its text put into the lent buffer.
-use entry::says::has_heights;
+use building::year::has_heights;
 use entry_written::building_line;
 use entry_written::face_line;
 use entry_written::internal_line;

@@ -28,7 +28,11 @@ use Rattle.book.proofs.Answers.{zone-answered, zone-small}
 use Rattle.entry.specs.declared.Wind.{Wind}
 use Rattle.entry.specs.declared.Step.{Step}
 use Rattle.entry.specs.declared.Face.{Face}
-use Rattle.entry.specs.Says.{both, hasHeights}
+use Rattle.building.specs.Year.{lastYear, hasHeights}
+use Rattle.building.proofs.Judged.{InYear}
+use Rattle.book.proofs.Readings.{readings-agree, last-year}
+use Rattle.job.proofs.Years.{year-is}
+use Rattle.entry.specs.Says.{both}
 use Rattle.job.specs.declared.Job.{Job}
 use Rattle.job.specs.Carried.{Carried, carried, noWind, noStep, noFace}
 use Rattle.job.specs.InOrder.{WindInOrder, InternalInOrder, FaceInOrder, StepInOrder, HeightInOrder, OfLaterYear}
@@ -41,7 +45,7 @@ use Rattle.worst.specs.Engine.{facesOf}
 use Rattle.worst.proofs.Climb.{fraction-none, fraction-at}
 use Rattle.worst.proofs.CarriedFaces.{asCarried, same-factor}
 use Rattle.worst.proofs.OneFace.{OneOrTwo, alone, pair}
-use Rattle.worst.proofs.AllCells.{Sound}
+use Rattle.worst.proofs.AllCells.{Sound, ByLast}
 use Rattle.worst.proofs.Ranges.{InRange}
 
 -- ---- a zone's answer
@@ -84,6 +88,9 @@ step-small s o =
 -- ---- what is carried
 
 module _ (c : Carried) (o : InOrder c) where
+  in-year : InYear (c .year) (c .building)
+  in-year = record { is = year-is c o; none = o .building }
+
   -- a face that takes part is asked for under a direction that its table has
   reached : (d : ℤ) → knows (c .building .kind) d ≡ true → (f : Face) → FaceInOrder (c .building) f
       → acts f d ≡ true → placeOn (c .building .kind) d (f .zone) ≡ true
@@ -93,13 +100,17 @@ module _ (c : Carried) (o : InOrder c) where
 
   answered : (d : ℤ) → knows (c .building .kind) d ≡ true → (f : Face) → FaceInOrder (c .building) f
       → acts f d ≡ true
-      → Alternatives 1200 (natAbs (c .building .kind)) (f .zone) (valuesOf (outsideOf (c .building) d (f .zone)))
-  answered d e f h a = zone-answered (c .building) d (f .zone) (o .building) e (reached d e f h a) (h .on)
+      → Alternatives 1200 (natAbs (c .building .kind)) (f .zone) (valuesOf (outsideOf (c .year) (c .building) d (f .zone)))
+  answered d e f h a = zone-answered (c .year) (c .building) d (f .zone) in-year e (reached d e f h a) (h .on)
 
   -- and no coefficient is above 1.200, whatever the direction
-  small-at : (d : ℤ) (f : Face) → FaceInOrder (c .building) f → (i : ℕ)
-      → natAbs (getD (valuesOf (outsideOf (c .building) d (f .zone))) i (pos 0)) ≤ 1200
-  small-at d f h = zone-small (c .building) d (f .zone) (o .building) (h .on)
+  small-at : (year : ℤ) → InYear year (c .building) → (d : ℤ) (f : Face) → FaceInOrder (c .building) f
+      → (i : ℕ) → natAbs (getD (valuesOf (outsideOf year (c .building) d (f .zone))) i (pos 0)) ≤ 1200
+  small-at year e d f h = zone-small year (c .building) d (f .zone) e (h .on)
+
+  -- in order by the last year's reading too
+  by-last : InYear (pos lastYear) (c .building)
+  by-last = last-year (c .year) (c .building) in-year
 
   face-in : (f : Face) → List·Memᴰ f (c .faces) → FaceInOrder (c .building) f
   face-in f m = every-member (FaceInOrder (c .building)) (c .faces) (o .faces) m
@@ -116,11 +127,11 @@ module _ (c : Carried) (o : InOrder c) where
   -- a face under a wind
   met : (w : Wind) → WindInOrder (c .building) w → (f : Face) → FaceInOrder (c .building) f → Met (c .building) w f
   met w hw f hf =
-      let small = small-at (w .direction) f hf in
+      let small = small-at (pos lastYear) by-last (w .direction) f hf in
       let t = turned (c .building .kind) (w .direction) (hw .direction) in
-      let outs = valuesOf (outsideOf (c .building) (w .direction) (f .zone)) in
+      let outs = valuesOf (outsideOf (pos lastYear) (c .building) (w .direction) (f .zone)) in
       record {
-        dense = good-fields (c .building) (o .building) .density .to;
+        dense = good-fields (c .year) (c .building) (o .building) .density .to;
         slow = record { from = ≤ℤ-trans (leZ-yes tt) (hw .least-speed); to = speed-within (c .building) w hw .to };
         face = face-small f hf;
         placed =
@@ -150,14 +161,19 @@ module _ (c : Carried) (o : InOrder c) where
   pub given-in-range : InRange (given c)
   given-in-range =
       record {
-        density = good-fields (c .building) (o .building) .density .to;
+        density = good-fields (c .year) (c .building) (o .building) .density .to;
         speed = λ w m. speed-within (c .building) w (wind-in w m) .to;
         factor = λ f m. every-member (λ g. Fraction (factorOf (c .profile) g)) (c .faces) fractions m;
         internal = λ i m. every-member InternalInOrder (c .internals) (o .internals) m;
         fewFaces = o .faces-counted .high;
         face = λ f m. face-small f (face-in f m);
-        outside = λ d f m. small-at d f (face-in f m);
+        outside = λ d f m. small-at (c .year) in-year d f (face-in f m);
       }
+
+  -- its coefficients are those of the last year's reading
+  pub outside-last : (direction : ℤ) (zone : ℕ)
+      → outsideOf (c .year) (c .building) direction zone ≡ outsideOf (pos lastYear) (c .building) direction zone
+  outside-last direction zone = readings-agree (c .year) (pos lastYear) (c .building) direction zone in-year by-last
 
 -- ---- a record
 
@@ -220,6 +236,10 @@ module _ (j : Job) (o : InOrder (carried j)) where
             let low = counted-face (λ f. HeightInOrder (carried j .profile) (f .height)) (later h .heights) i t in
             size-rises _ _ (rw h at (low .range .low)) (rw h at (low .range .high));
       }
+
+  pub last-reading : ByLast j
+  unfolding carried
+  last-reading direction zone = ap valuesOf (outside-last (carried j) o direction zone)
 
   pub job-ready : Ready j
   unfolding carried

@@ -9,6 +9,9 @@ use lib.ListN.{length, length-map}
 use Rattle.whole.proofs.Lists.{firstOf-length, firstOf-getD}
 use Rattle.whole.proofs.ByPlace.{getD-member}
 use Rattle.building.specs.declared.Building.{Building}
+use Rattle.building.specs.Year.{lastYear}
+use Rattle.book.specs.Answer.{valuesOf}
+use Rattle.book.specs.Question.{outsideOf}
 use Rattle.job.specs.declared.Job.{Job}
 use Rattle.entry.specs.declared.Wind.{Wind}
 use Rattle.entry.specs.declared.Step.{Step}
@@ -27,8 +30,9 @@ use Rattle.worst.specs.Forces.{Given, acts, outsides, factorOf, faceSpee
 use Rattle.worst.specs.Forces.{internalAt, loads}
 use Rattle.worst.specs.Shown.{padded, shown}
 use Rattle.worst.specs.Worst.{given, extreme, sixExtremes}
+use Rattle.worst.specs.Table.{firstAndLast}
 use Rattle.worst.specs.Quick.{over, sum, tagged}
-use Rattle.worst.specs.Engine.{weight, reachOf, pickOf, facesOf, axesOf, axesUnder, sumsOn, cellTotal}
+use Rattle.worst.specs.Engine.{weight, reach, pick, reachOf, pickOf, facesOf, axesOf, axesUnder, sumsOn, cellTotal}
 use Rattle.worst.specs.Engine.{Cell, cell, topAt}
 use Rattle.worst.specs.Engine.{windNumbered, internalNumbered, cellBest, bestUpTo, alternativesAt}
 use Rattle.worst.specs.Engine.{extremeWith, sixOf}
@@ -43,6 +47,11 @@ abbrev pub Sound : Given → Type 0
 Sound g = (w : Wind) (f : Face) → List·Memᴰ w (g .winds) → List·Memᴰ f (g .faces) → acts f (w .direction) ≡ true
     → OneOrTwo (outsides g w f)
 
+-- the coefficients of a job's zones are those of the last year's reading, by which the engine asks for them
+abbrev pub ByLast : Job → Type 0
+ByLast j = (direction : ℤ) (zone : ℕ)
+    → given (carried j) .outside direction zone ≡ valuesOf (outsideOf (pos lastYear) (j .building) direction zone)
+
 -- the total of a cell, from the sums of its wind
 cell-total : (axis : Axis) (s : Side) (b : Building) (p : List Step) (w : Wind) (fs : List Face) (i : ℤ)
     → sum (λ f. reachOf s axis b w (factorOf p f) f) fs
@@ -55,7 +64,7 @@ cell-total Y Least b p w fs i = refl
 cell-total Z Greatest b p w fs i = refl
 cell-total Z Least b p w fs i = refl
 
-module _ (j : Job) (axis : Axis) (s : Side) where
+module _ (j : Job) (last : ByLast j) (axis : Axis) (s : Side) where
   abbrev g : Given
   g = given (carried j)
 
@@ -138,8 +147,12 @@ module _ (j : Job) (axis : Axis) (s : Side) where
   unfolding carried
   face-is sound w i f mw mi mf =
       let u = windAt g w in
+      let weight = weighed u f in
       face-best s (internalAt g i) (pressure (g .density) (faceSpeed (g .profile) u f)) (area axis f)
       (acts f (u .direction)) (outsides g u f) (sound u f (wind-in w mw) mf)
+      ∙ (λ k.
+      let o = firstAndLast (last (u .direction) (f .zone) k) in
+      at (reach s o weight -ℤ internalAt g i *ℤ pos 10 *ℤ weight) (pick s o weight))
 
   wind-cells : (w : ℕ) → WindNumber w
       → over s (λ i. found w i (windAt g w) (sum (value w i) (g .faces))) (numbers (length (g .internals)) 1)
@@ -180,17 +193,17 @@ module _ (j : Job) (axis : Axis) (s : Side) where
       ∙ (λ k. shown (faces k) (sym (worst-cell sound) k))
 
 -- so the tops that the engine finds, shown, are the six extremes
-pub six-are : (j : Job) → Sound (given (carried j)) → (e : Ends)
+pub six-are : (j : Job) → ByLast j → Sound (given (carried j)) → (e : Ends)
     → ((axis : Axis) (s : Side) → let t = topAt axis s e in
     at (t .total) (cell (t .wind) (t .internal)) ≡ bestUpTo axis s j (j .winds .count))
     → sixOf j e ≡ sixExtremes (carried j)
 unfolding sixExtremes
-six-are j sound e h =
+six-are j last sound e h =
     λ k. record {
       x = record { greatest = on X Greatest k; least = on X Least k };
       y = record { greatest = on Y Greatest k; least = on Y Least k };
       z = record { greatest = on Z Greatest k; least = on Z Least k };
     }
   where
-    on : (axis : Axis) (s : Side) → case j axis s (topAt axis s e) ≡ extreme axis s (carried j)
-    on axis s = extreme-is j axis s sound (topAt axis s e) (h axis s)
+    on : (axis : Axis) (s : Side) → case j last axis s (topAt axis s e) ≡ extreme axis s (carried j)
+    on axis s = extreme-is j last axis s sound (topAt axis s e) (h axis s)

@@ -7,7 +7,8 @@ use lib.IntN.{ℤ, pos, _+ℤ_}
 use Rattle.building.specs.declared.Building.{Building}
 use Rattle.entry.specs.declared.Wind.{Wind}
 use Rattle.entry.specs.declared.Face.{Face}
-use Rattle.entry.specs.Says.{hasHeights, carriedFace}
+use Rattle.building.specs.Year.{hasHeights}
+use Rattle.entry.specs.Says.{carriedFace}
 use Rattle.job.specs.declared.Job.{Job}
 use Rattle.worst.specs.declared.Side.{Side}
 use Rattle.worst.specs.declared.Side.the-variants.{Greatest, Least}

@@ -7,6 +7,7 @@ use Prim.Native.Nat.{ℕ}
 use native.Mathlib.Omega.{arith}
 use lib.IntN.{ℤ, pos}
 use lib.ListN.{length}
+use Rattle.building.specs.Year.{lastYear}
 use Rattle.book.specs.Answer.{valuesOf}
 use Rattle.book.specs.Question.{outsideOf}
 use Rattle.entry.specs.declared.Wind.{Wind}
@@ -25,7 +26,7 @@ use Rattle.worst.proofs.Lists.{Between, member-numbers}
 use Rattle.worst.proofs.Members.{worst-found, worst-is}
 use Rattle.worst.proofs.OneFace.{OneOrTwo, alone, pair}
 use Rattle.worst.proofs.Demand.{SameSite, AllIn, OneFactor, Faster, given-more, given-faster}
-use Rattle.worst.proofs.Accepted.{given-sound}
+use Rattle.worst.proofs.Accepted.{given-sound, outside-last}
 
 -- ---- something is shown
 
@@ -81,11 +82,18 @@ module _ (axis : Axis) (s : Side) (c : Carried) where
 
 module _ (c c′ : Carried) (building : c .building ≡ c′ .building) (profile : c .profile ≡ c′ .profile)
     (faces : c .faces ≡ c′ .faces) (o : InOrder c) (o′ : InOrder c′) where
+  -- whatever the years, both are in order by the last one's reading
+  shared : (direction : ℤ) (zone : ℕ)
+      → outsideOf (c .year) (c .building) direction zone ≡ outsideOf (c′ .year) (c′ .building) direction zone
+  shared direction zone =
+      outside-last c o direction zone ∙ ap (λ b. outsideOf (pos lastYear) b direction zone) building
+      ∙ sym (outside-last c′ o′ direction zone)
+
   same-site : SameSite (given c) (given c′)
   same-site =
       record {
         density = ap (λ b. b .density) building;
-        outside = ap (λ b. λ direction zone. valuesOf (outsideOf b direction zone)) building;
+        outside = λ k. λ direction zone. valuesOf (shared direction zone k);
         profile = profile;
         faces = faces;
       }

@@ -9,7 +9,7 @@ use lib.Signed.{_≤ℤ_}
 use lib.ListN.{getD, replicate}
 use Rattle.whole.specs.Lists.{firstOf}
 use Rattle.entry.specs.declared.Step.{Step}
-use Rattle.entry.specs.Says.{hasHeights}
+use Rattle.building.specs.Year.{hasHeights}
 use Rattle.job.specs.declared.Job.{Job}
 use Rattle.job.specs.declared.Profile.{Profile}
 use Rattle.job.specs.declared.Faces.{Faces}

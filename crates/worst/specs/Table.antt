@@ -7,6 +7,7 @@ use Prim.Native.Nat.{ℕ, _+_, _-_, _*_, _/_, _%_, _≤_}
 use lib.IntN.{ℤ, pos, natAbs}
 use lib.ListN.{length, getD}
 use Rattle.building.specs.declared.Building.{Building}
+use Rattle.building.specs.Year.{lastYear}
 use Rattle.building.specs.Places.{A, H}
 use Rattle.book.specs.Answer.{valuesOf}
 use Rattle.book.specs.Question.{outsideOf}
@@ -16,8 +17,9 @@ use Rattle.worst.specs.declared.outside.Outside.{Outside}
 abbrev pub firstAndLast : List ℤ → Outside
 firstAndLast outs = record { first = getD outs 0 (pos 0); last = getD outs (length outs - 1) (pos 0) }
 
+-- by the last year's reading of the walls' table: a building that is in order by an earlier one has the same by both
 abbrev pub outsideAt : Building → ℤ → ℕ → Outside
-outsideAt b direction zone = firstAndLast (valuesOf (outsideOf b direction zone))
+outsideAt b direction zone = firstAndLast (valuesOf (outsideOf (pos lastYear) b direction zone))
 
 -- directions lie 45 degrees apart, five of them: the place of a direction and a zone, A to H under each in turn
 abbrev pub places : ℕ

@@ -9,6 +9,8 @@ ghost use Rattle.worst.specs.Forces.{acts};
 use book::Answer;
 use book::Values;
 use building::Building;
+use building::Dated;
+use building::year::LAST_YEAR;
 use entry::BOTH;
 use entry::Face;
 use entry::Wind;
@@ -56,10 +58,15 @@ fn of_values(values: Values) -> Outside
     }
 }
 
+// The year does not change what a building in order has: each is asked for by the last year's reading.
 fn looked_up(b: Building, w: Wind, f: Face) -> Outside
     ensures { λ r. ⌜ r ≡ outsideAt b (w .direction) (f .zone) ⌝ }
 {
-    let answer = book::outside(b, w.direction, f.zone);
+    let d = Dated {
+        year: LAST_YEAR,
+        building: b,
+    };
+    let answer = book::outside(d, w.direction, f.zone);
     match answer {
         Answer::Answered(c) => {
             let values = c.values;

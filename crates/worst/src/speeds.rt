@@ -6,8 +6,8 @@ ghost use lib.Signed.{_≤ℤ_};
 ghost use Rattle.worst.specs.Speed.{factorBetween, factorAt, speedAt};
 ghost use Rattle.worst.specs.Factors.{stepsOf, profileOf, Height, StepSmall, ProfileSmall, Profiled};
 ghost use Rattle.worst.specs.Factors.{Fraction, factorIn, AllOne, FactorsStand};
+use building::year::has_heights;
 use entry::Step;
-use entry::says::has_heights;
 use job::Job;
 use job::Profile;
 

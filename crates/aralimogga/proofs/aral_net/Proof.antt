@@ -12,6 +12,7 @@ returns c =
     let f = g .before .fits in
     let e =
     rw (
+      param (f .year) .same,
       param (f .h) .same,
       param (f .a) .same,
       param (f .b) .same,

@@ -18,6 +18,7 @@ returns c =
     record { h = a .h; a = a .a; b = a .b; density = a .density; kind = a .kind; x = a .x } in
     let e =
     rw (
+      param (f .year) .same,
       param (f .h) .same,
       param (f .a) .same,
       param (f .b) .same,
@@ -27,7 +28,7 @@ returns c =
     )
     at (g .outside .ensures) in
     c .coefficient-of .ensures
-    ∙ ap hostCoefficient (e ∙ ap (λ (z : ℤ). outsideOf building z (a .place)) (param (f .direction) .same))
+    ∙ ap hostCoefficient (e ∙ ap (λ (z : ℤ). outsideOf (a .year) building z (a .place)) (param (f .direction) .same))
 
 pub aral-outside-spec : {M : Type 1} → statement M
 aral-outside-spec = tie.close (tie.spec (λ c κs. search needs) (λ c κs. search needs) returns)

@@ -19,10 +19,10 @@ use Rattle.book.proofs.net.Tie as tie
 
 -- what `outside` answered, said of the question
 asked : (c : tie.After-outside)
-    → let a = c .before .args in c .outside .result ≡ outsideOf (a .g) (a .direction) (a .place)
+    → let a = c .before .args in c .outside .result ≡ outsideOf (a .d .year) (a .d .building) (a .direction) (a .place)
 asked c =
     let s = c .before in
-    said (λ (d : ℤ). outsideOf (s .args .g) d (s .args .place)) (s .args .direction) (c .outside .ensures)
+    said (λ (d : ℤ). outsideOf (s .args .d .year) (s .args .d .building) d (s .args .place)) (s .args .direction) (c .outside .ensures)
     (s .fits .direction .sfits)
 
 -- the test of the internal coefficient, said of the number
@@ -36,7 +36,7 @@ returns c =
     let s = o .before in
     let a = s .args in
     let great = tested (a .internal) (c .before .too-great .ensures) (s .fits .internal .sfits) (c .if1 .taken) in
-    sym (net-bad (a .g) (a .direction) (a .place) (a .internal) (sym (asked o) ∙ r .r .given .1) great)
+    sym (net-bad (a .d .year) (a .d .building) (a .direction) (a .place) (a .internal) (sym (asked o) ∙ r .r .given .1) great)
 
 net-cited-requires : tie.Need-net-cited-requires
 net-cited-requires c κs =
@@ -45,7 +45,7 @@ net-cited-requires c κs =
     let s = o .before in
     let a = s .args in (
       subst (λ (q : Answer). Small (valuesOf q)) (sym (asked o) ∙ r .r .given .1)
-          (answer-small (a .g) (a .direction) (a .place)),
+          (answer-small (a .d .year) (a .d .building) (a .direction) (a .place)),
       subst (λ (y : ℤ). natAbs y ≤ 100) (sym (returned w64 (a .internal) (s .fits .internal .sfits) .same))
           (internal-small (a .internal)
           (tested (a .internal) (c .before .too-great .ensures) (s .fits .internal .sfits) (c .if1 .left))),
@@ -62,14 +62,14 @@ returns-2 c =
     let fits = s .fits .internal .sfits in
     let small = tested (a .internal) (t .before .too-great .ensures) fits (t .if1 .left) in
     ap Answered (said (λ (z : ℤ). netCited outside z) (a .internal) (c .net-cited .ensures) fits)
-    ∙ sym (net-answered (a .g) (a .direction) (a .place) (a .internal) (sym (asked o) ∙ r .r .given .1) small)
+    ∙ sym (net-answered (a .d .year) (a .d .building) (a .direction) (a .place) (a .internal) (sym (asked o) ∙ r .r .given .1) small)
 
 returns-3 : tie.Need-returns-3
 returns-3 c =
     let r = c .before in
     let o = r .before .before in
     let a = o .before .args in
-    sym (net-refused (a .g) (a .direction) (a .place) (a .internal) (sym (asked o) ∙ r .r2 .given .1))
+    sym (net-refused (a .d .year) (a .d .building) (a .direction) (a .place) (a .internal) (sym (asked o) ∙ r .r2 .given .1))
 
 pub net-spec : {M : Type 1} → statement M
 net-spec =

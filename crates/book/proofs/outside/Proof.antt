@@ -13,10 +13,10 @@ use Rattle.book.proofs.outside.Statement.{statement}
 use Rattle.book.proofs.outside.Tie as tie
 
 -- what was asked, said of the question
-asked : (c : tie.After-asked) → let a = c .before .args in c .asked .result ≡ askedOf (a .g) (a .direction) (a .place)
+asked : (c : tie.After-asked) → let a = c .before .args in c .asked .result ≡ askedOf (a .d .year) (a .d .building) (a .direction) (a .place)
 asked c =
     let s = c .before in
-    said (λ (d : ℤ). askedOf (s .args .g) d (s .args .place)) (s .args .direction) (c .asked .ensures)
+    said (λ (d : ℤ). askedOf (s .args .d .year) (s .args .d .building) d (s .args .place)) (s .args .direction) (c .asked .ensures)
     (s .fits .direction .sfits)
 
 coefficient-requires : tie.Need-coefficient-requires
@@ -25,8 +25,8 @@ coefficient-requires c κs =
     let d = q .before .before in
     let a = d .before .args in
     let f =
-    subst (FitIn (a .g) (a .direction) (a .place)) (sym (asked d) ∙ q .q .given .1)
-    (question-fits (a .g) (a .direction) (a .place)) in
+    subst (FitIn (a .d .year) (a .d .building) (a .direction) (a .place)) (sym (asked d) ∙ q .q .given .1)
+    (question-fits (a .d .year) (a .d .building) (a .direction) (a .place)) in
     (f .order, f .roofed)
 
 returns : tie.Need-returns

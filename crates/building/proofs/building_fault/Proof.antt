@@ -1,7 +1,9 @@
 -- `building_fault`: each test in its order, and after the ranges the numbers are small enough for the next two.
 use mathlib.Core.Path.{_≡_, sym, ap, _∙_, subst}
 use mathlib.Core.Bool.{false}
+use lib.IntN.{ℤ}
 use borrow.Author.Needs.{needs}
+use Rattle.whole.proofs.Size.{said}
 use Rattle.building.specs.declared.Sizes.{Sizes}
 use Rattle.building.specs.Order.{Ranged}
 use Rattle.building.specs.Building.{outOfRange, outOfWalls, outOfRoof, sizes, buildingFault}
@@ -10,27 +12,33 @@ use Rattle.building.proofs.building_fault.Statement.{statement}
 use Rattle.building.proofs.building_fault.Tie as tie
 
 -- what each test answered, said of the building
-in-range : (c : tie.Else1) → outOfRange (c .before .before .args .g) ≡ false
+in-range : (c : tie.Else1) → outOfRange (c .before .before .args .d .building) ≡ false
 in-range c = sym (c .before .out-of-range .ensures) ∙ c .if1 .left
 
 small : (c : tie.After-sizes-of) → Ranged (c .sizes-of .result)
 small c =
     let d = c .before in
     subst (λ (s : Sizes). Ranged s) (sym (c .sizes-of .ensures))
-    (ranged (fields (d .before .before .args .g) (in-range d)))
+    (ranged (fields (d .before .before .args .d .building) (in-range d)))
 
 -- the sizes, and the two tests of them
-sized : (c : tie.After-sizes-of) → c .sizes-of .result ≡ sizes (c .before .before .before .args .g)
+sized : (c : tie.After-sizes-of) → c .sizes-of .result ≡ sizes (c .before .before .before .args .d .building)
 sized c = c .sizes-of .ensures
 
 walls : (c : tie.After-out-of-walls)
-    → c .out-of-walls .result ≡ outOfWalls (sizes (c .before .before .before .before .args .g))
-walls c = c .out-of-walls .ensures ∙ ap outOfWalls (sized (c .before))
+    → let d = c .before .before .before .before .before .args .d in
+    c .out-of-walls .result ≡ outOfWalls (d .year) (sizes (d .building))
+walls c =
+    let t = c .before in
+    let d = t .before .before .before .before .args .d in
+    said (λ (y : ℤ). outOfWalls y (t .before .sizes-of .result)) (d .year) (c .out-of-walls .ensures)
+    (t .struct-told .given .0 .1)
+    ∙ ap (outOfWalls (d .year)) (sized (t .before))
 
 roof : (c : tie.After-out-of-roof)
-    → let s = c .before .before .before in
-    c .out-of-roof .result ≡ outOfRoof (sizes (s .before .before .before .args .g))
-roof c = c .out-of-roof .ensures ∙ ap outOfRoof (sized (c .before .before .before))
+    → let s = c .before .before .before .before in
+    c .out-of-roof .result ≡ outOfRoof (sizes (s .before .before .before .args .d .building))
+roof c = c .out-of-roof .ensures ∙ ap outOfRoof (sized (c .before .before .before .before))
 
 returns : tie.Need-returns
 unfolding buildingFault
@@ -41,17 +49,17 @@ sizes-of-requires c κs = in-range c
 
 returns-2 : tie.Need-returns-2
 unfolding buildingFault
-returns-2 c = rw (in-range (c .before .before .before), sym (walls (c .before)) ∙ c .if2 .taken)
+returns-2 c = rw (in-range (c .before .before .before .before), sym (walls (c .before)) ∙ c .if2 .taken)
 
 out-of-roof-requires : tie.Need-out-of-roof-requires
-out-of-roof-requires c κs = small (c .before .before)
+out-of-roof-requires c κs = small (c .before .before .before)
 
 returns-3 : tie.Need-returns-3
 unfolding buildingFault
 returns-3 c =
     let w = c .before .before in
     rw (
-      in-range (w .before .before .before),
+      in-range (w .before .before .before .before),
       sym (walls (w .before)) ∙ w .if2 .left,
       sym (roof (c .before)) ∙ c .if3 .taken,
     )
@@ -61,7 +69,7 @@ unfolding buildingFault
 returns-4 c =
     let w = c .before .before in
     rw (
-      in-range (w .before .before .before),
+      in-range (w .before .before .before .before),
       sym (walls (w .before)) ∙ w .if2 .left,
       sym (roof (c .before)) ∙ c .if3 .left,
     )

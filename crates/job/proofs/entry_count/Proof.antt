@@ -2,7 +2,7 @@
 use mathlib.Core.Path.{_≡_, sym, _∙_}
 use mathlib.Core.Bool.{Bool}
 use Rattle.whole.proofs.Size.{said}
-use Rattle.entry.specs.Says.{hasHeights}
+use Rattle.building.specs.Year.{hasHeights}
 use Rattle.job.proofs.Alone.{winds-counted, internals-counted, steps-counted, faces-counted}
 use borrow.Author.Needs.{needs}
 use Rattle.job.proofs.entry_count.Statement.{statement}

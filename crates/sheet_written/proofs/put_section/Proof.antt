@@ -7,7 +7,7 @@ use lib.IntN.{ℤ}
 use mathlib.Core.Bool.{Bool}
 use lib.ListN.{length, getD, take}
 use Rattle.whole.proofs.Size.{said}
-use Rattle.entry.specs.Says.{hasHeights}
+use Rattle.building.specs.Year.{hasHeights}
 use mir.Facts.{toZ-ofZ}
 use Rattle.lines.specs.Lines.{textOfLines}
 use Rattle.lines.specs.Held.{heldLine}

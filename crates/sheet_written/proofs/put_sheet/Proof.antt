@@ -7,7 +7,7 @@ use lib.ListN.{length}
 use Rattle.whole.proofs.Lists.{every-at}
 use Rattle.whole.proofs.Size.{said}
 use Rattle.page.proofs.Put.{put-length}
-use Rattle.entry.specs.Says.{hasHeights}
+use Rattle.building.specs.Year.{hasHeights}
 use Rattle.rules.specs.declared.Section.{Section}
 use Rattle.rules.specs.declared.Section.the-variants.{«V»}
 use Rattle.rules.specs.Sections.{about, sections, sectionAt}

@@ -5,7 +5,8 @@ use Rattle.whole.proofs.Size.{said}
 use Rattle.building.specs.Test.{tooLong}
 use Rattle.building.specs.Fault.{first}
 use Rattle.entry.specs.declared.Face.{Face}
-use Rattle.entry.specs.Says.{hasHeights, carriedFace}
+use Rattle.building.specs.Year.{hasHeights}
+use Rattle.entry.specs.Says.{carriedFace}
 use Rattle.rules.specs.Faults.{faceFaults}
 use Rattle.job.proofs.Written.{markTooLong, any, long, face-given, long-by}
 use borrow.Author.Needs.{needs}

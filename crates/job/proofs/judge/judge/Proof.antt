@@ -5,7 +5,7 @@ use mathlib.Core.Bool.{Bool}
 use native.Mathlib.Omega.{arith}
 use lib.ListN.{length}
 use Rattle.whole.proofs.Size.{said}
-use Rattle.entry.specs.Says.{hasHeights}
+use Rattle.building.specs.Year.{hasHeights}
 use Rattle.rules.specs.declared.Section.{Section}
 use Rattle.rules.specs.Sections.{sections, sectionAt}
 use Rattle.job.specs.declared.Job.{Job}

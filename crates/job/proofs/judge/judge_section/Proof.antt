@@ -29,7 +29,6 @@ use Rattle.job.proofs.Walk.{learnAll, EntriesInOrder}
 use Rattle.job.proofs.Sections.{Counted, countLine}
 use Rattle.job.proofs.Alone.{entry-is, entry-judged, step-judged, alone, most-24, alone-count}
 use Rattle.job.proofs.Alone.{alone-counted, alone-entry, alone-next, alone-passed}
-use Rattle.job.proofs.Written.{building-given}
 use borrow.Author.Needs.{needs, sfits-of}
 use Rattle.job.proofs.judge.judge_section.Statement.{statement}
 use Rattle.job.proofs.judge.judge_section.Tie as tie
@@ -166,7 +165,7 @@ module _ (c : tie.At-match-came Inv-loop μ-loop) (d : Carried) where
         ∙ said (λ (z : ℤ). lineFault (Entry «V») b (yearFields z)) (b .year) (w .3 .ensures b) (w .2 .given .0 .1)
         ∙ entry-judged (job turn) d i «V» b tt (a .0) (a .1)))
         (⊎-elim (λ w. let e = w .1 .given .1 in let a = holds B e in
-        found-as B e (w .3 ∙ w .2 .ensures ∙ building-given (b .building) b
+        found-as B e (w .3 ∙ w .2 .ensures
         ∙ entry-judged (job turn) d i B b tt (a .0) (a .1)))
         (⊎-elim (λ w. let e = w .1 .given .1 in let a = holds W e in
         found-as W e (w .4 ∙ w .3 .ensures ∙ entry-judged (job turn) d i W b tt (a .0) (a .1)))

@@ -4,7 +4,7 @@ use mathlib.Core.Bool.{Bool}
 use mir.Syntax.{w64}
 use Rattle.whole.proofs.Size.{said, returned}
 use Rattle.building.specs.Test.{beyond}
-use Rattle.entry.specs.Says.{hasHeights}
+use Rattle.building.specs.Year.{hasHeights}
 use borrow.Author.Needs.{needs}
 use Rattle.rules.proofs.entries.off_profile.Statement.{statement}
 use Rattle.rules.proofs.entries.off_profile.Tie as tie

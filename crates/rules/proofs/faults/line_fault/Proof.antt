@@ -7,10 +7,12 @@ use borrow.Author.Tests.{not-true, not-false}
 use Rattle.whole.proofs.Size.{said, returned}
 use Rattle.lines.specs.Held.{held}
 use Rattle.building.specs.Fault.{first}
-use Rattle.building.specs.Building.{buildingFault}
+use Rattle.building.specs.declared.Building.{Building}
+use Rattle.building.specs.Building.{faults}
 use Rattle.entry.specs.declared.Wind.{Wind}
 use Rattle.entry.specs.declared.Face.{Face}
-use Rattle.entry.specs.Says.{hasHeights, faceOf}
+use Rattle.building.specs.Year.{hasHeights}
+use Rattle.entry.specs.Says.{faceOf}
 use Rattle.rules.specs.declared.Section.{Section}
 use Rattle.rules.specs.declared.Section.the-variants.{«V», B, W, I, P, F}
 use Rattle.rules.specs.declared.Kind.{Kind}
@@ -81,10 +83,10 @@ returns-3 c =
     ∙ as-entry (t .before .before) «V» (t .enum-told .given .1)
 
 returns-4 : tie.Need-returns-4
-unfolding buildingFault
 returns-4 c =
     let t = c .before .before in
-    c .building-fault .ensures ∙ ap buildingFault (c .before .building-of .ensures)
+    let b = args (t .before .before) .args .b in
+    c .building-fault .ensures ∙ ap (λ (g : Building). first (faults (b .year) g)) (c .before .building-of .ensures)
     ∙ as-entry (t .before .before) B (t .enum-told2 .given .1)
 
 returns-5 : tie.Need-returns-5

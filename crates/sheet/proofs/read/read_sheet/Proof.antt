@@ -21,7 +21,8 @@ use Rattle.sheet.specs.Sheet.{answer}
 use Rattle.sheet.proofs.SoFar.{ReadSoFar, EntryLine, read-start, count-stops, count-read, entry-stops}
 use Rattle.sheet.proofs.SoFar.{entry-room, entry-read}
 use Rattle.sheet.proofs.SoFar.{section-end, end-extra, end-accepted}
-use Rattle.entry.specs.Says.{size, hasHeights}
+use Rattle.building.specs.Year.{hasHeights}
+use Rattle.entry.specs.Says.{size}
 use Rattle.job.proofs.Alone.{few-sections}
 use Rattle.job.specs.declared.Job.{Job}
 use Rattle.job.specs.Carried.{recorded}

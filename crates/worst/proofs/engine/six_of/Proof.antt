@@ -27,7 +27,7 @@ use Rattle.worst.proofs.Table.{nothing-filled, still-for}
 use Rattle.worst.proofs.Kept.{no-top}
 use Rattle.worst.proofs.Found.{IsTop, is-top}
 use Rattle.worst.proofs.AllCells.{six-are}
-use Rattle.worst.proofs.Accepted.{job-ready, given-sound}
+use Rattle.worst.proofs.Accepted.{job-ready, given-sound, last-reading}
 use Rattle.worst.proofs.engine.six_of.Statement.{statement}
 use Rattle.worst.proofs.engine.six_of.Tie as tie
 
@@ -165,7 +165,7 @@ returns c =
     let d = c .before .before .before .before .before in
     let j = start d .args .job in
     c .shown .ensures
-    ∙ six-are j (given-sound (carried j) (start d .pre)) (l d .loop .ends) (λ axis s. top d axis s .best)
+    ∙ six-are j (last-reading j (start d .pre)) (given-sound (carried j) (start d .pre)) (l d .loop .ends) (λ axis s. top d axis s .best)
 
 pub six-of-spec : {M : Type 1} → statement M
 six-of-spec =

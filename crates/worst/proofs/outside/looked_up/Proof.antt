@@ -1,8 +1,9 @@
 -- `outside::looked_up` meets its contract: an arm for each answer.
 use mathlib.Core.Path.{_≡_, sym, ap, _∙_}
-use lib.IntN.{ℤ}
+use lib.IntN.{ℤ, pos}
 use borrow.Author.Needs.{needs}
 use Rattle.whole.proofs.Size.{said}
+use Rattle.building.specs.Year.{lastYear}
 use Rattle.book.specs.declared.Answer.{Answer}
 use Rattle.book.specs.declared.Answer.the-variants.{Answered, Refused}
 use Rattle.book.specs.Answer.{valuesOf}
@@ -18,7 +19,7 @@ asked : (c : tie.After-outside) (a : Answer) → c .outside .result ≡ a
 asked c a e =
     let s = c .before .before .args in
     let q =
-    said (λ (d : ℤ). outsideOf (s .b) d (s .f .zone)) (s .w .direction) (c .outside .ensures)
+    said (λ (d : ℤ). outsideOf (pos lastYear) (s .b) d (s .f .zone)) (s .w .direction) (c .outside .ensures)
     (c .before .struct-told .given .0 .1) in
     ap (λ (x : Answer). firstAndLast (valuesOf x)) (sym e ∙ q)
 

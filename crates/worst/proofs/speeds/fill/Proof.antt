@@ -15,7 +15,7 @@ use Rattle.whole.proofs.Size.{num≤, back}
 use Rattle.entry.specs.declared.Step.{Step}
 use Rattle.entry.specs.declared.Face.{Face}
 use Rattle.job.specs.Carried.{noFace}
-use Rattle.entry.specs.Says.{hasHeights}
+use Rattle.building.specs.Year.{hasHeights}
 use Rattle.worst.specs.declared.speeds.Factor.{Factor}
 use Rattle.worst.specs.Speed.{factorAt}
 use Rattle.worst.specs.Forces.{factorOf}

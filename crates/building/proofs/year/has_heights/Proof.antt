@@ -1,9 +1,9 @@
 -- `has_heights` meets its contract.
 use native.Mathlib.Omega.{arith}
 use lib.IntN.{pos}
 use Rattle.building.proofs.Machine.{bits-same, bits-other}
-use Rattle.entry.proofs.says.has_heights.Statement.{statement}
-use Rattle.entry.proofs.says.has_heights.Tie as tie
+use Rattle.building.proofs.year.has_heights.Statement.{statement}
+use Rattle.building.proofs.year.has_heights.Tie as tie
 
 returns : tie.Need-returns
 returns c =
