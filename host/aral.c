@@ -112,7 +112,7 @@ static int panel(void)
 
 /* ---- Questions ---- */
 
-enum { H, A, B, KIND, X, WIND, DENSITY, INTERNAL, NUMBERS };
+enum { YEAR, H, A, B, KIND, X, WIND, DENSITY, INTERNAL, NUMBERS };
 typedef struct { int64_t number[NUMBERS]; int given[NUMBERS]; uint8_t place; } question;
 
 static int misused(const char *what, const char *word)
@@ -130,7 +130,7 @@ static uint8_t place_of(const char *kind, const char *word)
 /* Takes the words two by two; 0, or the status of a misuse. */
 static int take_words(int count, char **word, question *q)
 {
-    static const char *const name[] = {"h", "a", "b", "kind", "x", "wind", "density", "internal"};
+    static const char *const name[] = {"year", "h", "a", "b", "kind", "x", "wind", "density", "internal"};
     for (int i = 0; i < count; i += 2) {
         int k = 0;
         char *end = "";
@@ -195,21 +195,30 @@ static void refuse_place(const question *q)
     printf(": its zones are %s, its locals wall%s\n", zones_of(kind), more);
 }
 
+/* The building's line is explained as that of its sheet, which is written up to there. */
+static void refuse_building(const int64_t *v, aral_answer refusal)
+{
+    char sheet[200] = "";
+    int n = v[YEAR] == 1 ? 0 : snprintf(sheet, sizeof sheet, "V 1\n%" PRId64 "\n", v[YEAR]);
+    n += snprintf(sheet + n, sizeof sheet - (size_t)n,
+                  "B 1\n%" PRId64 " %" PRId64 " %" PRId64 " %" PRId64 " %" PRId64 " %" PRId64 "\n", v[H], v[A], v[B],
+                  v[DENSITY], v[KIND], v[X]);
+    printf("The building is refused as line %u of its sheet would be:\n", refusal.line);
+    explain((const uint8_t *)sheet, (size_t)n, refusal);
+}
+
 static int refuse_question(const question *q, const aral_coefficient *c)
 {
     const int64_t *v = q->number;
-    if (c->line == 2) {
-        char building[200];
-        int n = snprintf(building, sizeof building,
-                         "B 1\n%" PRId64 " %" PRId64 " %" PRId64 " %" PRId64 " %" PRId64 " %" PRId64 "\n",
-                         v[H], v[A], v[B], v[DENSITY], v[KIND], v[X]);
-        printf("The building is refused as line 2 of its sheet would be:\n");
-        explain((const uint8_t *)building, (size_t)n, (aral_answer){c->number, 2});
+    if (c->line > 0) {
+        refuse_building(v, (aral_answer){c->number, c->line});
         return REFUSED;
     }
     printf("refused with %u: ", c->number);
     if (c->number == 6) {
         refuse_place(q);
+    } else if (v[YEAR] < 1 || v[YEAR] > 3) {
+        printf("the year is %" PRId64 "; it must be 1 to 3\n", v[YEAR]);
     } else if (!has_wind(v[KIND], v[WIND])) {
         printf("the wind is %" PRId64 "; it must be %s on ", v[WIND], winds_of(v[KIND]));
         print_roof(v[KIND], v[X]);
@@ -246,14 +255,14 @@ static void answer_question(const question *q, const asked *what, const aral_coe
 
 static int ask(int count, char **word)
 {
-    question q = {.number = {[DENSITY] = 1250}};
+    question q = {.number = {[YEAR] = 1, [DENSITY] = 1250}};
     const int64_t *v = q.number;
     int status = take_words(count, word, &q);
     if (status) return status;
-    asked what = {v[H], v[A], v[B], v[DENSITY], v[KIND], v[X], v[WIND], q.place};
+    asked what = {v[YEAR], v[H], v[A], v[B], v[DENSITY], v[KIND], v[X], v[WIND], q.place};
     aral_coefficient c[] = {
-        aral_outside(v[H], v[A], v[B], v[DENSITY], v[KIND], v[X], v[WIND], q.place),
-        aral_net(v[H], v[A], v[B], v[DENSITY], v[KIND], v[X], v[WIND], q.place, v[INTERNAL])};
+        aral_outside(v[YEAR], v[H], v[A], v[B], v[DENSITY], v[KIND], v[X], v[WIND], q.place),
+        aral_net(v[YEAR], v[H], v[A], v[B], v[DENSITY], v[KIND], v[X], v[WIND], q.place, v[INTERNAL])};
     for (int net = 0; net < 2; net++)
         if (c[net].number) return refuse_question(&q, &c[net]);
     answer_question(&q, &what, c);

@@ -13,7 +13,7 @@
 
 enum { OUT = 2048, WALKED = 4096 };
 static struct {
-    unsigned long sheets, high, single, accepted, refused[9], walked, questions, answered, numbers, calls;
+    unsigned long sheets, high, single, square, accepted, refused[9], walked, questions, answered, numbers, calls;
 } tally;
 static dice die;
 
@@ -132,6 +132,7 @@ static void compare_sheets(unsigned long count)
     for (unsigned long i = 0; i < count; i++) {
         make_sample(&die, &s);
         tally.single += s.kind == 6;
+        tally.square += s.a == s.b;
         if (i % 4 == 1) spoil(&die, &s);
         write_sample(&s, &t);
         if (i % 4 >= 2) damage(&die, &t);
@@ -170,13 +171,13 @@ static void show_coefficient(const char *whose, const aral_coefficient *c)
     printf("rows %u and %u, %u/%u\n", c->lower, c->upper, c->part, c->whole);
 }
 
-static void ask_both(const sample *s, int64_t direction, uint8_t place, int64_t internal)
+static void ask_both(int64_t year, const sample *s, int64_t direction, uint8_t place, int64_t internal)
 {
     aral_coefficient p[2], q[2];
-    p[0] = aral_outside(s->h, s->a, s->b, s->density, s->kind, s->x, direction, place);
-    q[0] = plain_outside(s->h, s->a, s->b, s->density, s->kind, s->x, direction, place);
-    p[1] = aral_net(s->h, s->a, s->b, s->density, s->kind, s->x, direction, place, internal);
-    q[1] = plain_net(s->h, s->a, s->b, s->density, s->kind, s->x, direction, place, internal);
+    p[0] = aral_outside(year, s->h, s->a, s->b, s->density, s->kind, s->x, direction, place);
+    q[0] = plain_outside(year, s->h, s->a, s->b, s->density, s->kind, s->x, direction, place);
+    p[1] = aral_net(year, s->h, s->a, s->b, s->density, s->kind, s->x, direction, place, internal);
+    q[1] = plain_net(year, s->h, s->a, s->b, s->density, s->kind, s->x, direction, place, internal);
     tally.calls += 2;
     tally.questions++;
     tally.answered += p[0].number == 0;
@@ -184,7 +185,8 @@ static void ask_both(const sample *s, int64_t direction, uint8_t place, int64_t 
         if (same_coefficient(&p[net], &q[net]) && right_rows(&p[net])) continue;
         printf("%s of %" PRId64 " %" PRId64 " %" PRId64 " %" PRId64 " %" PRId64 " %" PRId64, net ? "net" : "outside",
                s->h, s->a, s->b, s->density, s->kind, s->x);
-        printf(", direction %" PRId64 ", place %u, internal %" PRId64 "\n", direction, place, internal);
+        printf(", year %" PRId64 ", direction %" PRId64 ", place %u, internal %" PRId64 "\n", year, direction, place,
+               internal);
         show_coefficient("library", &p[net]);
         show_coefficient("plain", &q[net]);
         differ("a question", NULL);
@@ -203,41 +205,43 @@ static void compare_questions(unsigned long count)
         sample s;
         make_building(&die, &s);
         int64_t direction = direction_of(&die, pick(&die, 0, 3) ? s.kind : 6), internal = pick(&die, -100, 100);
-        int64_t *number[] = {&s.h, &s.a, &s.b, &s.density, &s.kind, &s.x, &direction, &internal};
+        int64_t year = pick(&die, 0, 3) ? s.year : pick(&die, -1, 4);
+        int64_t *number[] = {&s.h, &s.a, &s.b, &s.density, &s.kind, &s.x, &direction, &internal, &year};
         for (int64_t slips = pick(&die, 0, 2); slips > 0; slips--) {
-            int64_t *slip = number[pick(&die, 0, 7)];
+            int64_t *slip = number[pick(&die, 0, 8)];
             *slip = edge_of(&die, *slip);
         }
-        ask_both(&s, direction, some_place(), internal);
+        ask_both(year, &s, direction, some_place(), internal);
     }
 }
 
-/* Every place of one building under each of its roof's winds. */
+/* Every place of one building under each of its roof's winds, in its year. */
 static void ask_all(const sample *s)
 {
     int64_t last = s->kind == 6 ? 180 : 90, turn = s->kind == 6 ? 45 : 90;
     for (const char *place = "ABCDEFGHw12"; *place; place++)
         for (int64_t direction = 0; direction <= last; direction += turn)
-            ask_both(s, direction, (uint8_t)*place, -100);
+            ask_both(s->year, s, direction, (uint8_t)*place, -100);
 }
 
-/* Every slope and every mansard's angle in every block of the walls' table, and a grid of parapets and curved eaves. */
+/* Every slope and every mansard's angle in every block of the walls' table, in each year, and of square plans; and a
+   grid of parapets and curved eaves. */
 static void compare_tables(void)
 {
-    static const int64_t tall[] = {100, 500, 501, 1500, 1501, 6000}, wide[] = {1001, 1500, 1501, 4000};
-    for (int i = 0; i < 24; i++) {
-        sample s = {.h = tall[i / 4], .a = wide[i % 4], .b = 1000, .density = 1250, .kind = 1};
-        for (s.x = i % 4; s.x <= 604; s.x += 4) ask_all(&s);
+    static const int64_t tall[] = {100, 500, 501, 1500, 1501, 6000}, wide[] = {1000, 1001, 1500, 1501, 4000};
+    for (int i = 0; i < 90; i++) {
+        sample s = {.year = 1 + i % 3, .h = tall[i / 15], .a = wide[i / 3 % 5], .b = 1000, .density = 1250, .kind = 1};
+        for (s.x = i % 5; s.x <= 604; s.x += 5) ask_all(&s);
         s.kind = 5;
-        for (s.x = 296 + i % 4; s.x <= 904; s.x += 4) ask_all(&s);
+        for (s.x = 296 + i % 5; s.x <= 904; s.x += 5) ask_all(&s);
         s.kind = 6;
-        for (s.x = 46 + i % 4; s.x <= 304; s.x += 4) ask_all(&s);
+        for (s.x = 46 + i % 5; s.x <= 304; s.x += 5) ask_all(&s);
     }
     for (int64_t kind = 3; kind <= 4; kind++)
         for (int64_t h = 100; h <= 30000; h += h < 1000 ? 100 : 2900) {
-            sample s = {.h = h, .a = 12000, .b = 10000, .density = 1250, .kind = kind};
+            sample s = {.year = 1, .h = h, .a = 12000, .b = 10000, .density = 1250, .kind = kind};
             for (s.x = 0; s.x <= h / 5 + 1; s.x++)
-                for (const char *place = "E12"; *place; place++) ask_both(&s, 0, (uint8_t)*place, 100);
+                for (const char *place = "E12"; *place; place++) ask_both(s.year, &s, 0, (uint8_t)*place, 100);
         }
 }
 
@@ -314,7 +318,8 @@ int main(int argc, char **argv)
     compare_sheets(strtoul(argv[2], NULL, 10));
     compare_questions(strtoul(argv[3], NULL, 10));
     compare_numbers(strtoul(argv[4], NULL, 10));
-    printf("%lu sheets, %lu of them opening with V, %lu with a single slope: ", tally.sheets, tally.high, tally.single);
+    printf("%lu sheets, %lu of them opening with V, %lu with a single slope, %lu square: ", tally.sheets, tally.high,
+           tally.single, tally.square);
     printf("%lu accepted, refused by number", tally.accepted);
     for (int number = 1; number <= 8; number++)
         if (number != ARAL_ROOM) printf(" %d: %lu", number, tally.refused[number]);

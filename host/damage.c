@@ -73,11 +73,11 @@ static void damage_count(dice *d, text *t)
 static void damage_year(dice *d, text *t)
 {
     static const char *const opening[] = {
-        "", "2\n", "V 1\n", "V 1\n2\n", "V 1\n1\n", "V 1\n3\n", "V 1\n-2\n", "V 1\n02\n", "V 1\n2 \n", "V 1\n\n",
+        "", "2\n", "V 1\n", "V 1\n1\n", "V 1\n4\n", "V 1\n-2\n", "V 1\n02\n", "V 1\n03\n", "V 1\n2 \n", "V 1\n\n",
         "V 1\n9999999\n", "V 1\n10000000\n", "V 0\n", "V 2\n2\n", "V 2\n2\n2\n", "V 1 2\n", "V\n2\n", "VX 1\n2\n",
-        "v 1\n2\n", "V 1\n2\nV 1\n2\n", "V 1\n2\nP 1\n0 1\n"};
+        "v 1\n2\n", "V 1\n2\nV 1\n2\n", "V 1\n2\nP 1\n0 1\n", "V 1\n2\n", "V 1\n2\n", "V 1\n3\n", "V 1\n3\n"};
     size_t gone = t->length > 6 && t->byte[0] == 'V' && pick(d, 0, 7) ? 6 : 0;
-    splice_word(t, 0, gone, opening[pick(d, 0, 20)]);
+    splice_word(t, 0, gone, opening[pick(d, 0, 24)]);
 }
 
 static void damage_spelling(dice *d, text *t)

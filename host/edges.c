@@ -147,14 +147,18 @@ static void every_digit(void)
 }
 
 /* Every count and every field of a sheet as long as it may be. Of all kinds 6 has the longest: its directions and marks
-   have one byte more, 8 and 24 of them, and x one less than the 4 bytes of curved eaves. */
-static const struct { int year, kind, x, direction; size_t length; } longest_of[] = {
-    {1, 4, 1200, 90, 827}, {1, 6, 300, 180, 858}, {2, 4, 1200, 90, 1158}, {2, 6, 300, 180, 1189}};
+   have one byte more, 8 and 24 of them, and x one less than the 4 bytes of curved eaves. Years 2 and 3 have one form;
+   those of year 3 here are square. */
+enum { LONGEST = 6 };
+static const struct { int year, kind, x, direction; size_t length; } longest_of[LONGEST] = {
+    {1, 4, 1200, 90, 827}, {1, 6, 300, 180, 858}, {2, 4, 1200, 90, 1158}, {2, 6, 300, 180, 1189},
+    {3, 4, 1200, 90, 1158}, {3, 6, 300, 180, 1189}};
 
 static void longest(int which, text *t)
 {
-    static sample s = {.h = 12000, .a = 12000, .b = 10000, .density = 1250, .winds = 8, .internals = 4, .faces = 24};
+    static sample s = {.h = 12000, .b = 10000, .density = 1250, .winds = 8, .internals = 4, .faces = 24};
     s.year = longest_of[which].year;
+    s.a = s.year == 3 ? 10000 : 12000;
     s.kind = longest_of[which].kind;
     s.x = longest_of[which].x;
     s.steps = s.year == 1 ? 0 : 16;
@@ -223,7 +227,7 @@ int main(int argc, char **argv)
     output = make_fence(PAGE);
     watch_pages();
     printf("seed %s\n", argv[1]);
-    for (int which = 0; which < 4; which++) {
+    for (int which = 0; which < LONGEST; which++) {
         longest(which, &t);
         very_long(&t);
         every_length(&t);

@@ -12,7 +12,7 @@
 #endif
 
 enum { WINDS = 8, INTERNALS = 4, STEPS = 16, FACES = 24, TURNS = 5 };
-enum { LAST_YEAR = 2 };   /* the sheets of years 2 to here open with V and have one form */
+enum { LAST_YEAR = 3 };   /* the sheets of years 2 to here open with V and have one form */
 enum { EVERY = 99999999 }; /* a face's mark `-`, for every wind: no number in form is so large */
 enum { FORM = 1, COUNT, RANGE, RATIO, ROOF, PLACE, ROOM, HEIGHT };
 enum { NO_ROOF, GABLE, STRAIGHT, PARAPET, CURVED, MANSARD, SINGLE };
@@ -205,12 +205,18 @@ static int roof_number_fits(const building *house)
     }
 }
 
-static int building_fault(const building *house)
+/* The first row of the walls' table starts just over a square plan, and from year 3 on at it. */
+static int sides_fit(int64_t year, const building *house)
+{
+    return (year >= 3 ? house->a >= house->b : house->a > house->b) && house->a <= 4 * house->b;
+}
+
+static int building_fault(int64_t year, const building *house)
 {
     if (!within(house->h, 100, 30000) || !within(house->a, 100, 30000) || !within(house->b, 100, 30000)
         || !within(house->density, 1000, 1500) || !within(house->kind, NO_ROOF, SINGLE) || !within(house->x, 0, 30000))
         return RANGE;
-    if (house->h > 6 * house->b || house->a <= house->b || house->a > 4 * house->b) return RATIO;
+    if (house->h > 6 * house->b || !sides_fit(year, house)) return RATIO;
     return roof_number_fits(house) ? 0 : ROOF;
 }
 
@@ -267,13 +273,13 @@ static int read_year(reader *r, job *j)
     return within(j->year, 2, LAST_YEAR) ? 0 : RANGE;
 }
 
-static int read_building(reader *r, building *house)
+static int read_building(reader *r, job *j)
 {
     int value[6];
     r->line++;
     if (!numbers(r, 6, value)) return FORM;
-    *house = (building){value[0], value[1], value[2], value[3], value[4], value[5]};
-    return building_fault(house);
+    j->house = (building){value[0], value[1], value[2], value[3], value[4], value[5]};
+    return building_fault(j->year, &j->house);
 }
 
 static int read_winds(reader *r, job *j)
@@ -365,7 +371,7 @@ static aral_answer read_job(const uint8_t *sheet, size_t n, job *j)
     reader r = {sheet, n, 0, 0};
     int count, fault = read_year(&r, j);
     if (!fault) fault = read_count(&r, 'B', 1, &count);
-    if (!fault) fault = read_building(&r, &j->house);
+    if (!fault) fault = read_building(&r, j);
     if (!fault) fault = read_winds(&r, j);
     if (!fault) fault = read_internals(&r, j);
     if (!fault) fault = read_profile(&r, j);
@@ -654,16 +660,17 @@ static void find_rows(aral_coefficient *c, const building *house, uint8_t place)
     else set_rows(c, s.lower->number, s.upper->number, s.part, s.whole);
 }
 
-aral_coefficient ENTRY(outside)(int64_t h, int64_t a, int64_t b, int64_t density, int64_t kind, int64_t x,
-                                int64_t direction, uint8_t place)
+aral_coefficient ENTRY(outside)(int64_t year, int64_t h, int64_t a, int64_t b, int64_t density, int64_t kind,
+                                int64_t x, int64_t direction, uint8_t place)
 {
     building house = {h, a, b, density, kind, x};
     int64_t number[6] = {h, a, b, density, kind, x};
     int value[2], fault = 0;
+    if (!within(year, 1, LAST_YEAR)) return refused(RANGE, 0);
     for (int i = 0; i < 6; i++)
         if (!within(number[i], -9999999, 9999999)) fault = FORM;
-    if (!fault) fault = building_fault(&house);
-    if (fault) return refused(fault, 2);
+    if (!fault) fault = building_fault(year, &house);
+    if (fault) return refused(fault, year == 1 ? 2 : 4);
     if (!knows(&house, direction)) return refused(RANGE, 0);
     int count = outside(&house, (int)direction, place, value);
     if (count == 0) return refused(PLACE, 0);
@@ -672,10 +679,10 @@ aral_coefficient ENTRY(outside)(int64_t h, int64_t a, int64_t b, int64_t density
     return c;
 }
 
-aral_coefficient ENTRY(net)(int64_t h, int64_t a, int64_t b, int64_t density, int64_t kind, int64_t x,
+aral_coefficient ENTRY(net)(int64_t year, int64_t h, int64_t a, int64_t b, int64_t density, int64_t kind, int64_t x,
                             int64_t direction, uint8_t place, int64_t internal)
 {
-    aral_coefficient c = ENTRY(outside)(h, a, b, density, kind, x, direction, place);
+    aral_coefficient c = ENTRY(outside)(year, h, a, b, density, kind, x, direction, place);
     if (c.number) return c;
     if (!within(internal, -100, 100)) return refused(RANGE, 0);
     for (uint32_t i = 0; i < c.count; i++) c.value[i] -= 10 * (int32_t)internal;

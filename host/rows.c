@@ -38,10 +38,10 @@ static aral_coefficient printed_in(const asked *q, uint32_t row)
     uint32_t k = row - 1;
     if (q->kind == 1 || q->kind == 6) {
         int at = q->kind == 1 ? gable_at[k] : single_at[k];
-        return aral_outside(q->h, q->a, q->b, q->density, q->kind, at, q->direction, q->place);
+        return aral_outside(q->year, q->h, q->a, q->b, q->density, q->kind, at, q->direction, q->place);
     }
     int kind = flat_at[k].kind, x = kind == 5 ? flat_at[k].at : 4 * flat_at[k].at;
-    return aral_outside(4000, 4800, 4000, q->density, kind, x, q->direction, q->place);
+    return aral_outside(q->year, 4000, 4800, 4000, q->density, kind, x, q->direction, q->place);
 }
 
 /* As the book prints it: with its sign where both signs are meant, else only where it is negative. */

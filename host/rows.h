@@ -5,7 +5,7 @@
 #include "aralimogga.h"
 
 /* A question about a coefficient, as aral_outside takes it. */
-typedef struct { int64_t h, a, b, density, kind, x, direction; uint8_t place; } asked;
+typedef struct { int64_t year, h, a, b, density, kind, x, direction; uint8_t place; } asked;
 
 /* Prints the rows of an answered question, without a line end, as `row 3 (10 degrees): -1.200` or
    `between row 6 (45 degrees, 0.30) and row 7 (60 degrees, 0.70), 1/150 of the way: 0.303`. */

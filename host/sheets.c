@@ -85,23 +85,26 @@ static int64_t height(dice *d, int64_t b)
 
 static int acceptable(const sample *s)
 {
-    return plain_outside(s->h, s->a, s->b, s->density, s->kind, s->x, 0, 'A').number == 0;
+    return plain_outside(s->year, s->h, s->a, s->b, s->density, s->kind, s->x, 0, 'A').number == 0;
 }
 
-static void building_of_kind(dice *d, sample *s, int64_t kind)
+/* Of year 3 many are square. */
+static void building_of(dice *d, sample *s, int year, int64_t kind)
 {
     static const int64_t over[] = {1, 3, 4}, under[] = {1, 2, 1};
+    s->year = year;
     s->kind = kind;
     do {
         s->b = pick(d, 0, 3) ? pick(d, 100, 10000) : ONE_OF(d, 100, 101, 1000, 7500, 20000, 29999);
         s->a = pick(d, 0, 1) ? near_ratio(d, s->b, over, under, 3) : pick(d, s->b, 4 * s->b);
+        if (year == 3 && pick(d, 0, 2) == 0) s->a = s->b;
         s->h = clamp(height(d, s->b), 100, 30000);
         s->density = pick(d, 0, 1) ? 1250 : ONE_OF(d, 1000, 1001, 1225, 1499, 1500);
         s->x = roof_number(d, s);
     } while (!acceptable(s));
 }
 
-void make_building(dice *d, sample *s) { building_of_kind(d, s, pick(d, 0, 6)); }
+void make_building(dice *d, sample *s) { building_of(d, s, (int)pick(d, 1, 3), pick(d, 0, 6)); }
 
 /* ---- Profiles ---- */
 
@@ -116,11 +119,9 @@ static int64_t rising(dice *d, int64_t least, int64_t most, int left)
     }
 }
 
-/* Lines of a profile, from year 2 on; none is year 1. */
 static void make_profile(dice *d, sample *s, int steps)
 {
     int64_t least = 0;
-    s->year = steps ? 2 : 1;
     s->steps = steps;
     for (int i = 0; i < steps; i++) {
         s->step[i].height = (int)rising(d, least, 30000 - (steps - 1 - i), steps - i);
@@ -166,9 +167,9 @@ static int mark_of(dice *d, int64_t kind, char zone)
     return pick(d, 0, 1) ? DASH : direction_of(d, kind);
 }
 
-void make_sized(dice *d, sample *s, int64_t kind, int winds, int internals, int steps, int faces)
+void make_sized(dice *d, sample *s, int year, int64_t kind, int winds, int internals, int steps, int faces)
 {
-    building_of_kind(d, s, kind);
+    building_of(d, s, year, kind);
     make_profile(d, s, steps);
     s->winds = winds;
     s->internals = internals;
@@ -189,19 +190,20 @@ void make_sized(dice *d, sample *s, int64_t kind, int winds, int internals, int 
 
 void make_sample(dice *d, sample *s)
 {
-    int small = (int)pick(d, 0, 1), first_year = (int)pick(d, 0, 1);
-    make_sized(d, s, pick(d, 0, 6), (int)pick(d, 1, small ? 2 : 8), (int)pick(d, 1, small ? 2 : 4),
-               first_year ? 0 : (int)pick(d, 1, small ? 3 : 16), (int)pick(d, 1, small ? 5 : 24));
+    int small = (int)pick(d, 0, 1), year = (int)pick(d, 1, 3);
+    make_sized(d, s, year, pick(d, 0, 6), (int)pick(d, 1, small ? 2 : 8), (int)pick(d, 1, small ? 2 : 4),
+               year == 1 ? 0 : (int)pick(d, 1, small ? 3 : 16), (int)pick(d, 1, small ? 5 : 24));
 }
 
 static void spoil_building(dice *d, sample *s)
 {
     int64_t *number[] = {&s->h, &s->a, &s->b, &s->density, &s->x, &s->x, &s->x, &s->kind};
     int64_t *slip = number[pick(d, 0, 7)];
-    switch (pick(d, 0, 3)) {
+    switch (pick(d, 0, 4)) {
     case 0: *slip += pick(d, -3, 3); break;
     case 1: *slip = ONE_OF(d, 0, 6, 7, 49, 99, 100, 301, 999, 1000, 1501, 30000, 30001, 9999999, -1, -9999999); break;
     case 2: *slip = *slip * pick(d, 1, 8) / pick(d, 1, 8); break;
+    case 3: s->a = s->b + pick(d, -1, 1); break;
     default: *slip = s->b * pick(d, 0, 7); break;
     }
 }
@@ -211,7 +213,7 @@ static void spoil_profile(dice *d, sample *s)
     int i = (int)pick(d, 0, s->steps - 1), before = i > 0 ? s->step[i - 1].height : 0;
     int face = (int)pick(d, 0, s->faces - 1), end = pick(d, 0, 1) ? 0 : s->steps - 1;
     switch (pick(d, 0, 5)) {
-    case 0: s->year = (int)ONE_OF(d, 0, 1, 3, 4, 5, 20, -2, 9999999); break;
+    case 0: s->year = (int)ONE_OF(d, 0, 1, 2, 3, 4, 5, 20, -2, -3, 9999999); break;
     case 1: s->step[i].height = before - (int)pick(d, 0, 1); break;
     case 2: s->step[i].height = (int)ONE_OF(d, -1, 30001, 9999999, -9999999); break;
     case 3: s->step[i].factor = (int)ONE_OF(d, 0, -1, 1001, 9999999); break;

@@ -7,7 +7,7 @@
 
 typedef struct { uint64_t state; } dice;
 
-/* A job as a test holds it. Without a line of the profile it is of year 1. A mark is a number, or DASH. */
+/* A job as a test holds it. In year 1 it has no line of the profile. A mark is a number, or DASH. */
 enum { DASH = 99999999 };
 typedef struct {
     int64_t h, a, b, density, kind, x;
@@ -25,9 +25,9 @@ int64_t pick(dice *d, int64_t least, int64_t greatest);       /* a number of a r
 int64_t edge_of(dice *d, int64_t usual);                      /* `usual`, or a 64-bit number that is easily mistaken */
 
 int direction_of(dice *d, int64_t kind);                      /* one that the roof kind has */
-void make_building(dice *d, sample *s);                       /* an acceptable building */
+void make_building(dice *d, sample *s);                       /* an acceptable building of some year */
 void make_sample(dice *d, sample *s);                         /* an acceptable job */
-void make_sized(dice *d, sample *s, int64_t kind, int winds, int internals, int steps, int faces);
+void make_sized(dice *d, sample *s, int year, int64_t kind, int winds, int internals, int steps, int faces);
 void spoil(dice *d, sample *s);                               /* one number or letter, mostly not allowed */
 void write_sample(const sample *s, text *t);                  /* its sheet */
 void damage(dice *d, text *t);                                /* one slip, which may leave the sheet acceptable */

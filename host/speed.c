@@ -35,7 +35,8 @@ int main(int argc, char **argv)
     }
     reports *report = strcmp(argv[1], "plain") ? aral_report : plain_report;
     for (int i = 0; i < 6; i++) {
-        make_sized(&die, &s, argv[2][i] - '0', atoi(argv[3]), atoi(argv[4]), atoi(argv[5]), atoi(argv[6]));
+        make_sized(&die, &s, atoi(argv[5]) ? 2 : 1, argv[2][i] - '0', atoi(argv[3]), atoi(argv[4]), atoi(argv[5]),
+                   atoi(argv[6]));
         write_sample(&s, &sheet[i]);
     }
     unsigned long count = strtoul(argv[7], NULL, 10);

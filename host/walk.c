@@ -45,7 +45,8 @@ static aral_coefficient net_of(const sample *s, int direction, int internal, int
 {
     aral_coefficient c = {.count = 1};
     if (s->kind != 6 || s->zone[i] <= 'D')
-        return plain_net(s->h, s->a, s->b, s->density, s->kind, s->x, direction, (uint8_t)s->zone[i], internal);
+        return plain_net(s->year, s->h, s->a, s->b, s->density, s->kind, s->x, direction, (uint8_t)s->zone[i],
+                         internal);
     c.value[0] = (int32_t)(single_slope(s->x, direction, s->zone[i]) - 10 * internal);
     return c;
 }

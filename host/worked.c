@@ -8,8 +8,8 @@ typedef struct {
     const char *name;
     aral_answer (*read)(const uint8_t *, size_t);
     aral_text (*report)(const uint8_t *, size_t, uint8_t *, size_t);
-    aral_coefficient (*outside)(int64_t, int64_t, int64_t, int64_t, int64_t, int64_t, int64_t, uint8_t);
-    aral_coefficient (*net)(int64_t, int64_t, int64_t, int64_t, int64_t, int64_t, int64_t, uint8_t, int64_t);
+    aral_coefficient (*outside)(int64_t, int64_t, int64_t, int64_t, int64_t, int64_t, int64_t, int64_t, uint8_t);
+    aral_coefficient (*net)(int64_t, int64_t, int64_t, int64_t, int64_t, int64_t, int64_t, int64_t, uint8_t, int64_t);
     aral_double (*panel)(int64_t);
 } calculator;
 
@@ -32,71 +32,71 @@ static void expect(const calculator *c, const char *what, int holds)
    is 201/4000. A parapet of 350 in 4000: (0.0875 - 0.05) / 0.05 = 3/4. A mansard of 60.1: 0.1 / (90 - 60) = 1/300. */
 typedef struct {
     const char *name;
-    int64_t h, a, b, kind, x, direction;
+    int64_t year, h, a, b, kind, x, direction;
     char place;
     uint32_t number, line;
     int32_t value;
     uint32_t lower, upper, part, whole;
 } row;
 static const row questions[] = {
-    {"P1", 500, 1200, 1000, 0, 0, 0, 'B', 0, 0, -200, 1, 1, 0, 1},
-    {"P2", 501, 1200, 1000, 0, 0, 0, 'B', 0, 0, -250, 3, 3, 0, 1},
-    {"P3", 500, 1500, 1000, 0, 0, 0, 'C', 0, 0, -500, 1, 1, 0, 1},
-    {"P4", 500, 1501, 1000, 0, 0, 0, 'C', 0, 0, -600, 2, 2, 0, 1},
-    {"P5", 500, 1000, 1000, 0, 0, 0, 'A', 4, 2, 0, 0, 0, 0, 0},
-    {"P6 accepted", 500, 4000, 1000, 0, 0, 0, 'A', 0, 0, 700, 2, 2, 0, 1},
-    {"P6 refused", 500, 4001, 1000, 0, 0, 0, 'A', 4, 2, 0, 0, 0, 0, 0},
-    {"P7 accepted", 6000, 1200, 1000, 0, 0, 0, 'A', 0, 0, 800, 5, 5, 0, 1},
-    {"P7 refused", 6001, 1200, 1000, 0, 0, 0, 'A', 4, 2, 0, 0, 0, 0, 0},
-    {"P8", 500, 1200, 1000, 1, 123, 0, 'E', 0, 0, -1016, 3, 4, 23, 100},
-    {"P9", 500, 1200, 1000, 1, 451, 0, 'E', 0, 0, 303, 6, 7, 1, 150},
-    {"P10", 500, 1200, 1000, 1, 150, 0, 'E', 0, 0, -800, 3, 4, 1, 2},
-    {"P11", 12000, 12000, 10000, 4, 603, 0, '1', 0, 0, -1499, 5, 6, 1, 200},
-    {"P12's coefficient", 500, 1200, 1000, 0, 0, 0, 'A', 0, 0, 700, 1, 1, 0, 1},
-    {"half, away from zero", 4000, 1200, 1000, 4, 201, 0, 'E', 0, 0, -400, 5, 6, 1, 200},
-    {"the local of the last row", 1501, 1501, 1000, 0, 0, 90, 'w', 0, 0, -1200, 6, 6, 0, 1},
-    {"the first slope", 500, 1200, 1000, 1, 0, 0, 'E', 0, 0, -800, 1, 1, 0, 1},
-    {"the last slope of the second block", 1500, 1200, 1000, 1, 600, 90, 'H', 0, 0, -800, 14, 14, 0, 1},
-    {"equal neighbours are two rows all the same", 500, 1200, 1000, 1, 75, 0, 'G', 0, 0, -400, 2, 3, 1, 2},
-    {"the third gable block begins at row 15", 1501, 1200, 1000, 1, 25, 90, 'E', 0, 0, -850, 15, 16, 1, 2},
-    {"the third gable block has 40 degrees", 1501, 1200, 1000, 1, 400, 0, 'E', 0, 0, -200, 20, 20, 0, 1},
-    {"the third gable block has 50 degrees", 1501, 1200, 1000, 1, 500, 0, 'E', 0, 0, 200, 21, 21, 0, 1},
-    {"straight eaves", 500, 1200, 1000, 2, 0, 0, 'E', 0, 0, -700, 1, 1, 0, 1},
-    {"the least parapet", 4000, 1200, 1000, 3, 100, 0, '2', 0, 0, -1800, 2, 2, 0, 1},
-    {"a parapet between", 4000, 1200, 1000, 3, 350, 0, '1', 0, 0, -1850, 3, 4, 3, 4},
-    {"a mansard on its last own row", 500, 1200, 1000, 5, 600, 0, '1', 0, 0, -1900, 10, 10, 0, 1},
-    {"a mansard towards straight eaves", 500, 1200, 1000, 5, 601, 0, '1', 0, 0, -1902, 10, 1, 1, 300},
-    {"straight eaves at 90", 500, 1200, 1000, 5, 900, 0, '1', 0, 0, -2500, 1, 1, 0, 1},
-    {"no local on a gable", 500, 1200, 1000, 1, 100, 0, '1', 6, 0, 0, 0, 0, 0, 0},
-    {"no roof zone without a roof", 500, 1200, 1000, 0, 0, 90, 'E', 6, 0, 0, 0, 0, 0, 0},
-    {"the direction, for locals too", 500, 1200, 1000, 2, 0, 45, 'w', 3, 0, 0, 0, 0, 0, 0},
-    {"the direction before the zone", 500, 1200, 1000, 0, 0, 45, 'E', 3, 0, 0, 0, 0, 0, 0},
-    {"the building before the direction", 500, 1000, 1000, 0, 0, 45, 'E', 4, 2, 0, 0, 0, 0, 0},
-    {"eight digits are a form fault", 10000000, 1200, 1000, 0, 0, 0, 'A', 1, 2, 0, 0, 0, 0, 0},
-    {"seven digits are out of range", 9999999, 1200, 1000, 0, 0, 0, 'A', 3, 2, 0, 0, 0, 0, 0},
-    {"no such roof number", 500, 1200, 1000, 2, 1, 0, 'A', 5, 2, 0, 0, 0, 0, 0},
-    {"a single slope from 5 degrees", 500, 1200, 1000, 6, 49, 0, 'A', 5, 2, 0, 0, 0, 0, 0},
-    {"a single slope to 30 degrees", 500, 1200, 1000, 6, 301, 0, 'A', 5, 2, 0, 0, 0, 0, 0},
-    {"a square plan under a single slope, before its slope", 500, 1000, 1000, 6, 49, 0, 'A', 4, 2, 0, 0, 0, 0, 0},
-    {"no roof kind 7", 500, 1200, 1000, 7, 100, 0, 'A', 3, 2, 0, 0, 0, 0, 0},
-    {"a tenth over 10 degrees", 500, 1200, 1000, 6, 101, 135, 'E', 0, 0, -894, 1, 2, 1, 50},
-    {"a tenth under 30 degrees", 500, 1200, 1000, 6, 299, 180, 'H', 0, 0, -606, 4, 5, 49, 50},
-    {"the tallest building has the same slopes", 6000, 4000, 1000, 6, 150, 45, 'G', 0, 0, -700, 2, 2, 0, 1},
-    {"a wall beside a single slope", 500, 1200, 1000, 6, 100, 90, 'B', 0, 0, -500, 1, 1, 0, 1},
-    {"its wall local", 500, 1200, 1000, 6, 100, 0, 'w', 0, 0, -800, 1, 1, 0, 1},
-    {"no wall under 45", 500, 1200, 1000, 6, 100, 45, 'A', 6, 0, 0, 0, 0, 0, 0},
-    {"no wall under 135", 500, 1200, 1000, 6, 100, 135, 'D', 6, 0, 0, 0, 0, 0, 0},
-    {"no wall under 180", 500, 1200, 1000, 6, 100, 180, 'B', 6, 0, 0, 0, 0, 0, 0},
-    {"no wall local under 180", 500, 1200, 1000, 6, 100, 180, 'w', 6, 0, 0, 0, 0, 0, 0},
-    {"no L1 on a single slope", 500, 1200, 1000, 6, 100, 0, '1', 6, 0, 0, 0, 0, 0, 0},
-    {"no L2 on a single slope", 500, 1200, 1000, 6, 100, 45, '2', 6, 0, 0, 0, 0, 0, 0},
-    {"no zone I on a single slope", 500, 1200, 1000, 6, 100, 180, 'I', 6, 0, 0, 0, 0, 0, 0},
-    {"no wind 225, before the zone", 500, 1200, 1000, 6, 100, 225, 'I', 3, 0, 0, 0, 0, 0, 0},
-    {"no wind 44", 500, 1200, 1000, 6, 100, 44, 'E', 3, 0, 0, 0, 0, 0, 0},
-    {"no wind -45", 500, 1200, 1000, 6, 100, -45, 'E', 3, 0, 0, 0, 0, 0, 0},
-    {"no wind 45 on a gable", 500, 1200, 1000, 1, 100, 45, 'E', 3, 0, 0, 0, 0, 0, 0},
-    {"no wind 135 on a mansard", 500, 1200, 1000, 5, 300, 135, 'E', 3, 0, 0, 0, 0, 0, 0},
-    {"no wind 180 without a roof", 500, 1200, 1000, 0, 0, 180, 'A', 3, 0, 0, 0, 0, 0, 0},
+    {"P1", 1, 500, 1200, 1000, 0, 0, 0, 'B', 0, 0, -200, 1, 1, 0, 1},
+    {"P2", 1, 501, 1200, 1000, 0, 0, 0, 'B', 0, 0, -250, 3, 3, 0, 1},
+    {"P3", 1, 500, 1500, 1000, 0, 0, 0, 'C', 0, 0, -500, 1, 1, 0, 1},
+    {"P4", 1, 500, 1501, 1000, 0, 0, 0, 'C', 0, 0, -600, 2, 2, 0, 1},
+    {"P5", 1, 500, 1000, 1000, 0, 0, 0, 'A', 4, 2, 0, 0, 0, 0, 0},
+    {"P6 accepted", 1, 500, 4000, 1000, 0, 0, 0, 'A', 0, 0, 700, 2, 2, 0, 1},
+    {"P6 refused", 1, 500, 4001, 1000, 0, 0, 0, 'A', 4, 2, 0, 0, 0, 0, 0},
+    {"P7 accepted", 1, 6000, 1200, 1000, 0, 0, 0, 'A', 0, 0, 800, 5, 5, 0, 1},
+    {"P7 refused", 1, 6001, 1200, 1000, 0, 0, 0, 'A', 4, 2, 0, 0, 0, 0, 0},
+    {"P8", 1, 500, 1200, 1000, 1, 123, 0, 'E', 0, 0, -1016, 3, 4, 23, 100},
+    {"P9", 1, 500, 1200, 1000, 1, 451, 0, 'E', 0, 0, 303, 6, 7, 1, 150},
+    {"P10", 1, 500, 1200, 1000, 1, 150, 0, 'E', 0, 0, -800, 3, 4, 1, 2},
+    {"P11", 1, 12000, 12000, 10000, 4, 603, 0, '1', 0, 0, -1499, 5, 6, 1, 200},
+    {"P12's coefficient", 1, 500, 1200, 1000, 0, 0, 0, 'A', 0, 0, 700, 1, 1, 0, 1},
+    {"half, away from zero", 1, 4000, 1200, 1000, 4, 201, 0, 'E', 0, 0, -400, 5, 6, 1, 200},
+    {"the local of the last row", 1, 1501, 1501, 1000, 0, 0, 90, 'w', 0, 0, -1200, 6, 6, 0, 1},
+    {"the first slope", 1, 500, 1200, 1000, 1, 0, 0, 'E', 0, 0, -800, 1, 1, 0, 1},
+    {"the last slope of the second block", 1, 1500, 1200, 1000, 1, 600, 90, 'H', 0, 0, -800, 14, 14, 0, 1},
+    {"equal neighbours are two rows all the same", 1, 500, 1200, 1000, 1, 75, 0, 'G', 0, 0, -400, 2, 3, 1, 2},
+    {"the third gable block begins at row 15", 1, 1501, 1200, 1000, 1, 25, 90, 'E', 0, 0, -850, 15, 16, 1, 2},
+    {"the third gable block has 40 degrees", 1, 1501, 1200, 1000, 1, 400, 0, 'E', 0, 0, -200, 20, 20, 0, 1},
+    {"the third gable block has 50 degrees", 1, 1501, 1200, 1000, 1, 500, 0, 'E', 0, 0, 200, 21, 21, 0, 1},
+    {"straight eaves", 1, 500, 1200, 1000, 2, 0, 0, 'E', 0, 0, -700, 1, 1, 0, 1},
+    {"the least parapet", 1, 4000, 1200, 1000, 3, 100, 0, '2', 0, 0, -1800, 2, 2, 0, 1},
+    {"a parapet between", 1, 4000, 1200, 1000, 3, 350, 0, '1', 0, 0, -1850, 3, 4, 3, 4},
+    {"a mansard on its last own row", 1, 500, 1200, 1000, 5, 600, 0, '1', 0, 0, -1900, 10, 10, 0, 1},
+    {"a mansard towards straight eaves", 1, 500, 1200, 1000, 5, 601, 0, '1', 0, 0, -1902, 10, 1, 1, 300},
+    {"straight eaves at 90", 1, 500, 1200, 1000, 5, 900, 0, '1', 0, 0, -2500, 1, 1, 0, 1},
+    {"no local on a gable", 1, 500, 1200, 1000, 1, 100, 0, '1', 6, 0, 0, 0, 0, 0, 0},
+    {"no roof zone without a roof", 1, 500, 1200, 1000, 0, 0, 90, 'E', 6, 0, 0, 0, 0, 0, 0},
+    {"the direction, for locals too", 1, 500, 1200, 1000, 2, 0, 45, 'w', 3, 0, 0, 0, 0, 0, 0},
+    {"the direction before the zone", 1, 500, 1200, 1000, 0, 0, 45, 'E', 3, 0, 0, 0, 0, 0, 0},
+    {"the building before the direction", 1, 500, 1000, 1000, 0, 0, 45, 'E', 4, 2, 0, 0, 0, 0, 0},
+    {"eight digits are a form fault", 1, 10000000, 1200, 1000, 0, 0, 0, 'A', 1, 2, 0, 0, 0, 0, 0},
+    {"seven digits are out of range", 1, 9999999, 1200, 1000, 0, 0, 0, 'A', 3, 2, 0, 0, 0, 0, 0},
+    {"no such roof number", 1, 500, 1200, 1000, 2, 1, 0, 'A', 5, 2, 0, 0, 0, 0, 0},
+    {"a single slope from 5 degrees", 1, 500, 1200, 1000, 6, 49, 0, 'A', 5, 2, 0, 0, 0, 0, 0},
+    {"a single slope to 30 degrees", 1, 500, 1200, 1000, 6, 301, 0, 'A', 5, 2, 0, 0, 0, 0, 0},
+    {"a square plan under a single slope, before its slope", 1, 500, 1000, 1000, 6, 49, 0, 'A', 4, 2, 0, 0, 0, 0, 0},
+    {"no roof kind 7", 1, 500, 1200, 1000, 7, 100, 0, 'A', 3, 2, 0, 0, 0, 0, 0},
+    {"a tenth over 10 degrees", 1, 500, 1200, 1000, 6, 101, 135, 'E', 0, 0, -894, 1, 2, 1, 50},
+    {"a tenth under 30 degrees", 1, 500, 1200, 1000, 6, 299, 180, 'H', 0, 0, -606, 4, 5, 49, 50},
+    {"the tallest building has the same slopes", 1, 6000, 4000, 1000, 6, 150, 45, 'G', 0, 0, -700, 2, 2, 0, 1},
+    {"a wall beside a single slope", 1, 500, 1200, 1000, 6, 100, 90, 'B', 0, 0, -500, 1, 1, 0, 1},
+    {"its wall local", 1, 500, 1200, 1000, 6, 100, 0, 'w', 0, 0, -800, 1, 1, 0, 1},
+    {"no wall under 45", 1, 500, 1200, 1000, 6, 100, 45, 'A', 6, 0, 0, 0, 0, 0, 0},
+    {"no wall under 135", 1, 500, 1200, 1000, 6, 100, 135, 'D', 6, 0, 0, 0, 0, 0, 0},
+    {"no wall under 180", 1, 500, 1200, 1000, 6, 100, 180, 'B', 6, 0, 0, 0, 0, 0, 0},
+    {"no wall local under 180", 1, 500, 1200, 1000, 6, 100, 180, 'w', 6, 0, 0, 0, 0, 0, 0},
+    {"no L1 on a single slope", 1, 500, 1200, 1000, 6, 100, 0, '1', 6, 0, 0, 0, 0, 0, 0},
+    {"no L2 on a single slope", 1, 500, 1200, 1000, 6, 100, 45, '2', 6, 0, 0, 0, 0, 0, 0},
+    {"no zone I on a single slope", 1, 500, 1200, 1000, 6, 100, 180, 'I', 6, 0, 0, 0, 0, 0, 0},
+    {"no wind 225, before the zone", 1, 500, 1200, 1000, 6, 100, 225, 'I', 3, 0, 0, 0, 0, 0, 0},
+    {"no wind 44", 1, 500, 1200, 1000, 6, 100, 44, 'E', 3, 0, 0, 0, 0, 0, 0},
+    {"no wind -45", 1, 500, 1200, 1000, 6, 100, -45, 'E', 3, 0, 0, 0, 0, 0, 0},
+    {"no wind 45 on a gable", 1, 500, 1200, 1000, 1, 100, 45, 'E', 3, 0, 0, 0, 0, 0, 0},
+    {"no wind 135 on a mansard", 1, 500, 1200, 1000, 5, 300, 135, 'E', 3, 0, 0, 0, 0, 0, 0},
+    {"no wind 180 without a roof", 1, 500, 1200, 1000, 0, 0, 180, 'A', 3, 0, 0, 0, 0, 0, 0},
 };
 
 /* Single slopes: every column of the table in thousandths, at 5, 10, 12.5, 15, 17.5, 20, 22.5, 25, 27.5 and 30 degrees:
@@ -180,7 +180,8 @@ static const verdict sheets[] = {
     {"V 1\n10000000\n", 1, 2},
     {"V 1\n0\n", 3, 2},
     {"V 1\n1\n", 3, 2},
-    {"V 1\n3\n", 3, 2},
+    {"V 1\n3\n", 1, 3},
+    {"V 1\n4\n", 3, 2},
     {"V 1\n-2\n", 3, 2},
     {"V 1\n2\n", 1, 3},
     {"V 1\n2\nB 2\n", 2, 3},
@@ -281,8 +282,8 @@ static void check_table(const calculator *c)
     for (size_t i = 0; i < sizeof questions / sizeof *questions; i++) {
         const row *q = &questions[i];
         uint8_t place = (uint8_t)q->place;
-        aral_coefficient answer[] = {c->outside(q->h, q->a, q->b, 1250, q->kind, q->x, q->direction, place),
-                                     c->net(q->h, q->a, q->b, 1250, q->kind, q->x, q->direction, place, 0)};
+        aral_coefficient answer[] = {c->outside(q->year, q->h, q->a, q->b, 1250, q->kind, q->x, q->direction, place),
+                                     c->net(q->year, q->h, q->a, q->b, 1250, q->kind, q->x, q->direction, place, 0)};
         for (int net = 0; net < 2; net++) {
             const aral_coefficient *r = &answer[net];
             expect(c, q->name, r->number == q->number && r->line == q->line && r->value[0] == q->value
@@ -299,7 +300,7 @@ static void check_columns(const calculator *c)
         for (int k = 0; k < 2 * SLOPES; k++) {
             int at = k / 2, between = slope_rows[at][0] != slope_rows[at][1];
             uint8_t zone = (uint8_t)columns[i].zone[k % 2];
-            aral_coefficient r = c->outside(500, 1200, 1000, 1250, 6, slopes[at], columns[i].direction, zone);
+            aral_coefficient r = c->outside(1, 500, 1200, 1000, 1250, 6, slopes[at], columns[i].direction, zone);
             char what[80];
             snprintf(what, sizeof what, "zone %c of a single slope of %d tenths, wind %d", zone, (int)slopes[at],
                      (int)columns[i].direction);
@@ -312,17 +313,17 @@ static void check_columns(const calculator *c)
 /* Zone F has the rows of E; (1400 - 800) / (1600 - 800) at h 8000 is 3/4. The net's 82/1600 = 0.05125 is 1/40. */
 static void check_questions(const calculator *c)
 {
-    aral_coefficient f = c->outside(500, 1200, 1000, 1250, 2, 0, 90, 'F');
+    aral_coefficient f = c->outside(1, 500, 1200, 1000, 1250, 2, 0, 90, 'F');
     expect(c, "zone F of a flat roof has +0.2 and -0.2", f.count == 2 && f.value[0] == 200 && f.value[1] == -200);
     expect(c, "zone F of straight eaves is in row 1", has_rows(&f, 1, 1, 0, 1));
-    f = c->net(8000, 9600, 8000, 1250, 4, 1400, 90, 'F', 20);
+    f = c->net(1, 8000, 9600, 8000, 1250, 4, 1400, 90, 'F', 20);
     expect(c, "zone F's net", f.count == 2 && f.value[0] == 0 && f.value[1] == -400 && has_rows(&f, 6, 7, 3, 4));
-    f = c->net(1600, 1200, 1000, 1250, 4, 82, 0, 'E', -100);
+    f = c->net(1, 1600, 1200, 1000, 1250, 4, 82, 0, 'E', -100);
     expect(c, "rounded first, then the internal comes off", f.number == 0 && f.value[0] == 602);
     expect(c, "the net has the rows of the outside", has_rows(&f, 5, 6, 1, 40));
-    f = c->net(500, 1200, 1000, 1250, 0, 0, 0, 'E', 101);
+    f = c->net(1, 500, 1200, 1000, 1250, 0, 0, 0, 'E', 101);
     expect(c, "the zone before the internal coefficient", f.number == 6 && f.line == 0 && has_rows(&f, 0, 0, 0, 0));
-    f = c->net(500, 1200, 1000, 1250, 0, 0, 0, 'A', 101);
+    f = c->net(1, 500, 1200, 1000, 1250, 0, 0, 0, 'A', 101);
     expect(c, "the internal coefficient's range", f.number == 3 && f.line == 0 && f.count == 0 && f.value[0] == 0);
     expect(c, "no rows where the internal coefficient is refused", has_rows(&f, 0, 0, 0, 0));
 }

@@ -7,17 +7,18 @@
    0       accepted; the line is 0 too
    1       the line is missing, unended, extra or not in the sheet's form
    2       a count is not 1 for V and B, or not 1 to 8 for W, 1 to 4 for I, 1 to 16 for P, 1 to 24 for F
-   3       a number is outside its range, the year is not 2, a direction or a mark is a number that the roof has no wind
-           for, or a height of the profile does not rise
-   4       h/b is over 6, or a/b is not over 1, or a/b is over 4
+   3       a number is outside its range, the year is not 2 or 3, a direction or a mark is a number that the roof has
+           no wind for, or a height of the profile does not rise
+   4       h/b is over 6, or a/b is under 1 or over 4; in years 1 and 2 also where a/b is 1
    5       the roof number x is outside its kind's range
    6       the zone or local is not on this building; on one with roof kind 6 also a wall in another wind than 0 and 90
    7       the lent buffer is too short (line 0)
    8       the face's height is outside the profile
 
-   A sheet of year 1 opens with section B. One of year 2 opens with section V and the year; it has a section P after I,
-   the profile, and a height after each face's mark. A face's speed is then the wind's times the profile's factor at its
-   height, rounded once to a tenth, a half up.
+   A sheet of year 1 opens with section B. One of a later year opens with section V and the year, 2 or 3; it has a
+   section P after I, the profile, and a height after each face's mark. A face's speed is then the wind's times the
+   profile's factor at its height, rounded once to a tenth, a half up. Year 3 has the form of year 2 and takes square
+   plans too, a equal to b: their walls have the rows of a/b to 3/2. All else is the same in years 2 and 3.
 
    Roof kinds are 0 none, 1 gable, 2 flat with straight eaves, 3 with a parapet, 4 with curved eaves, 5 with a mansard,
    and 6 a single slope, whose x is 50 to 300 tenths of a degree. Winds, marks and questions have the directions 0 and
@@ -39,8 +40,9 @@
 extern "C" {
 #endif
 
-/* The version of these shapes: it rises where a record or a call changes. 2: a coefficient names its rows. */
-#define ARAL_VERSION 2
+/* The version of these shapes: it rises where a record or a call changes. 2: a coefficient names its rows. 3: a
+   question names its year. */
+#define ARAL_VERSION 3
 
 /* The refusals by name. */
 enum {
@@ -125,17 +127,19 @@ aral_extreme aral_total(const uint8_t *sheet, size_t n, int64_t line);
 aral_text aral_digits(int64_t number, uint8_t *out, size_t room);
 
 /* The outside coefficient of one place on a building under one wind direction, in thousandths, and its rows.
-   Height h, longer side a and shorter side b in cm, density in g/m3, the roof's kind and its number x, as on line 2 of
-   a sheet of year 1. `place` is the letter of a zone, `A` to `H`, or `w` for the wall local, `1` for L1, `2` for L2.
-   Refuses, in this order: the building with 1, 3, 4 or 5 at line 2, as its sheet would be (1 for a number of more than
-   seven digits); a direction that the roof has not with 3, line 0, for locals too; a place that this building has not,
-   a wall zone or the wall local in another direction than 0 and 90, or a byte that names none, with 6, line 0. */
-aral_coefficient aral_outside(int64_t h, int64_t a, int64_t b, int64_t density, int64_t kind, int64_t x,
+   The year, 1 to 3; height h, longer side a and shorter side b in cm, density in g/m3, the roof's kind and its number
+   x, as on the building's line of a sheet of that year. `place` is the letter of a zone, `A` to `H`, or `w` for the
+   wall local, `1` for L1, `2` for L2.
+   Refuses, in this order: another year with 3, line 0; the building with 1, 3, 4 or 5 as its sheet would be, at line 2
+   in year 1 and at line 4 in later ones (1 for a number of more than seven digits); a direction that the roof has not
+   with 3, line 0, for locals too; a place that this building has not, a wall zone or the wall local in another
+   direction than 0 and 90, or a byte that names none, with 6, line 0. */
+aral_coefficient aral_outside(int64_t year, int64_t h, int64_t a, int64_t b, int64_t density, int64_t kind, int64_t x,
                               int64_t direction, uint8_t place);
 
 /* The net coefficient: the outside one, rounded, minus the internal coefficient, which is given in hundredths.
    Refuses as aral_outside does, and then an internal coefficient outside -100 to 100 with 3, line 0. */
-aral_coefficient aral_net(int64_t h, int64_t a, int64_t b, int64_t density, int64_t kind, int64_t x,
+aral_coefficient aral_net(int64_t year, int64_t h, int64_t a, int64_t b, int64_t density, int64_t kind, int64_t x,
                           int64_t direction, uint8_t place, int64_t internal);
 
 /* The panel's doubles of any number. Never refuses. Zero is positive zero. */
