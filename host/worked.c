@@ -26,10 +26,11 @@ static void expect(const calculator *c, const char *what, int holds)
 }
 
 /* Rows by hand. The walls' rows go h/b to 1/2, 3/2, 6, and in each a/b to 3/2, 4: P1, P3 and P12 are in row 1, P4 and
-   P6 in 2, P2 in 3, P7 in 5. Gable slopes 0, 5, 10, 20, 30, 45, 60 are rows 1 to 7, and 8 to 14 in the second block;
-   the third has 40 and 50 for 45: rows 15 to 22. P8: (12.3 - 10) / (20 - 10) = 23/100. P9: (45.1 - 45) / (60 - 45) =
-   1/150. P10: (15 - 10) / 10 = 1/2. P11: x/h = 603/12000 = 0.05025, and (0.05025 - 0.05) / (0.10 - 0.05) = 1/200; so
-   is 201/4000. A parapet of 350 in 4000: (0.0875 - 0.05) / 0.05 = 3/4. A mansard of 60.1: 0.1 / (90 - 60) = 1/300. */
+   P6 in 2, P2 in 3, P7 in 5; a square plan has a/b 1, so that of h/b 1 is in row 3. Gable slopes 0, 5, 10, 20, 30, 45,
+   60 are rows 1 to 7, and 8 to 14 in the second block; the third has 40 and 50 for 45: rows 15 to 22. P8: (12.3 - 10)
+   / (20 - 10) = 23/100. P9: (45.1 - 45) / (60 - 45) = 1/150. P10: (15 - 10) / 10 = 1/2. P11: x/h = 603/12000 =
+   0.05025, and (0.05025 - 0.05) / (0.10 - 0.05) = 1/200; so is 201/4000. A parapet of 350 in 4000: (0.0875 - 0.05) /
+   0.05 = 3/4. A mansard of 60.1: 0.1 / (90 - 60) = 1/300. */
 typedef struct {
     const char *name;
     int64_t year, h, a, b, kind, x, direction;
@@ -97,6 +98,34 @@ static const row questions[] = {
     {"no wind 45 on a gable", 1, 500, 1200, 1000, 1, 100, 45, 'E', 3, 0, 0, 0, 0, 0, 0},
     {"no wind 135 on a mansard", 1, 500, 1200, 1000, 5, 300, 135, 'E', 3, 0, 0, 0, 0, 0, 0},
     {"no wind 180 without a roof", 1, 500, 1200, 1000, 0, 0, 180, 'A', 3, 0, 0, 0, 0, 0, 0},
+    {"P5's twin of year 3", 3, 500, 1000, 1000, 0, 0, 0, 'B', 0, 0, -200, 1, 1, 0, 1},
+    {"P5 in year 2", 2, 500, 1000, 1000, 0, 0, 0, 'B', 4, 4, 0, 0, 0, 0, 0},
+    {"a below b in year 3", 3, 500, 999, 1000, 0, 0, 0, 'B', 4, 4, 0, 0, 0, 0, 0},
+    {"a square plan in the second block", 3, 501, 1000, 1000, 0, 0, 0, 'B', 0, 0, -250, 3, 3, 0, 1},
+    {"a square plan in the third block", 3, 1501, 1000, 1000, 0, 0, 90, 'C', 0, 0, 800, 5, 5, 0, 1},
+    {"the tallest square plan", 3, 6000, 1000, 1000, 0, 0, 0, 'w', 0, 0, -1200, 5, 5, 0, 1},
+    {"a square plan too tall", 3, 6001, 1000, 1000, 0, 0, 0, 'A', 4, 4, 0, 0, 0, 0, 0},
+    {"the least square plan", 3, 100, 100, 100, 0, 0, 0, 'B', 0, 0, -250, 3, 3, 0, 1},
+    {"the largest square plan", 3, 30000, 30000, 30000, 0, 0, 90, 'D', 0, 0, -250, 3, 3, 0, 1},
+    {"P8 on a square plan", 3, 500, 1000, 1000, 1, 123, 0, 'E', 0, 0, -1016, 3, 4, 23, 100},
+    {"P11 on a square plan", 3, 12000, 10000, 10000, 4, 603, 0, '1', 0, 0, -1499, 5, 6, 1, 200},
+    {"a single slope over a square plan", 3, 500, 1000, 1000, 6, 101, 135, 'E', 0, 0, -894, 1, 2, 1, 50},
+    {"its wall under 45", 3, 500, 1000, 1000, 6, 101, 45, 'A', 6, 0, 0, 0, 0, 0, 0},
+    {"a square plan, then its roof number", 3, 500, 1000, 1000, 6, 49, 0, 'A', 5, 4, 0, 0, 0, 0, 0},
+    {"a square plan before its roof number in year 2", 2, 500, 1000, 1000, 6, 49, 0, 'A', 4, 4, 0, 0, 0, 0, 0},
+    {"P1 in year 2", 2, 500, 1200, 1000, 0, 0, 0, 'B', 0, 0, -200, 1, 1, 0, 1},
+    {"P1 in year 3", 3, 500, 1200, 1000, 0, 0, 0, 'B', 0, 0, -200, 1, 1, 0, 1},
+    {"P6 refused in year 3", 3, 500, 4001, 1000, 0, 0, 0, 'A', 4, 4, 0, 0, 0, 0, 0},
+    {"eight digits in year 2", 2, 10000000, 1200, 1000, 0, 0, 0, 'A', 1, 4, 0, 0, 0, 0, 0},
+    {"seven digits in year 3", 3, 9999999, 1200, 1000, 0, 0, 0, 'A', 3, 4, 0, 0, 0, 0, 0},
+    {"no year 0", 0, 500, 1200, 1000, 0, 0, 0, 'A', 3, 0, 0, 0, 0, 0, 0},
+    {"no year 4", 4, 500, 1200, 1000, 0, 0, 0, 'A', 3, 0, 0, 0, 0, 0, 0},
+    {"no year -1", -1, 500, 1200, 1000, 0, 0, 0, 'A', 3, 0, 0, 0, 0, 0, 0},
+    {"no year 2^32 + 1", 4294967297, 500, 1200, 1000, 0, 0, 0, 'A', 3, 0, 0, 0, 0, 0, 0},
+    {"no year of the least", INT64_MIN, 500, 1200, 1000, 0, 0, 0, 'A', 3, 0, 0, 0, 0, 0, 0},
+    {"the year before the plan", 4, 500, 999, 1000, 0, 0, 0, 'A', 3, 0, 0, 0, 0, 0, 0},
+    {"the year before the form of the building", 4, 10000000, 1000, 1000, 0, 0, 0, 'A', 3, 0, 0, 0, 0, 0, 0},
+    {"the year before the zone", 0, 500, 1200, 1000, 0, 0, 0, 'E', 3, 0, 0, 0, 0, 0, 0},
 };
 
 /* Single slopes: every column of the table in thousandths, at 5, 10, 12.5, 15, 17.5, 20, 22.5, 25, 27.5 and 30 degrees:
@@ -132,6 +161,10 @@ static const struct { int64_t direction; char zone[3]; int32_t value[SLOPES]; } 
 #define SLANT UNDER("45")
 #define AHEAD UNDER("0")
 #define SLANT_HIGH "V 1\n2\n" SINGLE("100") "W 1\n45 400\nI 1\n0\nP 1\n600 1000\nF 1\n"
+/* Square plans: in year 3 the face is on line 12. */
+#define SQUARE(year) "V 1\n" year "\nB 1\n500 1000 1000 1250 0 0\n"
+#define SQUARE_REST "W 1\n0 400\nI 1\n0\nP 1\n600 1000\nF 1\n"
+#define TALL_SQUARE "V 1\n3\nB 1\n1501 1000 1000 1250 6 100\n" SQUARE_REST
 typedef struct { const char *sheet; uint32_t number, line; } verdict;
 static const verdict sheets[] = {
     {SAMPLE, 0, 0},
@@ -181,7 +214,13 @@ static const verdict sheets[] = {
     {"V 1\n0\n", 3, 2},
     {"V 1\n1\n", 3, 2},
     {"V 1\n3\n", 1, 3},
+    {"V 1\n3", 1, 2},
+    {"V 1\n03\n", 1, 2},
+    {"V 1\n3 3\n", 1, 2},
+    {"V 1\n-3\n", 3, 2},
     {"V 1\n4\n", 3, 2},
+    {"V 1\n30\n", 3, 2},
+    {"V 1\n9999999\n", 3, 2},
     {"V 1\n-2\n", 3, 2},
     {"V 1\n2\n", 1, 3},
     {"V 1\n2\nB 2\n", 2, 3},
@@ -266,6 +305,26 @@ static const verdict sheets[] = {
     {SLANT_HIGH "A 225 601 0 0 0\n", 3, 12},
     {"V 1\n2\n" SINGLE("301"), 5, 4},
     {"V 1\n2\nB 1\n500 1200 1000 1250 1 100\nW 1\n180 400\n", 3, 6},
+    {SQUARE("1"), 3, 2},
+    {SQUARE("2"), 4, 4},
+    {SQUARE("3"), 1, 5},
+    {SQUARE("4"), 3, 2},
+    {"V 1\n3\nB 1\n500 1001 1000 1250 0 0\n", 1, 5},
+    {"V 1\n3\nB 1\n500 999 1000 1250 0 0\n", 4, 4},
+    {"V 1\n3\nB 1\n500 4001 1000 1250 0 0\n", 4, 4},
+    {"V 1\n3\nB 1\n6000 1000 1000 1250 0 0\n", 1, 5},
+    {"V 1\n3\nB 1\n6001 1000 1000 1250 0 0\n", 4, 4},
+    {"V 1\n3\nB 1\n99 1000 1000 1250 0 0\n", 3, 4},
+    {"V 1\n3\nB 1\n500 1000 1000 1250 0 1\n", 5, 4},
+    {"V 1\n2\nB 1\n500 1000 1000 1250 0 1\n", 4, 4},
+    {SQUARE("3") SQUARE_REST "A - 600 0 0 0\n", 0, 0},
+    {SQUARE("3") SQUARE_REST "A - 0 0 0\n", 1, 12},
+    {SQUARE("3") SQUARE_REST "E - 600 0 0 0\n", 6, 12},
+    {SQUARE("3") SQUARE_REST "A - 601 0 0 0\n", 8, 12},
+    {SQUARE("3") SQUARE_REST "A - 600 0 0 0\n\n", 1, 13},
+    {SQUARE("3") "W 1\n0 400\nI 1\n0\nF 1\nA - 600 0 0 0\n", 1, 9},
+    {TALL_SQUARE "A - 600 0 0 0\n", 6, 12},
+    {TALL_SQUARE "E 180 600 0 0 0\n", 0, 0},
 };
 
 static const char report[] = "x max 180000000000000 1 1 1 1 1\nx min 180000000000000 1 1 1 1 1\ny max 0 1 1 1 1 1\n"
@@ -385,6 +444,12 @@ static const reckoning reckonings[] = {
     {"a single slope in year 2: 1.0 at half of 400",
      "V 1\n2\n" SINGLE("100") "W 1\n45 400\nI 1\n0\nP 1\n600 500\nF 1\nE - 600 1000 0 0\n",
      "x max -50000000000000 1 1 1\n"},
+    {"a square plan in year 3: B has -0.2", SQUARE("3") SQUARE_REST "B 0 600 -1000 0 0\n",
+     "x max 40000000000000 1 1 1\n"},
+    {"one in the third block: A has 0.8", TALL_SQUARE "A 0 600 1000 0 0\n", "x max 160000000000000 1 1 1\n"},
+    {"year 3 has the speeds of year 2: 0.9 at half the height",
+     SQUARE("3") "W 1\n0 400\nI 1\n0\nP 2\n0 800\n1200 1000\nF 1\nA 0 600 1000 0 0\n",
+     "x max 113400000000000 1 1 1\n"},
 };
 
 static void check_reckonings(const calculator *c)
@@ -432,6 +497,7 @@ int main(void)
         check_reckonings(&both[i]);
         check_greatest(&both[i], "", "", "E 0 -100000 100000 0\n");
         check_greatest(&both[i], "V 1\n2\n", "P 1\n30000 1000\n", "E 0 30000 -100000 100000 0\n");
+        check_greatest(&both[i], "V 1\n3\n", "P 1\n30000 1000\n", "E 0 30000 -100000 100000 0\n");
         check_doubles(&both[i]);
     }
     printf("%d worked cases on both calculators, %d failed\n", cases, failures);
