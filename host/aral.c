@@ -18,10 +18,12 @@ static const char help[] =
     "  aral panel FILE    the six totals in newtons, and the doubles that a panel shows for them\n"
     "  aral ask WORDS     one coefficient and the printed rows that it comes from, as:\n"
     "                       aral ask h 500 a 1200 b 1000 kind 1 x 123 wind 0 zone E internal -30\n"
+    "                       aral ask year 3 h 500 a 1000 b 1000 wind 0 zone B\n"
     "  aral help          this text\n"
     "\n"
     "FILE is a sheet, or - for standard input. A total is in units of 0.00000000005 N: 20000000000 of them are 1 N.\n"
-    "In `ask`: h, a, b in cm (height, longer side, shorter side); kind and x are the roof's, 0 where left out:\n"
+    "In `ask`: year is 1 to 3, and 1 where left out; h, a, b in cm (height, longer side, shorter side); kind and x\n"
+    "  are the roof's, 0 where left out:\n"
     "  kind 0 none; 1 gable, x the slope in tenths of a degree; 2 flat, straight eaves; 3 parapet, x its height\n"
     "  in cm; 4 curved eaves, x the radius in cm; 5 mansard, x its angle in tenths of a degree; 6 a single slope,\n"
     "  x in tenths of a degree, 50 to 300;\n"
@@ -31,6 +33,7 @@ static const char help[] =
     "face, A to D, is then marked 0 or 90, since the book has walls in no other wind; one for both takes two lines.\n"
     "A sheet of year 2 opens with `V 1` and the line `2`. After I it has a section P, the wind's profile: heights in\n"
     "cm, each with its part of the speed in thousandths; and each face has a height in cm after its mark.\n"
+    "One of year 3 opens with `V 1` and `3`, is written in the same way, and may have a square plan, a equal to b.\n"
     "\n"
     "The exit status is 0, or 1 where the sheet or the question is refused, or 2 where the command is none of these.\n";
 

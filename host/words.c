@@ -12,7 +12,7 @@ typedef enum {
 /* A count line has its section's letter. `%s` is what the building's roof kind allows. */
 static const struct { char letter; const char *what, *form; int fields; } roles[] = {
     {'V', "opens section V, the year: the letter V, a space and the count, which is always 1", "V 1", 2},
-    {0, "is the year that the sheet is written for", "2", 1},
+    {0, "is the year that the sheet is written for (2 or 3)", "3", 1},
     {'B', "opens section B, the building: the letter B, a space and the count, which is always 1", "B 1", 2},
     {0, "is the building: height h, longer side a and shorter side b in cm (100 to 30000), air density in g/m3\n"
      "(1000 to 1500), roof kind (0 to 6) and roof number x (0 to 30000)", "500 1200 1000 1250 2 0", 6},
@@ -153,6 +153,14 @@ static uint32_t building_at(const uint8_t *sheet, size_t n, long value[6])
     return line;
 }
 
+/* The year of a sheet whose section V, where it has one, was accepted. */
+static long year_of(const uint8_t *sheet, size_t n)
+{
+    long year = 1;
+    if (later_year(sheet, n)) numbers_at(sheet, n, 2, 1, &year);
+    return year;
+}
+
 /* ---- 1: the form ---- */
 
 static const char *field_slip(const char *field)
@@ -183,7 +191,8 @@ static const char *form_slip(const line_text *t, role r, char field[FIELDS][FIEL
     for (int i = 0; i < count && i < FIELDS; i++)
         if (!*field[i]) return "there is one space between fields, none before the first and none after the last";
     if (letter && !is_letter(field[0], letter, letter))
-        return r == B_COUNT ? "it must open with B, or a sheet of year 2 with V" : "it must open with another letter";
+        return r == B_COUNT ? "it must open with B, or a sheet of year 2 or 3 with V"
+                            : "it must open with another letter";
     for (int i = 0; i < count && i < FIELDS; i++)
         if (field_slip(field[i])) return field_slip(field[i]);
     if (r == FACE && count == 6) return "a face has a height only in a sheet that opens with `V 1`";
@@ -243,7 +252,7 @@ static void say_direction(const uint8_t *sheet, size_t n, const char *name, cons
 
 static void explain_year(const char *field)
 {
-    say_range("year", field, 2, 2);
+    printf("The year is %s; it must be 2 or 3.\n", field);
     if (!strcmp(field, "1")) printf("A sheet of year 1 has no section V: it opens with `B 1`.\n");
 }
 
@@ -294,10 +303,18 @@ static void explain_range(const uint8_t *sheet, size_t n, role r, uint32_t item,
 
 /* ---- 4, 5 and 6: the building ---- */
 
-static void explain_ratio(long h, long a, long b)
+static void explain_square(long year, long side)
+{
+    printf("The longer side %ld is not over the shorter side %ld; a square plan has no row in year %ld.\n", side, side,
+           year);
+    printf("From year 3 on it has: a sheet then opens with `V 1` and the line `3`, and a question says `year 3`.\n");
+}
+
+static void explain_ratio(long year, long h, long a, long b)
 {
     if (h > 6 * b) printf("The height %ld is over 6 times the shorter side %ld: at most %ld here.\n", h, b, 6 * b);
-    if (a <= b) printf("The longer side %ld is not over the shorter side %ld; a square plan has no row.\n", a, b);
+    if (a < b) printf("The longer side %ld is under the shorter side %ld: the longer one comes first.\n", a, b);
+    if (a == b && year < 3) explain_square(year, a);
     if (a > 4 * b) printf("The longer side %ld is over 4 times the shorter side %ld: at most %ld here.\n", a, b, 4 * b);
 }
 
@@ -353,7 +370,7 @@ static void explain_building(const uint8_t *sheet, size_t n, uint32_t number, ch
 {
     long value[6];
     uint32_t line = building_at(sheet, n, value);
-    if (number == 4) explain_ratio(value[0], value[1], value[2]);
+    if (number == 4) explain_ratio(year_of(sheet, n), value[0], value[1], value[2]);
     if (number == 5) explain_roof(value[0], value[4], value[5]);
     if (number == 6) explain_zone(value[4], value[5], line, field[0], field[1]);
 }
@@ -408,12 +425,11 @@ void explain(const uint8_t *sheet, size_t n, aral_answer refusal)
 static void describe_profile(const uint8_t *sheet, size_t n)
 {
     uint32_t opens = opening_of(sheet, n, P_COUNT), count = count_at(sheet, n, opens);
-    long year, first[2], last[2];
-    numbers_at(sheet, n, 2, 1, &year);
+    long first[2], last[2];
     numbers_at(sheet, n, opens + 1, 2, first);
     numbers_at(sheet, n, opens + count, 2, last);
-    printf("It is of year %ld: each face has the wind's speed at its own height. Lines of the profile: %u,\n", year,
-           count);
+    printf("It is of year %ld: each face has the wind's speed at its own height. Lines of the profile: %u,\n",
+           year_of(sheet, n), count);
     printf("from %ld/1000 of the speed at %ld cm to %ld/1000 at %ld cm.\n", first[1], first[0], last[1], last[0]);
 }
 
@@ -428,6 +444,8 @@ void describe(const uint8_t *sheet, size_t n)
     printf("The building is %ld cm high and %ld by %ld cm wide, with ", value[0], value[1], value[2]);
     print_roof(value[4], value[5]);
     printf("; its zones are %s.\n", zones_of(value[4]));
+    if (value[1] == value[2])
+        printf("Its plan is square, which sheets may be from year 3 on; its walls have the rows of a/b to 3/2.\n");
     if (value[4] == 6)
         printf("Its winds may be %s; walls add nothing under 45, 135 and 180, where the book has none.\n", winds_of(6));
     if (later_year(sheet, n)) describe_profile(sheet, n);
