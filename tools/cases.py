@@ -10,8 +10,9 @@ between cases.
 import sys
 
 B, W, I, F = 'B 1\n500 1200 1000 1250 0 0\n', 'W 1\n0 400\n', 'I 1\n20\n', 'F 1\nA 0 1000 0 0\n'
-# of year 2, where the building stands on line 4, the profile's count on line 9 and this face on line 13
+# of year 2, where the building stands on line 4, the profile's count on line 9 and this face on line 13; year 3 has its form
 V, P, HIGH = 'V 1\n2\n', 'P 2\n0 800\n1200 1000\n', 'F 1\nA 0 600 1000 0 0\n'
+V3 = 'V 1\n3\n'
 cases = []
 
 
@@ -164,6 +165,41 @@ case('kind 6 in year 2: a wall marked 0 above the profile', high(b=slope, f='F 1
 case('kind 6 in year 2: slope 301', high(b='B 1\n500 1200 1000 1250 6 301\n'), 'refused 5 4')
 case('kind 1 in year 2: direction 180', high(b='B 1\n500 1200 1000 1250 1 100\n', w='W 1\n180 400\n'), 'refused 3 6')
 
+# Year 3: a square plan is in the rows of a/b to 3/2. B under wind 0 has -0.200, -0.250 and -0.250 there by h/b, A under wind 90
+# -0.500, -0.600 and -0.800. The internal is 0.200; the speed at the face 360.
+
+
+def square(h=500, a=1000, rest='0 0'):
+    return f'B 1\n{h} {a} 1000 1250 {rest}\n'
+
+
+for h, b_net, a_net in ((500, -400, -700), (501, -450, -800), (1500, -450, -800), (1501, -450, -1000), (6000, -450, -1000)):
+    case(f'year 3: a square plan of h {h}, zone B under wind 0, net {b_net}',
+         high(V3, square(h), f='F 1\nB 0 600 -1000 0 0\n'), six(-b_net * 1250 * 360 ** 2 * 1000))
+    case(f'year 3: a square plan of h {h}, zone A under wind 90, net {a_net}',
+         high(V3, square(h), 'W 1\n90 400\n', f='F 1\nA - 600 1000 0 0\n'), six(a_net * 1250 * 360 ** 2 * 1000))
+case('point 23: a gable of 10 degrees on a square plan, -1.200 and the internal off',
+     high(V3, square(rest='1 100'), f='F 1\nE 0 600 1000 0 0\n'), six(-1400 * 1250 * 360 ** 2 * 1000))
+case('point 23: curved eaves of x/h 0.10 on a square plan, -0.300 and the internal off',
+     high(V3, square(rest='4 50'), f='F 1\nE 0 600 1000 0 0\n'), six(-500 * 1250 * 360 ** 2 * 1000))
+case('point 23: a single slope of 10 degrees on a square plan under wind 45',
+     high(V3, square(rest='6 100'), 'W 1\n45 400\n', f='F 1\nE - 600 1000 0 0\n'), six(-1200 * 1250 * 360 ** 2 * 1000))
+case('year 3: a plan that is not square as in year 2', high(V3), six(500 * 1250 * 360 ** 2 * 1000))
+case('year 3: a below b', high(V3, square(a=999)), 'refused 4 4')
+case('year 3: a over 4 b', high(V3, square(a=4001)), 'refused 4 4')
+case('year 3: h over 6 b on a square plan', high(V3, square(6001)), 'refused 4 4')
+case('year 3: 3 before 4 (h 50, a below b)', high(V3, square(50, 999)), 'refused 3 4')
+case('year 3: a square plan and x 1 without a roof: 5', high(V3, square(rest='0 1')), 'refused 5 4')
+case('year 2: a square plan and x 1 without a roof: 4', high(V, square(rest='0 1')), 'refused 4 4')
+case('year 1: a square plan', sheet(square()), 'refused 4 2')
+for year in ('1', '4', '-3', '30', '9999999'):
+    case(f'V line {year} before a square plan', high(f'V 1\n{year}\n', square()), 'refused 3 2')
+for line in ('03', '3 3', '3 ', '+3'):
+    case(f'V line {line}', high(f'V 1\n{line}\n', square()), 'refused 1 2')
+case('year 3 without a profile', high(V3, square(), p=''), 'refused 1 9')
+case('year 3: no height', high(V3, square(), f=F), 'refused 1 13')
+case('year 3: a height one above the profile', high(V3, square(), f='F 1\nA 0 1201 1000 0 0\n'), 'refused 8 13')
+
 # Every line as long as it may be: 41 lines of 827 bytes in year 1. Parapet at x/h 0.10, zone F: +0.200, then -0.200; internal -1.000.
 before = 'B 1\n30000 30000 10000 1500 3 3000\n' + 'W 8\n' + '90 1000\n' * 8 + 'I 4\n' + '-100\n' * 4 + 'F 24\n'
 longest = before + 'F 90 -100000 -100000 -100000\n' * 24
@@ -212,7 +248,7 @@ with open(__file__.replace('cases.py', 'sheets.txt')) as listed:
 
 # What the program asks by itself: questions, then records, with number and line, or thousandths and rows: lower, upper, part,
 # whole. 201/4000 = 0.05025 is 1/200 of the way from 0.05 (row 5) to 0.10 (row 6), and 82/1600 = 0.05125 is 1/40 of it; straight
-# eaves are row 1; h/b 1.6 is over 3/2 and a/b 1.2 is not: row 5 of the walls.
+# eaves are row 1; h/b 1.6 is over 3/2 and a/b 1.2 is not: row 5 of the walls. The square plan is h 500, a and b 1000: row 1.
 asked = '''point 18: curved, zone E, exactly -0.3995: -400 rows 5 6 1 200
 flat, zone F: 200 -200 rows 1 1 0 1
 point 6: zone I: 6 0
@@ -224,6 +260,11 @@ point 7: direction 1000000000000, for a local too: 3 0
 a single slope of 12.5 degrees, zone E under 135: -750 rows 1 2 1 2
 a wall of it under 45: 6 0
 a gable under 45: 3 0
+year 1, a square plan: 4 2
+year 2, a square plan: 4 4
+year 3, a square plan, zone B: -200 rows 1 1 0 1
+year 3, a below b: 4 4
+year 4, before a square plan: 3 0
 point 11: rounded first, then the internal coefficient comes off: 602 rows 5 6 1 40
 point 12: the net of the wall local: -1400 rows 5 5 0 1
 point 7: internal 101: 3 0
@@ -241,7 +282,10 @@ year 2 with one step: 0 0
 year 2 with none: 2 9
 year 2 with 17: 2 9
 year 2 with two at one height: 3 11
-year 3: 3 2
+year 3: 0 0
+year 3 with none: 2 9
+year 4: 3 2
+year 10000000, of 8 digits: 1 2
 '''
 folder = sys.argv[1]
 texts = '='.join(title + '\n' + text for title, text, _ in cases)

@@ -91,24 +91,27 @@ def place_of_x(h, kind, x):
     return Q(x, h) if kind in (3, 4) else Q(x, 10) if kind in (1, 5, 6) else Q(x)
 
 
-def fault(h, a, b, density, kind, x):
+def fault(year, h, a, b, density, kind, x):
+    """The building's. The table starts just over a square plan, and from year 3 on at it."""
     numbers = (h, a, b, density, kind, x)
     if any(abs(n) > 9999999 for n in numbers):
         return 1
     ranges = [(100, 30000)] * 3 + [(1000, 1500), (0, 6), (0, 30000)]
     if any(n < low or n > high for n, (low, high) in zip(numbers, ranges)):
         return 3
-    if Q(h, b) > 6 or Q(a, b) <= 1 or Q(a, b) > 4:
+    if Q(h, b) > 6 or Q(a, b) < 1 or Q(a, b) > 4 or a == b and year < 3:
         return 4
     low, high = RANGE[kind]
     return 0 if low <= place_of_x(h, kind, x) <= high else 5
 
 
-def outside(h, a, b, density, kind, x, direction, place):
+def outside(year, h, a, b, density, kind, x, direction, place):
     """A refusal, which is a pair of numbers; or a list of values, and its rows: lower, upper and the fraction of the way."""
-    n = fault(h, a, b, density, kind, x)
+    if year not in (1, 2, 3):
+        return (3, 0)
+    n = fault(year, h, a, b, density, kind, x)
     if n:
-        return (n, 2)
+        return (n, 2 if year == 1 else 4)
     if direction not in (SINGLE_WINDS if kind == 6 else (0, 90)):
         return (3, 0)
     flat = kind in (2, 3, 4, 5)
@@ -136,9 +139,9 @@ def outside(h, a, b, density, kind, x, direction, place):
     return [200, -200] if place == 'F' else [value], rows
 
 
-def show(h, a, b, kind, x, direction, place):
+def show(h, a, b, kind, x, direction, place, year=1):
     """The question, the outside answer, the net one at internal -0.30, and the rows of both; a space after each number."""
-    answer, rest = outside(h, a, b, 1250, kind, x, direction, place)
+    answer, rest = outside(year, h, a, b, 1250, kind, x, direction, place)
     if isinstance(answer, int):
         said = 'refused %d %d net refused %d %d ' % (answer, rest, answer, rest)
     else:
@@ -182,3 +185,11 @@ for x in INCLINES:
     for direction in SINGLE_WINDS + (30,):
         for place in 'EFGHAw1':
             show(500, 1200, 1000, 6, x, direction, place)
+
+# square plans and one step to either side, in each year and in one before and after them: the year first
+for year in (0, 1, 2, 3, 4):
+    for h in HEIGHTS:
+        for a in (999, 1000, 1001):
+            for direction, place in PLACES:
+                print('year', year, end=' ')
+                show(h, a, 1000, 0, 0, direction, place, year)
