@@ -1,7 +1,7 @@
 -- A question's five outcomes, in the order of its checks; and that the sizes of one in order are those of a building
 -- in order, with a roof where its place needs one.
 use mathlib.Core.Path.{_≡_, refl, sym, subst}
-use mathlib.Core.Bool.{Bool, true, false, cond}
+use mathlib.Core.Bool.{Bool, true, false}
 use Prim.Native.Nat.{ℕ, zero, suc, _<_}
 use lib.Dec.{eqb}
 use native.Mathlib.Omega.{arith}
@@ -9,7 +9,7 @@ use lib.IntN.{ℤ, pos}
 use borrow.Author.Tests.{eqb-true, eqb-false}
 use Rattle.whole.proofs.Tests.{by-test}
 use Rattle.verdict.specs.declared.Verdict.{Verdict}
-use Rattle.verdict.specs.Verdict.{refusal, Refuses}
+use Rattle.verdict.specs.Verdict.{refusal, _orThen_, Refuses}
 use Rattle.building.specs.declared.Building.{Building}
 use Rattle.building.specs.declared.Sizes.{Sizes}
 use Rattle.building.specs.declared.Question.{Question}
@@ -35,8 +35,7 @@ pub record InYear (year : ℤ) (g : Building) : Type 0 where
 -- the refusal of the year, then that of the building
 abbrev pub firstRefusal : ℤ → Building → Verdict
 firstRefusal year g =
-    let earlier = refusal (unless 3 (isYear year)) 0 in
-    cond (eqb (earlier .number) 0) (refusal (givenFault year g) (buildingLine year)) earlier
+    refusal (unless 3 (isYear year)) 0 orThen refusal (givenFault year g) (buildingLine year)
 
 module _ (year : ℤ) (g : Building) (direction : ℤ) (place : ℕ) where
   abbrev pub On : Bool → Type 0

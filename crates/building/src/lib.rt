@@ -3,8 +3,6 @@ ghost use mathlib.Core.Path.{_≡_};
 ghost use Rattle.building.specs.Building.{buildingFault, givenFault};
 ghost use Rattle.building.specs.Places.{zoneOn};
 ghost use Rattle.building.specs.Question.{askedOf};
-ghost use mathlib.Core.Bool.{cond};
-ghost use lib.Dec.{eqb};
 ghost use Rattle.verdict.specs.Verdict.{refusal};
 ghost use Rattle.building.specs.Test.{unless};
 ghost use Rattle.building.specs.Year.{isYear, buildingLine};
@@ -19,6 +17,7 @@ pub mod year;
 
 // The numbers of a building's line: cm, g/m³, the roof's kind and number. 64 bits, so that no number of a host
 // program is cut.
+#[repr(C)]
 pub struct Building {
     pub h: i64,
     pub a: i64,
@@ -114,23 +113,13 @@ fn building_refusal(d: Dated) -> Verdict
     }
 }
 
-// The earlier of two, and the later where that is in order.
-fn first_of(earlier: Verdict, later: Verdict) -> Verdict
-    ensures { λ r. ⌜ r ≡ cond (eqb (earlier .number) 0) later earlier ⌝ }
-{
-    if earlier.number == 0 {
-        return later;
-    }
-    earlier
-}
-
 // A question about one zone or local under a wind's direction.
 pub fn asked(d: Dated, direction: i64, place: u8) -> Question
     ensures { λ r. ⌜ r ≡ askedOf (d .year) (d .building) direction place ⌝ }
 {
     let by_year = year_refusal(d.year);
     let by_building = building_refusal(d);
-    let v = first_of(by_year, by_building);
+    let v = verdict::or_then(by_year, by_building);
     if v.number != 0 {
         return Question::Refused(v);
     }

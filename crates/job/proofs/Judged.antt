@@ -175,46 +175,39 @@ module _ (j : Job) where
   unfolding carried
   year-is = refl
 
-  -- what the sections before one carry judges its entries as b does, which has all but perhaps the profile
-  module _ (b : Before) (by-year : b .year ≡ j .year) (by-building : b .building ≡ j .building)
-      (by-all : length (es P) ≤ 16 → b ≡ before (carried j)) where
-    building-alike : (d : Carried) → d .year ≡ carried j .year → Alike B b d
-    unfolding lineFault carried
-    building-alike d e x =
-        ap (λ (y : ℤ). cond (inForm (numberForms 6) x) (first (faults y (buildingOf x))) 1) (e ∙ sym by-year)
+  -- what the sections before one carry judges its entries as all that is carried does
+  module _ where
+    abbrev b : Before
+    b = before (carried j)
 
-    winds-alike : (d : Carried) → d .building ≡ carried j .building → Alike W b d
-    unfolding lineFault carried
-    winds-alike d e x =
-        ap (λ (g : Building). cond (inForm (numberForms 2) x) (first (windFaults g (windOf x))) 1)
-        (e ∙ sym by-building)
+    building-alike : (d : Carried) → d .year ≡ carried j .year → Alike B b d
+    unfolding lineFault
+    building-alike d e x =
+        ap (λ (y : ℤ). cond (inForm (numberForms 6) x) (first (faults y (buildingOf x))) 1) e
 
     pub judges-as : (h : Bool) → hasHeights (carried j .year) ≡ h → (i : ℕ) → i < length (sections h)
-        → (4 < i → length (es P) ≤ 16)
         → JudgesAs (sectionAt h i) b (carriedIn (take i (sections h)) (carried j))
     unfolding lineFault
-    judges-as true e zero h few = λ x. refl
-    judges-as true e (suc zero) h few = building-alike (carriedIn (take 1 (sections true)) (carried j)) refl
-    judges-as true e (suc (suc zero)) h few = winds-alike (carriedIn (take 2 (sections true)) (carried j)) refl
-    judges-as true e (suc (suc (suc zero))) h few = λ x. refl
-    judges-as true e (suc (suc (suc (suc zero)))) h few = refl
-    judges-as true e (suc (suc (suc (suc (suc zero))))) h few =
-        λ x. ap (λ (d : Before). lineFault (Entry F) d x) (sym (by-all (few (omega arith))))
-    judges-as true e (suc (suc (suc (suc (suc (suc i)))))) h few = absurd (omega arith)
-    judges-as false e zero h few = building-alike nothing (sym (carried-year j e .year))
-    judges-as false e (suc zero) h few = winds-alike (carriedIn (take 1 (sections false)) (carried j)) refl
-    judges-as false e (suc (suc zero)) h few = λ x. refl
-    judges-as false e (suc (suc (suc zero))) h few =
+    judges-as true e zero h = λ x. refl
+    judges-as true e (suc zero) h = building-alike (carriedIn (take 1 (sections true)) (carried j)) refl
+    judges-as true e (suc (suc zero)) h = λ x. refl
+    judges-as true e (suc (suc (suc zero))) h = λ x. refl
+    judges-as true e (suc (suc (suc (suc zero)))) h = refl
+    judges-as true e (suc (suc (suc (suc (suc zero))))) h = λ x. refl
+    judges-as true e (suc (suc (suc (suc (suc (suc i)))))) h = absurd (omega arith)
+    judges-as false e zero h = building-alike nothing (sym (carried-year j e .year))
+    judges-as false e (suc zero) h = λ x. refl
+    judges-as false e (suc (suc zero)) h = λ x. refl
+    judges-as false e (suc (suc (suc zero))) h =
         let o = carried-year j e in
-        let none : length (es P) ≤ 16 = rw (o .profile) (omega arith) in
         λ x. ap (λ (d : Before). lineFault (Entry F) d x)
-        ((λ i. record {
+        (λ i. record {
           year = sym (o .year) i;
           building = carried j .building;
           lowest = lowestOf (sym (o .profile) i);
           highest = highestOf (sym (o .profile) i);
-        }) ∙ sym (by-all none))
-    judges-as false e (suc (suc (suc (suc i)))) h few = absurd (omega arith)
+        })
+    judges-as false e (suc (suc (suc (suc i)))) h = absurd (omega arith)
 
   -- the walk has come to the section behind the first i, whose count stands on this line
   pub record Reached (i line : ℕ) : Type 0 where
@@ -222,8 +215,6 @@ module _ (j : Job) where
     pub rest : walk (map Count (drop i ss)) (sofar i) line (sectionsOf es (drop i ss)) ≡ judged j
     -- no section has more than 25 lines
     pub lines : line ≤ 25 * i + 1
-    -- behind the profile it is within its room
-    pub steps : 4 < i → length (es P) ≤ 16
 
   pub reached-first : Reached 0 1
   unfolding judged readLines linesOf carried
@@ -232,7 +223,6 @@ module _ (j : Job) where
         stands = refl;
         rest = ap (λ (h : Bool). walk (sheet h) nothing 1 (linesOf (carried j))) (sym opens);
         lines = omega arith;
-        steps = λ h. absurd (omega arith);
       }
 
   -- v is its verdict by itself
@@ -261,17 +251,6 @@ module _ (j : Job) where
       pub few-entries : n ≤ 24
       few-entries = omega (arith, in-order .0 .high, most-24 s)
 
-      -- the fifth section of a sheet with heights is the profile
-      few-steps : 4 < suc i → length (es P) ≤ 16
-      few-steps h =
-          by-test (ltb 4 i) (λ t. r .steps (ltb-true 4 i t))
-          (λ t. fifth heights (omega (arith, ltb-false 4 i t)) few (in-order .0))
-        where
-          fifth : (t : Bool) → i ≡ 4 → i < length (sections t)
-              → Counted (sectionAt t i) (length (es (sectionAt t i))) → length (es P) ≤ 16
-          fifth true e l w = (rw e at w) .high
-          fifth false e l w = absurd (omega (arith, e))
-
       pub goes-on : Reached (i + 1) (line + (1 + n))
       goes-on =
           let formed = entries-formed s (es s) (sofar i) (in-order .1) in
@@ -286,7 +265,6 @@ module _ (j : Job) where
                 ∙ sym (section-passed es s later (sofar i) line (in-order .0) (in-order .1))
                 ∙ here;
             lines = omega (arith, r .lines, few-entries);
-            steps = few-steps;
           })
 
   pub ends : {i line : ℕ} → Reached i line → i ≡ length ss → accepted ≡ verdict (judged j)

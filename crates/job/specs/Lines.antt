@@ -7,7 +7,7 @@ use Rattle.field.specs.declared.Field.{Field}
 use Rattle.field.specs.declared.Field.the-variants.{Plus, Letter}
 use Rattle.rules.specs.declared.Section.{Section}
 use Rattle.rules.specs.declared.Section.the-variants.{«V», B, W, I, P, F}
-use Rattle.job.specs.Carried.{Carried}
+use Rattle.job.specs.Carried.{Carried, withFaces}
 use Rattle.building.specs.Year.{hasHeights}
 use Rattle.entry_written.specs.Fields.{yearFields, buildingFields, windFields, internalFields, stepFields, faceFields}
 use Rattle.rules.specs.Sections.{about, sections}
@@ -41,3 +41,7 @@ sheetOf heights es = sectionsOf es (sections heights)
 
 unfoldable pub linesOf : Carried → List (List Field)
 linesOf c = sheetOf (hasHeights (c .year)) (entriesOf c)
+
+-- the line on which face k stands, from 1: behind all lines of the same sheet without faces
+abbrev pub faceLine : Carried → ℕ → ℕ
+faceLine c k = length (linesOf (withFaces [] c)) + k

@@ -5,9 +5,6 @@ use crate::entry_count;
 use rules::Before;
 use rules::Section;
 ghost use mathlib.Core.Path.{_≡_};
-ghost use Prim.Native.Nat.{_≤_};
-ghost use lib.ListN.{length};
-ghost use Rattle.job.specs.Lines.{entriesOf};
 ghost use Rattle.whole.specs.Lists.{firstOf};
 ghost use Rattle.job.specs.Carried.{noStep, lowestOf, highestOf, before, carried};
 
@@ -22,34 +19,31 @@ fn lowest_of(p: Profile, n: u32) -> i64
     s.height
 }
 
-// -1 where there is none.
+// -1 where there is none, and 0 past the room.
 pub(crate) fn highest_of(p: Profile, n: u32) -> i64
-    requires { ⌜ n ≤ 16 ⌝ }
     ensures { λ r. ⌜ r ≡ highestOf (firstOf noStep n (p .entry)) ⌝ }
 {
     if n == 0 {
         return -1;
     }
+    if n > 16 {
+        return 0;
+    }
     let s = p.entry[(n - 1) as usize];
     s.height
 }
 
-// What the lines behind the profile of a job are judged by, where it is within its room: else none of them is judged.
+// What the lines behind the profile of a job are judged by.
 pub(crate) fn before_faces(j: Job) -> Before
-    ensures { λ r. ⌜ (r .year ≡ j .year) × (r .building ≡ j .building)
-        × (length (entriesOf (carried j) Section.P) ≤ 16 → r ≡ before (carried j)) ⌝ }
+    ensures { λ r. ⌜ r ≡ before (carried j) ⌝ }
 {
     let n = entry_count(j, Section::P);
     let building = j.building;
     let profile = j.profile;
-    let mut b = Before {
+    Before {
         year: j.year,
         building,
         lowest: lowest_of(profile, n),
-        highest: -1,
-    };
-    if n <= 16 {
-        b.highest = highest_of(profile, n);
+        highest: highest_of(profile, n),
     }
-    b
 }

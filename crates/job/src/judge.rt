@@ -5,6 +5,7 @@ use crate::given;
 use crate::heights::before_faces;
 use crate::heights::highest_of;
 use building::year::has_heights;
+use entry::Face;
 use rules::Before;
 use rules::Kind;
 use rules::Section;
@@ -14,7 +15,10 @@ use verdict::Verdict;
 ghost use mathlib.Core.Path.{_≡_};
 ghost use mathlib.Core.List.{[], _∷_};
 ghost use Prim.Native.Nat.{_≤_};
-ghost use Rattle.job.specs.Carried.{Carried, carried};
+ghost use Rattle.building.specs.Year.{hasHeights};
+ghost use Rattle.entry_written.specs.Fields.{faceFields};
+ghost use Rattle.rules.specs.Sections.{lineFault};
+ghost use Rattle.job.specs.Carried.{Carried, before, carried};
 ghost use Rattle.job.specs.Judging.{JudgesAs};
 ghost use Rattle.job.specs.Lines.{sectionOf, entriesOf};
 ghost use Rattle.job.specs.Walk.{verdict, walk, judged};
@@ -66,6 +70,13 @@ fn judge_section(j: Job, s: Section, b: Before, line: u32) -> Verdict
         i += 1;
     }
     Verdict { number: 0, line: 0 }
+}
+
+// The fault that a face would have as a line of this job's sheet, 0 where it has none.
+pub fn new_face_fault(j: Job, f: Face) -> u32
+    ensures { λ r. ⌜ r ≡ lineFault (Kind.Entry Section.F) (before (carried j)) (faceFields (hasHeights (j .year)) f) ⌝ }
+{
+    given::face_fault(before_faces(j), f)
 }
 
 // The number and line that the sheet of a job would get.

@@ -15,27 +15,32 @@ mod heights;
 pub mod judge;
 
 // The first entries count, as many as the count says.
+#[repr(C)]
 pub struct Winds {
     pub count: u32,
     pub entry: [Wind; 8],
 }
 
+#[repr(C)]
 pub struct Internals {
     pub count: u32,
     pub entry: [i64; 4],
 }
 
+#[repr(C)]
 pub struct Profile {
     pub count: u32,
     pub entry: [Step; 16],
 }
 
+#[repr(C)]
 pub struct Faces {
     pub count: u32,
     pub entry: [Face; 24],
 }
 
 // A sheet of year 1 carries no profile and no heights: whatever they hold here counts for nothing.
+#[repr(C)]
 pub struct Job {
     pub year: i64,
     pub building: Building,

@@ -1,12 +1,11 @@
 -- `asked`: the checks in their order.
 use mathlib.Core.Path.{_≡_, sym, ap, _∙_}
-use mathlib.Core.Bool.{true, cond}
-use lib.Dec.{eqb}
+use mathlib.Core.Bool.{true}
 use lib.IntN.{ℤ}
 use borrow.Author.Tests.{not-true, not-false}
 use borrow.Author.Needs.{needs}
 use Rattle.verdict.specs.declared.Verdict.{Verdict}
-use Rattle.verdict.specs.Verdict.{refusal}
+use Rattle.verdict.specs.Verdict.{refusal, _orThen_}
 use Rattle.building.specs.declared.Dated.{Dated}
 use Rattle.building.specs.declared.Question.the-variants.{Of, Refused}
 use Rattle.building.specs.Test.{unless}
@@ -20,24 +19,24 @@ use Rattle.building.proofs.asked.Statement.{statement}
 use Rattle.building.proofs.asked.Tie as tie
 
 -- the places: the year's and the building's refusal, the test of the direction, the branch past it
-module _ (c : tie.After-first-of) where
+module _ (c : tie.After-or-then) where
   abbrev start : tie.Start
   start = c .before .before .before .before
 
   abbrev d : Dated
   d = start .args .d
 
-  first-is : c .first-of .result ≡ firstRefusal (d .year) (d .building)
+  first-is : c .or-then .result ≡ firstRefusal (d .year) (d .building)
   first-is =
       let b = c .before in
       let y = b .before in
       let earlier =
       said (λ (z : ℤ). refusal (unless 3 (isYear z)) 0) (d .year) (y .year-refusal .ensures)
       (y .before .struct-told .given .0 .1) in
-      c .first-of .ensures
-      ∙ (λ i. cond (eqb (earlier i .number) 0) (b .building-refusal .ensures i) (earlier i))
+      c .or-then .ensures
+      ∙ (λ i. earlier i orThen b .building-refusal .ensures i)
 
-abbrev tested : tie.Else1 → tie.After-first-of
+abbrev tested : tie.Else1 → tie.After-or-then
 tested c = c .before .before
 
 good : (c : tie.Else1) → let g = d (tested c) in InYear (g .year) (g .building)

@@ -6,9 +6,11 @@ use native.Mathlib.Omega.{arith}
 use lib.ListN.{length}
 use Rattle.whole.proofs.Size.{said}
 use Rattle.building.specs.Year.{hasHeights}
+use Rattle.rules.specs.declared.Before.{Before}
 use Rattle.rules.specs.declared.Section.{Section}
 use Rattle.rules.specs.Sections.{sections, sectionAt}
 use Rattle.job.specs.declared.Job.{Job}
+use Rattle.job.specs.Carried.{carried}
 use Rattle.job.specs.Judging.{JudgesAs}
 use Rattle.job.proofs.Alone.{alone, few-sections}
 use Rattle.job.proofs.Judged.{es, heights, ss, sofar, year-is, Reached, reached-first, judges-as, stops}
@@ -56,10 +58,9 @@ module _ (c : tie.After-section-at Inv-loop μ-loop) where
 
   judges : JudgesAs (c .section-at .result) (begun .before-faces .result) (sofar job i)
   judges =
-      let b = begun .before-faces in
-      subst (λ (s : Section). JudgesAs s (b .result) (sofar job i)) (sym section-is)
-      (judges-as job (b .result) (b .ensures .0) (b .ensures .1) (b .ensures .2) (heights job) (year-is job) i few
-      (turn .loop .inv .1 .steps))
+      subst (λ (s : Section). JudgesAs s (begun .before-faces .result) (sofar job i)) (sym section-is)
+      (subst (λ (d : Before). JudgesAs (sectionAt (heights job) i) d (sofar job i)) (sym (begun .before-faces .ensures))
+      (judges-as job (heights job) (year-is job) i few))
 
   low : turn .loop .line ≤ 151
   low = omega (arith, few, few-sections (heights job), turn .loop .inv .1 .lines)
@@ -79,9 +80,10 @@ module _ (c : tie.After-judge-section Inv-loop μ-loop) where
       (section-is here) (c .judge-section .ensures (sofar (job here) (i here)) (judges here))
 
 judge-section-requires : tie.Need-judge-section-requires Inv-loop μ-loop
+unfolding carried
 judge-section-requires c κs =
-    let b = begun c .before-faces in
-    (b .ensures .0, b .ensures .1, low c)
+    let e = begun c .before-faces .ensures in
+    (ap (λ (b : Before). b .year) e, ap (λ (b : Before). b .building) e, low c)
 
 returns : tie.Need-returns Inv-loop μ-loop
 returns c =
