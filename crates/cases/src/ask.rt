@@ -205,8 +205,8 @@ fn net_questions() {
 
 pub(crate) fn questions() {
     outside_questions();
-    square_questions();
     slope_questions();
+    square_questions();
     net_questions();
 }
 
