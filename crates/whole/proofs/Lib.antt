@@ -18,4 +18,5 @@ pub mod Quoted
 pub mod First
 pub mod FirstOf
 pub mod ByPlace
+pub mod Moved
 pub mod Products

@@ -1,0 +1,2 @@
+-- The laws of one verdict after another.
+pub mod After
