@@ -2,17 +2,21 @@
 // between calls.
 use building::Building;
 use building::Dated;
+use entry::Face;
 use panel::Point;
 use verdict::Verdict;
+use worksheet::Edited;
+use worksheet::Worksheet;
 ghost use mathlib.Core.Path.{_≡_};
 ghost use Rattle.whole.specs.Digits.{decimal};
 ghost use Rattle.page.specs.Writing.{writing, bufferAfter};
 ghost use Rattle.book.specs.Question.{outsideOf, netOf};
 ghost use Rattle.panel.specs.Bracket.{panelOf};
 ghost use Rattle.panel.specs.Chart.{pointOf};
-ghost use Rattle.job.specs.Walk.{verdict};
+ghost use Rattle.job.specs.Walk.{verdict, judged};
 ghost use Rattle.sheet.specs.Sheet.{reading, sheetText, jobWriting, jobBuffer};
 ghost use Rattle.report.specs.Report.{reportText};
+ghost use Rattle.worksheet.specs.Edits.{Add, Replace, TakeOut, opened, edited};
 ghost use Rattle.answers.specs.Answers.{hostText, hostCoefficient, hostDouble, hostTotal};
 
 // ---- about a sheet
@@ -63,6 +67,55 @@ pub extern "C" fn aral_total(sheet: &[u8], line: i64) -> answers::Extreme
     }
     let w = worst::worst_cases(given.job);
     answers::line_of(w.six, line)
+}
+
+// ---- a worksheet
+
+// The sheet, opened.
+#[no_mangle]
+pub extern "C" fn aral_open(sheet: &[u8]) -> Edited
+    ensures { λ r. ⌜ r ≡ opened (reading (now (sheet .entry))) ⌝ }
+{
+    worksheet::open(sheet)
+}
+
+#[no_mangle]
+pub extern "C" fn aral_add(w: Worksheet, f: Face) -> Edited
+    ensures { λ r. ⌜ r ≡ edited (Add f) w ⌝ }
+{
+    worksheet::add(w, f)
+}
+
+#[no_mangle]
+pub extern "C" fn aral_replace(w: Worksheet, face: i64, f: Face) -> Edited
+    ensures { λ r. ⌜ r ≡ edited (Replace face f) w ⌝ }
+{
+    worksheet::replace(w, face, f)
+}
+
+#[no_mangle]
+pub extern "C" fn aral_take_out(w: Worksheet, face: i64) -> Edited
+    ensures { λ r. ⌜ r ≡ edited (TakeOut face) w ⌝ }
+{
+    worksheet::take_out(w, face)
+}
+
+// Its six lines.
+#[no_mangle]
+pub extern "C" fn aral_show(w: Worksheet, out: &mut [u8]) -> answers::Text
+    ensures { λ r. ⌜ (r ≡ hostText (jobWriting reportText (judged (w .job)) (now (out .entry))))
+        × (now (out .exit) ≡ jobBuffer reportText (judged (w .job)) (now (out .entry))) ⌝ }
+{
+    answers::text_of(report::write_report(w.job, out))
+}
+
+// Its sheet.
+#[no_mangle]
+pub extern "C" fn aral_write(w: Worksheet, out: &mut [u8]) -> answers::Text
+    ensures { λ r. ⌜ (r ≡ hostText (jobWriting sheetText (judged (w .job)) (now (out .entry))))
+        × (now (out .exit) ≡ jobBuffer sheetText (judged (w .job)) (now (out .entry))) ⌝ }
+{
+    answers::text_of(sheet_written::write_sheet(w.job, out))
 }
 
 // ---- about one place of a building

@@ -109,7 +109,7 @@ module _ (b : Before) where
   height-line x z = between (pos 0) (pos 30000) _ (in-order (Entry F) b x z .none .1 .1 .0)
 
   -- within the profile, where there is one
-  within-line : hasHeights (b .year) ≡ true → (x : List Field) → lineFault (Entry F) b x ≡ 0
+  pub within-line : hasHeights (b .year) ≡ true → (x : List Field) → lineFault (Entry F) b x ≡ 0
       → Limited (b .lowest) (b .highest) (faceOf (hasHeights (b .year)) x .height)
   within-line e x z =
       let y = faceOf (hasHeights (b .year)) x .height in

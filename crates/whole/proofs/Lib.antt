@@ -19,4 +19,5 @@ pub mod First
 pub mod FirstOf
 pub mod ByPlace
 pub mod Moved
+pub mod Pieces
 pub mod Products

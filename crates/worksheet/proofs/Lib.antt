@@ -3,3 +3,4 @@ pub mod Held
 pub mod Line
 pub mod Counts
 pub mod Refused
+pub mod Accepted

@@ -1,4 +1,4 @@
--- An edit of a worksheet: its refusals in their order, and the worksheet after it.
+-- A sheet opened as a worksheet; an edit of it: its refusals in their order, and the worksheet after it.
 use mathlib.Core.Bool.{cond}
 use Prim.Native.Nat.{ℕ, _+_}
 use lib.Dec.{eqb, ltb}
@@ -15,9 +15,9 @@ use Rattle.rules.specs.declared.Kind.the-variants.{Entry}
 use Rattle.rules.specs.Sections.{about, lineFault}
 use Rattle.job.specs.declared.Job.{Job}
 use Rattle.job.specs.declared.Faces.{Faces}
-use Rattle.job.specs.Carried.{before, carried}
+use Rattle.job.specs.Carried.{before, carried, recorded, noJob}
 use Rattle.job.specs.Lines.{faceLine}
-use Rattle.job.specs.Walk.{verdict, judged}
+use Rattle.job.specs.Walk.{Reading, Accepted, Refused, verdict, judged}
 use Rattle.worksheet.specs.declared.Worksheet.{Worksheet}
 use Rattle.worksheet.specs.declared.Edited.{Edited}
 use Rattle.worksheet.specs.Faces.{added, replaced, takenOut}
@@ -28,7 +28,13 @@ pub data Edit : Type 0 where
   Replace : ℤ → Face → Edit
   TakeOut : ℤ → Edit
 
--- ---- what it is refused for
+-- ---- a sheet opened: all zero where it is refused
+
+abbrev pub opened : Reading → Edited
+opened (Accepted c) = record { verdict = accepted; worksheet = record { job = recorded c } }
+opened (Refused v) = record { verdict = v; worksheet = record { job = noJob } }
+
+-- ---- what an edit is refused for
 
 -- "the held job's own as in 01"
 abbrev pub heldJob : Job → Verdict

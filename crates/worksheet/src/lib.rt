@@ -6,7 +6,8 @@ use entry::says::carried_face;
 use job::Job;
 use verdict::Verdict;
 ghost use mathlib.Core.Path.{_≡_};
-ghost use Rattle.worksheet.specs.Edits.{Add, Replace, TakeOut, edited};
+ghost use Rattle.sheet.specs.Sheet.{reading};
+ghost use Rattle.worksheet.specs.Edits.{Add, Replace, TakeOut, opened, edited};
 
 mod faces;
 mod refusals;
@@ -21,6 +22,17 @@ pub struct Worksheet {
 pub struct Edited {
     pub verdict: Verdict,
     pub worksheet: Worksheet,
+}
+
+// The sheet s, opened.
+pub fn open(s: &[u8]) -> Edited
+    ensures { λ r. ⌜ r ≡ opened (reading (now (s .entry))) ⌝ }
+{
+    let read = sheet::read::read_sheet(s);
+    let verdict = read.verdict;
+    let job = read.job;
+    let worksheet = Worksheet { job };
+    Edited { verdict, worksheet }
 }
 
 // A face at the end.
