@@ -4,6 +4,7 @@
 -- sources.
 pub use Rattle.whole.proofs.magnitude.Reads as magnitude
 pub use Rattle.whole.proofs.common_divisor.Reads as common-divisor
+pub use Rattle.verdict.proofs.or_then.Reads as or-then
 pub use Rattle.page.proofs.put_byte.Reads as put-byte
 pub use Rattle.page.proofs.put_bytes.Reads as put-bytes
 pub use Rattle.page.proofs.emit.Reads as emit
@@ -60,6 +61,7 @@ pub use Rattle.rules.proofs.entries.face_fault.Reads as face-fault
 pub use Rattle.rules.proofs.faults.line_fault.Reads as line-fault
 pub use Rattle.job.proofs.entry_count.Reads as entry-count
 pub use Rattle.job.proofs.judge.judge.Reads as judge
+pub use Rattle.job.proofs.judge.new_face_fault.Reads as new-face-fault
 pub use Rattle.sheet.proofs.read.read_sheet.Reads as read-sheet
 pub use Rattle.sheet_written.proofs.write_sheet.Reads as write-sheet
 pub use Rattle.worst.proofs.worst_cases.Reads as worst-cases
@@ -67,6 +69,10 @@ pub use Rattle.report.proofs.write_report.Reads as write-report
 pub use Rattle.report.proofs.write_totals.Reads as write-totals
 pub use Rattle.panel.proofs.panel_of.Reads as panel-of
 pub use Rattle.panel.proofs.chart.Reads as chart
+pub use Rattle.worksheet.proofs.open.Reads as open-sheet
+pub use Rattle.worksheet.proofs.add.Reads as add
+pub use Rattle.worksheet.proofs.replace.Reads as replace
+pub use Rattle.worksheet.proofs.take_out.Reads as take-out
 pub use Rattle.answers.proofs.no_text.Reads as no-text
 pub use Rattle.answers.proofs.text_of.Reads as text-of
 pub use Rattle.answers.proofs.coefficient_of.Reads as coefficient-of
@@ -77,6 +83,12 @@ pub use Rattle.aralimogga.proofs.aral_read.Reads as aral-read
 pub use Rattle.aralimogga.proofs.aral_rewrite.Reads as aral-rewrite
 pub use Rattle.aralimogga.proofs.aral_report.Reads as aral-report
 pub use Rattle.aralimogga.proofs.aral_total.Reads as aral-total
+pub use Rattle.aralimogga.proofs.aral_open.Reads as aral-open
+pub use Rattle.aralimogga.proofs.aral_add.Reads as aral-add
+pub use Rattle.aralimogga.proofs.aral_replace.Reads as aral-replace
+pub use Rattle.aralimogga.proofs.aral_take_out.Reads as aral-take-out
+pub use Rattle.aralimogga.proofs.aral_show.Reads as aral-show
+pub use Rattle.aralimogga.proofs.aral_write.Reads as aral-write
 pub use Rattle.aralimogga.proofs.aral_outside.Reads as aral-outside
 pub use Rattle.aralimogga.proofs.aral_net.Reads as aral-net
 pub use Rattle.aralimogga.proofs.aral_digits.Reads as aral-digits

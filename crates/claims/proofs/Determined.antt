@@ -26,6 +26,11 @@ magnitude-determined κ a r r′ s s′ p q = same p q
 common-divisor-determined : OneAnswer of.common-divisor.Post
 common-divisor-determined κ a r r′ s s′ p q = same p q
 
+-- ---- verdict
+
+or-then-determined : OneAnswer of.or-then.Post
+or-then-determined κ a r r′ s s′ p q = same p q
+
 -- ---- page
 
 put-byte-determined : OneAnswerAndBuffer of.put-byte.Post (λ κ s. now (s .0))
@@ -214,6 +219,9 @@ line-fault-determined κ a r r′ s s′ p q = same p q
 entry-count-determined : OneAnswer of.entry-count.Post
 entry-count-determined κ a r r′ s s′ p q = same p q
 
+new-face-fault-determined : OneAnswer of.new-face-fault.Post
+new-face-fault-determined κ a r r′ s s′ p q = same p q
+
 judge-determined : OneAnswer of.judge.Post
 judge-determined κ a r r′ s s′ p q = same p q
 
@@ -268,6 +276,20 @@ no-extreme-determined κ a r r′ s s′ p q = same p q
 line-of-determined : OneAnswer of.line-of.Post
 line-of-determined κ a r r′ s s′ p q = same p q
 
+-- ---- worksheet
+
+open-sheet-determined : OneAnswer of.open-sheet.Post
+open-sheet-determined κ a r r′ s s′ p q = same p q
+
+add-determined : OneAnswer of.add.Post
+add-determined κ a r r′ s s′ p q = same p q
+
+replace-determined : OneAnswer of.replace.Post
+replace-determined κ a r r′ s s′ p q = same p q
+
+take-out-determined : OneAnswer of.take-out.Post
+take-out-determined κ a r r′ s s′ p q = same p q
+
 -- ---- aralimogga
 
 aral-read-determined : OneAnswer of.aral-read.Post
@@ -281,6 +303,24 @@ aral-report-determined κ a r r′ s s′ p q = same-both p q
 
 aral-total-determined : OneAnswer of.aral-total.Post
 aral-total-determined κ a r r′ s s′ p q = same p q
+
+aral-open-determined : OneAnswer of.aral-open.Post
+aral-open-determined κ a r r′ s s′ p q = same p q
+
+aral-add-determined : OneAnswer of.aral-add.Post
+aral-add-determined κ a r r′ s s′ p q = same p q
+
+aral-replace-determined : OneAnswer of.aral-replace.Post
+aral-replace-determined κ a r r′ s s′ p q = same p q
+
+aral-take-out-determined : OneAnswer of.aral-take-out.Post
+aral-take-out-determined κ a r r′ s s′ p q = same p q
+
+aral-show-determined : OneAnswerAndBuffer of.aral-show.Post (λ κ s. now (s .1 .0))
+aral-show-determined κ a r r′ s s′ p q = same-both p q
+
+aral-write-determined : OneAnswerAndBuffer of.aral-write.Post (λ κ s. now (s .1 .0))
+aral-write-determined κ a r r′ s s′ p q = same-both p q
 
 aral-outside-determined : OneAnswer of.aral-outside.Post
 aral-outside-determined κ a r r′ s s′ p q = same p q

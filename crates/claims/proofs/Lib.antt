@@ -8,6 +8,7 @@ pub mod Panel
 pub mod Paper01
 pub mod Paper02
 pub mod Item1
+pub mod Item4
 pub mod Item6
 pub mod Item12
 pub mod Printed
@@ -23,6 +24,7 @@ pub mod Unchanged
 pub mod Accepted
 pub mod Fault
 pub mod Question
+pub mod Edit
 pub mod Total
 pub mod Written
 pub mod Decimal

@@ -10,6 +10,11 @@ magnitude-asks κ a = tt
 common-divisor-asks : AsksNothing of.common-divisor.Asked
 common-divisor-asks κ a = tt
 
+-- ---- verdict
+
+or-then-asks : AsksNothing of.or-then.Asked
+or-then-asks κ a = tt
+
 -- ---- page
 
 put-byte-asks : AsksNothing of.put-byte.Asked
@@ -197,6 +202,9 @@ line-fault-asks κ a = tt
 entry-count-asks : AsksNothing of.entry-count.Asked
 entry-count-asks κ a = tt
 
+new-face-fault-asks : AsksNothing of.new-face-fault.Asked
+new-face-fault-asks κ a = tt
+
 judge-asks : AsksNothing of.judge.Asked
 judge-asks κ a = tt
 
@@ -251,6 +259,20 @@ no-extreme-asks κ a = tt
 line-of-asks : AsksNothing of.line-of.Asked
 line-of-asks κ a = tt
 
+-- ---- worksheet
+
+open-sheet-asks : AsksNothing of.open-sheet.Asked
+open-sheet-asks κ a = tt
+
+add-asks : AsksNothing of.add.Asked
+add-asks κ a = tt
+
+replace-asks : AsksNothing of.replace.Asked
+replace-asks κ a = tt
+
+take-out-asks : AsksNothing of.take-out.Asked
+take-out-asks κ a = tt
+
 -- ---- aralimogga
 
 aral-read-asks : AsksNothing of.aral-read.Asked
@@ -264,6 +286,24 @@ aral-report-asks κ a = tt
 
 aral-total-asks : AsksNothing of.aral-total.Asked
 aral-total-asks κ a = tt
+
+aral-open-asks : AsksNothing of.aral-open.Asked
+aral-open-asks κ a = tt
+
+aral-add-asks : AsksNothing of.aral-add.Asked
+aral-add-asks κ a = tt
+
+aral-replace-asks : AsksNothing of.aral-replace.Asked
+aral-replace-asks κ a = tt
+
+aral-take-out-asks : AsksNothing of.aral-take-out.Asked
+aral-take-out-asks κ a = tt
+
+aral-show-asks : AsksNothing of.aral-show.Asked
+aral-show-asks κ a = tt
+
+aral-write-asks : AsksNothing of.aral-write.Asked
+aral-write-asks κ a = tt
 
 aral-outside-asks : AsksNothing of.aral-outside.Asked
 aral-outside-asks κ a = tt

@@ -84,6 +84,18 @@ aral-report-unchanged κ a r s p h =
     let w = jobWriting reportText (reading (now (a .0))) (now (a .1 .0)) in
     job-kept reportText (reading (now (a .0))) (now (a .1 .0)) (refl, p .1) (host-refused w (p .0) h)
 
+aral-show-unchanged : RefusedUnchanged of.aral-show.Post (λ κ r. Refuses (r .verdict)) (λ κ a. now (a .1 .0))
+    (λ κ s. now (s .1 .0))
+aral-show-unchanged κ a r s p h =
+    let w = jobWriting reportText (judged (a .0 .job)) (now (a .1 .0)) in
+    job-kept reportText (judged (a .0 .job)) (now (a .1 .0)) (refl, p .1) (host-refused w (p .0) h)
+
+aral-write-unchanged : RefusedUnchanged of.aral-write.Post (λ κ r. Refuses (r .verdict)) (λ κ a. now (a .1 .0))
+    (λ κ s. now (s .1 .0))
+aral-write-unchanged κ a r s p h =
+    let w = jobWriting sheetText (judged (a .0 .job)) (now (a .1 .0)) in
+    job-kept sheetText (judged (a .0 .job)) (now (a .1 .0)) (refl, p .1) (host-refused w (p .0) h)
+
 aral-digits-unchanged : RefusedUnchanged of.aral-digits.Post (λ κ r. Refuses (r .verdict)) (λ κ a. now (a .1 .0))
     (λ κ s. now (s .1 .0))
 aral-digits-unchanged κ a r s p h =

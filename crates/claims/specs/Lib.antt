@@ -4,6 +4,7 @@ pub mod Written
 pub mod Decimal
 pub mod Fault
 pub mod Question
+pub mod Edit
 pub mod Total
 pub mod Shown
 pub mod Doubles

@@ -6,11 +6,11 @@ use mathlib.Core.Bool.{Bool, true, false, true≢false}
 use mathlib.Core.List.{List, [], _∷_, _++_, map}
 use Prim.Native.Nat.{ℕ, _+_, _-_, _≤_, _<_}
 use native.Mathlib.Omega.{arith}
-use lib.Dec.{ltb}
+use lib.Dec.{ltb, eqb}
 use lib.IntN.{ℤ, pos, natAbs}
 use lib.ListN.{length, getD, take, drop, length-append, length-drop, length-map, List·getD-eq-default}
 use lib.Seq.{length-take-le}
-use borrow.Author.Tests.{ltb-true, ltb-false}
+use borrow.Author.Tests.{ltb-true, ltb-false, eqb-true, ne-eqb}
 use Rattle.whole.specs.Lists.{firstOf, Every}
 use Rattle.whole.proofs.Tests.{by-test}
 use Rattle.whole.proofs.Lists.{every-by, every-both, every-at, getD-map, map-take, map-drop, firstOf-length, firstOf-take}
@@ -32,12 +32,15 @@ use Rattle.job.specs.Carried as job
 use Rattle.job.specs.Carried.{Carried, carried, noFace, before}
 use Rattle.job.specs.InOrder.{Within, FaceInOrder, HeightInOrder, OfYear1, OfLaterYear, InOrder}
 use Rattle.job.specs.Lines.{linesOf}
-use Rattle.job.specs.Walk.{Accepted, judged}
+use Rattle.job.specs.Walk.{Accepted, verdict, judged}
 use Rattle.job.proofs.InOrder.{face-line, height-line, within-line, in-order-accepted}
 use Rattle.job.proofs.Lines.{face-back}
 use Rattle.job.proofs.Years.{later-heights}
+use Rattle.verdict.specs.Verdict.{Refuses}
+use Rattle.worksheet.specs.declared.Worksheet.{Worksheet}
 use Rattle.worksheet.specs.Faces.{add, replace, takeOut, facesIn, behind, holding}
 use Rattle.worksheet.specs.Edits.{Edit, Add, Replace, TakeOut, heldJob, newFace, editVerdict, editFaces, withFaces}
+use Rattle.worksheet.specs.Edits.{edited}
 use Rattle.worksheet.proofs.Counts.{held-in-order, few-faces}
 use Rattle.worksheet.proofs.Refused.{add-passed, replace-passed, take-out-passed, there-is, has-room, not-only}
 
@@ -265,3 +268,21 @@ module _ (j : Job) (o : InOrder (carried j)) where
       let d = in-order-edited e z in
       let i = fit-in-order (carried j) o (editCarried h e fs) (d .0) (d .1) in
       in-order-accepted (carried (after e)) (subst InOrder (sym (carried-edited e)) i)
+
+-- ---- whatever the edit, refused or not
+
+pub edited-stays : (e : Edit) (w : Worksheet) (c : Carried) → judged (w .job) ≡ Accepted c
+    → (d : Carried) × (judged (edited e w .worksheet .job) ≡ Accepted d)
+unfolding edited
+edited-stays e w c a =
+    by-test (eqb (editVerdict e (w .job) .number) 0)
+    (λ t.
+    let j = w .job in
+    let o = held-in-order j (heldJob j) refl (ap (λ x. verdict x .number) a) in
+    let z = eqb-true (editVerdict e j .number) 0 t in
+    (carried (after j o e), rw t (edited-accepted j o e z)))
+    (λ t. (c, rw t a))
+
+pub refused-stays : (e : Edit) (w : Worksheet) → Refuses (edited e w .verdict) → edited e w .worksheet ≡ w
+unfolding edited
+refused-stays e w h = rw (ne-eqb (editVerdict e (w .job) .number) 0 h)

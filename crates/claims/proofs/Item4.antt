@@ -1,0 +1,161 @@
+-- Item 4 of paper 02: faces edited on screen.
+use mathlib.Core.Path.{_≡_, refl, sym, ap, ap₂, _∙_, subst}
+use mathlib.Core.Logic.{_⊎_, ⊎-elim}
+use mathlib.Core.List.{List}
+use Prim.Native.Nat.{ℕ}
+use denote.Ref.{now}
+use native.Mathlib.Omega.{arith}
+use lib.ListN.{length, take, drop}
+use lib.Seq.{take-append-seam}
+use Rattle.verdict.specs.declared.Verdict.{Verdict}
+use Rattle.verdict.specs.Verdict.{accepted, Refuses}
+use Rattle.job.specs.declared.Job.{Job}
+use Rattle.job.specs.Carried.{Carried, carried}
+use Rattle.job.specs.Walk.{Reading, Accepted, judged}
+use Rattle.page.specs.declared.Writing.{Writing}
+use Rattle.page.specs.declared.Writing.the-variants as written
+use Rattle.job.proofs.RoundTrip.{judged-carried}
+use Rattle.sheet.proofs.RoundTrip.{written-read}
+use Rattle.sheet.specs.Sheet.{reading, sheetText, jobWriting, jobBuffer}
+use Rattle.report.specs.Report.{reportText}
+use Rattle.answers.specs.declared.Text.{Text}
+use Rattle.answers.specs.Answers.{hostText}
+use Rattle.worksheet.specs.declared.Worksheet.{Worksheet}
+use Rattle.worksheet.specs.declared.Edited.{Edited}
+use Rattle.worksheet.specs.Edits.{Edit, Add, Replace, TakeOut, edited}
+use Rattle.worksheet.proofs.Accepted.{edited-stays, refused-stays}
+use Rattle.claims.specs.Contract.{Always}
+use Rattle.claims.specs.Edit.{EditFault}
+use Rattle.claims.specs.Written.{Written, put, longer}
+use Rattle.claims.proofs.Contracts as of
+use Rattle.claims.proofs.Edit as edit
+use Rattle.claims.proofs.Again as again
+
+-- ---- the statements
+
+-- one call, by whatever its contract allows: from the worksheet handed in to the one that it hands back
+abbrev pub Call : {L : Type 0} {A R S : L → Type 0} → ((κ : L) → A κ → R κ → S κ → Type 0)
+    → ((κ : L) → A κ → Worksheet) → ((κ : L) → R κ → Worksheet) → Worksheet → Worksheet → Type 0
+Call {L} {A} {R} {S} Post given back w v =
+    (κ : L) × (a : A κ) × (r : R κ) × (s : S κ) × Post κ a r s × (given κ a ≡ w) × (back κ r ≡ v)
+
+-- an edit of one of the three kinds, refused or not
+abbrev pub Step : Worksheet → Worksheet → Type 0
+Step w v =
+    Call of.aral-add.Post (λ κ a. a .0) (λ κ r. r .worksheet) w v
+    ⊎ (Call of.aral-replace.Post (λ κ a. a .0) (λ κ r. r .worksheet) w v
+    ⊎ Call of.aral-take-out.Post (λ κ a. a .0) (λ κ r. r .worksheet) w v)
+
+-- "any sequence of edits"
+pub data Session : Worksheet → Worksheet → Type 0 where
+  none : {w : Worksheet} → Session w w
+  edits : {w u v : Worksheet} → Step w u → Session u v → Session w v
+
+-- "After any sequence of edits from an accepted job, the report equals that of the sheet written afresh": the six lines
+-- shown are those of the sheet that is written, read and reported, in the answer and in a buffer alike
+abbrev pub ReportsAfresh : Type 0
+ReportsAfresh = (w v : Worksheet) (c : Carried) → judged (w .job) ≡ Accepted c → Session w v
+    → Always of.aral-write.Post (λ κ a r s. Always of.aral-show.Post (λ κ′ b q t.
+    Always of.aral-report.Post (λ κ″ d p u. (n : ℕ) → a .0 ≡ v → b .0 ≡ v
+    → r ≡ hostText (written.Length n) → now (d .0) ≡ take n (now (s .1 .0)) → now (b .1 .0) ≡ now (d .1 .0)
+    → (q ≡ p) × (now (t .1 .0) ≡ now (u .1 .0)))))
+
+-- the job that is held stays an accepted one
+abbrev pub StaysAccepted : Type 0
+StaysAccepted = (w v : Worksheet) (c : Carried) → judged (w .job) ≡ Accepted c → Session w v
+    → (d : Carried) × (judged (v .job) ≡ Accepted d)
+
+-- "A refused edit leaves the worksheet the same."
+pub record RefusedIsSame : Type 0 where
+  pub add : Always of.aral-add.Post (λ κ a r s. Refuses (r .verdict) → r .worksheet ≡ a .0)
+  pub replace : Always of.aral-replace.Post (λ κ a r s. Refuses (r .verdict) → r .worksheet ≡ a .0)
+  pub take-out : Always of.aral-take-out.Post (λ κ a r s. Refuses (r .verdict) → r .worksheet ≡ a .0)
+
+-- "Refusals: the held job's own as in 01; then .. 9; then .. 2; .. then the new face's own faults": an edit gets the
+-- first of them, and where there is none it is accepted
+abbrev pub FirstOfFaults : Job → Edit → Verdict → Type 0
+FirstOfFaults j e v = ((u : Verdict) → EditFault j e u → v ≡ u) × (((u : Verdict) → EditFault j e u → ⊥) → v ≡ accepted)
+
+pub record EditsGetFirstFault : Type 0 where
+  pub add : Always of.aral-add.Post (λ κ a r s. FirstOfFaults (a .0 .job) (Add (a .1 .0)) (r .verdict))
+  pub replace : Always of.aral-replace.Post
+      (λ κ a r s. FirstOfFaults (a .0 .job) (Replace (a .1 .0) (a .1 .1 .0)) (r .verdict))
+  pub take-out : Always of.aral-take-out.Post (λ κ a r s. FirstOfFaults (a .0 .job) (TakeOut (a .1 .0)) (r .verdict))
+
+-- ---- the proofs
+
+-- a call whose contract is that of an edit
+step-stays : {u v : Worksheet} {r : Edited} (e : Edit) (w : Worksheet) (c : Carried) → judged (u .job) ≡ Accepted c
+    → r ≡ edited e w → w ≡ u → r .worksheet ≡ v → (d : Carried) × (judged (v .job) ≡ Accepted d)
+step-stays {v = v} e w c a p q s =
+    let k = edited-stays e w c (ap (λ x. judged (x .job)) q ∙ a) in
+    (k .0, ap (λ x. judged (x .job)) (sym s ∙ ap (λ x. x .worksheet) p) ∙ k .1)
+
+one-step : (w v : Worksheet) (c : Carried) → judged (w .job) ≡ Accepted c → Step w v
+    → (d : Carried) × (judged (v .job) ≡ Accepted d)
+one-step w v c a =
+    ⊎-elim (λ (κ, x, r, s, p, q, b). step-stays (Add (x .1 .0)) (x .0) c a p q b)
+    (⊎-elim (λ (κ, x, r, s, p, q, b). step-stays (Replace (x .1 .0) (x .1 .1 .0)) (x .0) c a p q b)
+    (λ (κ, x, r, s, p, q, b). step-stays (TakeOut (x .1 .0)) (x .0) c a p q b))
+
+pub stays-accepted : StaysAccepted
+stays-accepted w v c a none = (c, a)
+stays-accepted w v c a (edits {u = u} s t) = let k = one-step w u c a s in stays-accepted u v (k .0) (k .1) t
+
+-- a text that was written with room stands at the start
+at-start : {text before after : List ℕ} {w : Writing} {n : ℕ} → Written text before after w
+    → hostText w ≡ hostText (written.Length n) → take n after ≡ text
+at-start {text} {before} (put h e) q =
+    ap₂ take (sym (ap (λ x. x .length) q)) e ∙ take-append-seam text (drop (length text) before)
+at-start (longer h e) q = let seven : 7 ≡ 0 = ap (λ x. x .verdict .number) q in absurd (omega arith)
+
+-- what was written, read again
+read-afresh : (v : Worksheet) (d : Carried) → judged (v .job) ≡ Accepted d → (buf : List ℕ) {after s : List ℕ} {r : Text}
+    {n : ℕ} → r ≡ hostText (jobWriting sheetText (judged (v .job)) buf)
+    → after ≡ jobBuffer sheetText (judged (v .job)) buf → r ≡ hostText (written.Length n) → s ≡ take n after
+    → reading s ≡ judged (v .job)
+read-afresh v d a buf p q e same =
+    let start = at-start (again.job-written sheetText a buf (refl, q)) (sym p ∙ e) in
+    let mine = judged-carried (v .job) d a in
+    ap reading (same ∙ start ∙ ap sheetText mine) ∙ written-read (v .job) d a ∙ ap Accepted (sym mine) ∙ sym a
+
+pub reports-afresh : ReportsAfresh
+reports-afresh w v c a session κ x r s p κ′ b q t p′ κ″ d y u p″ n same same′ length-is text buffer =
+    let k = stays-accepted w v c a session in
+    let j = ap (λ (z : Worksheet). judged (z .job)) same in
+    let j′ = ap (λ (z : Worksheet). judged (z .job)) same′ in
+    let out = now (x .1 .0) in
+    let again =
+    read-afresh v (k .0) (k .1) out (p .0 ∙ ap (λ z. hostText (jobWriting sheetText z out)) j)
+    (p .1 ∙ ap (λ z. jobBuffer sheetText z out) j) length-is text in
+    let one = j′ ∙ sym again in (
+      p′ .0 ∙ (λ i. hostText (jobWriting reportText (one i) (buffer i))) ∙ sym (p″ .0),
+      p′ .1 ∙ (λ i. jobBuffer reportText (one i) (buffer i)) ∙ sym (p″ .1),
+    )
+
+-- the verdict that a contract's edit gives
+first-of : (e : Edit) (w : Worksheet) {r : Edited} → r ≡ edited e w → FirstOfFaults (w .job) e (r .verdict)
+unfolding edited
+first-of e w p =
+    let v = ap (λ x. x .verdict) p in
+    (λ u f. v ∙ edit.fault-is (w .job) e f, λ h. v ∙ edit.none-is (w .job) e h)
+
+pub edits-get-first-fault : EditsGetFirstFault
+edits-get-first-fault =
+    record {
+      add = λ κ a r s p. first-of (Add (a .1 .0)) (a .0) p;
+      replace = λ κ a r s p. first-of (Replace (a .1 .0) (a .1 .1 .0)) (a .0) p;
+      take-out = λ κ a r s p. first-of (TakeOut (a .1 .0)) (a .0) p;
+    }
+
+refused-by : (e : Edit) (w : Worksheet) {r : Edited} → r ≡ edited e w → Refuses (r .verdict) → r .worksheet ≡ w
+refused-by e w p h =
+    ap (λ x. x .worksheet) p ∙ refused-stays e w (λ z. h (ap (λ x. x .verdict .number) p ∙ z))
+
+pub refused-is-same : RefusedIsSame
+refused-is-same =
+    record {
+      add = λ κ a r s p h. refused-by (Add (a .1 .0)) (a .0) p h;
+      replace = λ κ a r s p h. refused-by (Replace (a .1 .0) (a .1 .1 .0)) (a .0) p h;
+      take-out = λ κ a r s p h. refused-by (TakeOut (a .1 .0)) (a .0) p h;
+    }
