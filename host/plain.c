@@ -1,15 +1,9 @@
 /* The plain calculator: an ordinary C program for the same entry points, written from the papers alone. It shares no
    code and no table with the proved crates, so that where the two differ one of them misread the papers.
-   With -DSTAND_IN its functions carry the library's own names, and tests can be tried without the library. */
+   Worksheets are in plain_edits.c. */
 #include "plain.h"
 #include "step.h"
 #include <string.h>
-
-#ifdef STAND_IN
-#define ENTRY(name) aral_##name
-#else
-#define ENTRY(name) plain_##name
-#endif
 
 enum { WINDS = 8, INTERNALS = 4, STEPS = 16, FACES = 24, TURNS = 5 };
 enum { LAST_YEAR = 3 };   /* the sheets of years 2 to here open with V and have one form */

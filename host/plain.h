@@ -1,8 +1,16 @@
-/* The entry points of the plain calculator (plain.c): those of aralimogga.h, under another prefix. */
+/* The entry points of the plain calculator: those of aralimogga.h, under another prefix. Worksheets are in
+   plain_edits.c, all others in plain.c. */
 #ifndef PLAIN_H
 #define PLAIN_H
 
 #include "aralimogga.h"
+
+/* With -DSTAND_IN they carry the library's own names, and tests can be tried without the library. */
+#ifdef STAND_IN
+#define ENTRY(name) aral_##name
+#else
+#define ENTRY(name) plain_##name
+#endif
 
 aral_answer plain_read(const uint8_t *sheet, size_t n);
 aral_text plain_rewrite(const uint8_t *sheet, size_t n, uint8_t *out, size_t room);
@@ -13,6 +21,12 @@ aral_coefficient plain_outside(int64_t year, int64_t h, int64_t a, int64_t b, in
                                int64_t direction, uint8_t place);
 aral_coefficient plain_net(int64_t year, int64_t h, int64_t a, int64_t b, int64_t density, int64_t kind, int64_t x,
                            int64_t direction, uint8_t place, int64_t internal);
+aral_edited plain_open(const uint8_t *sheet, size_t n);
+aral_edited plain_add(aral_worksheet w, aral_face f);
+aral_edited plain_replace(aral_worksheet w, int64_t face, aral_face f);
+aral_edited plain_take_out(aral_worksheet w, int64_t face);
+aral_text plain_show(aral_worksheet w, uint8_t *out, size_t room);
+aral_text plain_write(aral_worksheet w, uint8_t *out, size_t room);
 aral_double plain_panel(int64_t total);
 aral_point plain_chart(int64_t x, int64_t y, int64_t z);
 

@@ -6,7 +6,8 @@
    number  given when
    0       accepted; the line is 0 too
    1       the line is missing, unended, extra or not in the sheet's form
-   2       a count is not 1 for V and B, or not 1 to 8 for W, 1 to 4 for I, 1 to 16 for P, 1 to 24 for F
+   2       a count is not 1 for V and B, or not 1 to 8 for W, 1 to 4 for I, 1 to 16 for P, 1 to 24 for F; an edit would
+           leave more than 24 faces, or none (line 0)
    3       a number is outside its range, the year is not 2 or 3, a direction or a mark is a number that the roof has
            no wind for, or a height of the profile does not rise
    4       h/b is over 6, or a/b is under 1 or over 4; in years 1 and 2 also where a/b is 1
@@ -14,6 +15,7 @@
    6       the zone or local is not on this building; on one with roof kind 6 also a wall in another wind than 0 and 90
    7       the lent buffer is too short (line 0)
    8       the face's height is outside the profile
+   9       there is no such face to be edited (line 0)
 
    A sheet of year 1 opens with section B. One of a later year opens with section V and the year, 2 or 3; it has a
    section P after I, the profile, and a height after each face's mark. A face's speed is then the wind's times the
@@ -41,8 +43,8 @@ extern "C" {
 #endif
 
 /* The version of these shapes: it rises where a record or a call changes. 2: a coefficient names its rows. 3: a
-   question names its year. */
-#define ARAL_VERSION 3
+   question names its year. 4: worksheets. */
+#define ARAL_VERSION 4
 
 /* The refusals by name. */
 enum {
@@ -53,7 +55,8 @@ enum {
     ARAL_ROOF = 5,
     ARAL_ZONE = 6,
     ARAL_ROOM = 7,
-    ARAL_HEIGHT = 8
+    ARAL_HEIGHT = 8,
+    ARAL_NO_FACE = 9
 };
 
 /* The greatest lengths: in bytes of an acceptable sheet, a report and the digits of a number; and of a job's faces. */
@@ -103,6 +106,37 @@ typedef struct { uint32_t exact; double low, high; } aral_double;
 /* A chart point: for each axis the low and the high double of a total, the same where exact. */
 typedef struct { double x_low, x_high, y_low, y_high, z_low, z_high; } aral_point;
 
+/* A face's mark for every direction, which is `-` on a sheet. */
+#define ARAL_BOTH 4294967295
+
+/* A job as a record: what its sheet says, in the sheet's units. Numbers are wide, so that none of a host's is cut. A
+   zone is its letter's byte, a mark a direction or ARAL_BOTH. Entries past a count are no part of the job, and
+   neither are, in year 1, the profile and the faces' heights: its sheet does not carry them. */
+typedef struct { int64_t h, a, b, density, kind, x; } aral_building;
+typedef struct { int64_t direction, speed; } aral_wind;
+typedef struct { int64_t height, factor; } aral_step; /* a line of the profile */
+typedef struct { uint8_t zone; int64_t mark, height, x, y, z; } aral_face;
+typedef struct { uint32_t count; aral_wind entry[8]; } aral_winds;
+typedef struct { uint32_t count; int64_t entry[4]; } aral_internals;
+typedef struct { uint32_t count; aral_step entry[16]; } aral_profile;
+typedef struct { uint32_t count; aral_face entry[ARAL_FACES_MOST]; } aral_faces;
+typedef struct {
+    int64_t year;
+    aral_building building;
+    aral_winds winds;
+    aral_internals internals;
+    aral_profile profile;
+    aral_faces faces;
+} aral_job;
+
+/* A job that the host holds while its faces are edited. It may hold anything: each call judges the held job first,
+   with the number and line that its sheet would get. So a number of more than seven digits or a zone that is none of
+   A to H is 1, a count above the room of its list 2, and a year other than 1 to 3 is 3 at line 2. */
+typedef struct { aral_job job; } aral_worksheet;
+
+/* Accepted (0, 0) with the worksheet after the edit; or the refusal, with the worksheet as it was handed in. */
+typedef struct { uint32_t number, line; aral_worksheet worksheet; } aral_edited;
+
 /* Reads the n bytes of a sheet. Answers accepted, or refuses with 1 to 6 or 8 and the line. */
 aral_answer aral_read(const uint8_t *sheet, size_t n);
 
@@ -141,6 +175,27 @@ aral_coefficient aral_outside(int64_t year, int64_t h, int64_t a, int64_t b, int
    Refuses as aral_outside does, and then an internal coefficient outside -100 to 100 with 3, line 0. */
 aral_coefficient aral_net(int64_t year, int64_t h, int64_t a, int64_t b, int64_t density, int64_t kind, int64_t x,
                           int64_t direction, uint8_t place, int64_t internal);
+
+/* Reads a sheet into a worksheet. Refuses as aral_read does, and the worksheet is then all zero. What the sheet does
+   not carry is zero: entries past a count, and in year 1 the profile and the faces' heights. */
+aral_edited aral_open(const uint8_t *sheet, size_t n);
+
+/* Edits, each of which leaves all else in the worksheet as it was, also entries past the counts: a face added after
+   the last one; face `face`, counted from 1, replaced; or face `face` taken out, so that later faces move up by one
+   and the entry that the last one had is zero. In year 1 a new face's height is not looked at, and the worksheet has
+   0 for it.
+   Refuse, in this order: the held job, as its sheet would be; a face other than 1 to the count with 9, line 0; adding
+   to 24 faces, or taking out the only one, with 2, line 0; the new face with 1, 3, 6 or 8 as its line of the sheet
+   would be: one after the last face's where it is added, that of face `face` where it replaces it. */
+aral_edited aral_add(aral_worksheet w, aral_face f);
+aral_edited aral_replace(aral_worksheet w, int64_t face, aral_face f);
+aral_edited aral_take_out(aral_worksheet w, int64_t face);
+
+/* Write the report of the held job, as aral_report does of its sheet, and its sheet.
+   Refuse the held job as its sheet would be; then with 7, line 0, where the text is longer than `room`. The buffer as
+   for aral_rewrite. */
+aral_text aral_show(aral_worksheet w, uint8_t *out, size_t room);
+aral_text aral_write(aral_worksheet w, uint8_t *out, size_t room);
 
 /* The panel's doubles of any number. Never refuses. Zero is positive zero. */
 aral_double aral_panel(int64_t total);

@@ -1,0 +1,258 @@
+/* The plain calculator's worksheets. A record is judged, shown and written as the sheet that it would be: the sheet is
+   made here, and the entry points of plain.c read it. */
+#include "plain.h"
+#include <string.h>
+
+enum { COUNT = 2, ROOM = 7, NO_FACE = 9 };
+enum { WINDS = 8, INTERNALS = 4, STEPS = 16, FACES = ARAL_FACES_MOST };
+
+/* ---- The sheet of a record ---- */
+
+/* At most 60 lines, of at most 6 fields, each of at most 20 bytes and the one after it. */
+enum { LONGEST = 60 * 6 * 21 };
+typedef struct { uint8_t text[LONGEST]; size_t length; } page;
+
+static void put(page *p, uint8_t byte) { p->text[p->length++] = byte; }
+
+static void put_letter(page *p, uint8_t letter)
+{
+    put(p, letter);
+    put(p, ' ');
+}
+
+/* A number of any length, and the byte that ends its field. */
+static void put_number(page *p, int64_t value, char end)
+{
+    p->length += ENTRY(digits)(value, p->text + p->length, LONGEST - p->length).length;
+    put(p, (uint8_t)end);
+}
+
+/* A count line. One above the room is written as one too many, also where it has more digits than a sheet takes.
+   Answers how many entries can follow. */
+static uint32_t put_count(page *p, char letter, uint32_t count, uint32_t room)
+{
+    uint32_t shown = count > room ? room + 1 : count;
+    put_letter(p, (uint8_t)letter);
+    put_number(p, shown, '\n');
+    return shown > room ? 0 : shown;
+}
+
+static int has_heights(const aral_job *j) { return j->year != 1; }
+
+static void put_face(page *p, const aral_face *f, int high)
+{
+    put_letter(p, f->zone);
+    if (f->mark == ARAL_BOTH) put_letter(p, '-');
+    else put_number(p, f->mark, ' ');
+    if (high) put_number(p, f->height, ' ');
+    put_number(p, f->x, ' ');
+    put_number(p, f->y, ' ');
+    put_number(p, f->z, '\n');
+}
+
+static void put_building(page *p, const aral_building *g)
+{
+    const int64_t number[] = {g->h, g->a, g->b, g->density, g->kind, g->x};
+    put_count(p, 'B', 1, 1);
+    for (int i = 0; i < 6; i++) put_number(p, number[i], i < 5 ? ' ' : '\n');
+}
+
+static void put_profile(page *p, const aral_profile *profile)
+{
+    uint32_t count = put_count(p, 'P', profile->count, STEPS);
+    for (uint32_t i = 0; i < count; i++) {
+        put_number(p, profile->entry[i].height, ' ');
+        put_number(p, profile->entry[i].factor, '\n');
+    }
+}
+
+/* The sheet that the record would be. What follows a count above its room does not matter: that line is refused. */
+static void put_job(page *p, const aral_job *j)
+{
+    p->length = 0;
+    if (has_heights(j)) {
+        put_count(p, 'V', 1, 1);
+        put_number(p, j->year, '\n');
+    }
+    put_building(p, &j->building);
+    uint32_t winds = put_count(p, 'W', j->winds.count, WINDS);
+    for (uint32_t i = 0; i < winds; i++) {
+        put_number(p, j->winds.entry[i].direction, ' ');
+        put_number(p, j->winds.entry[i].speed, '\n');
+    }
+    uint32_t internals = put_count(p, 'I', j->internals.count, INTERNALS);
+    for (uint32_t i = 0; i < internals; i++) put_number(p, j->internals.entry[i], '\n');
+    if (has_heights(j)) put_profile(p, &j->profile);
+    uint32_t faces = put_count(p, 'F', j->faces.count, FACES);
+    for (uint32_t i = 0; i < faces; i++) put_face(p, &j->faces.entry[i], has_heights(j));
+}
+
+static aral_answer judge(const aral_worksheet *w)
+{
+    page p;
+    put_job(&p, &w->job);
+    return ENTRY(read)(p.text, p.length);
+}
+
+/* ---- The record of a sheet ---- */
+
+/* The fields of a sheet that was accepted, one after another. */
+typedef struct { const uint8_t *at; } fields;
+
+static uint8_t letter(fields *f)
+{
+    uint8_t byte = *f->at;
+    f->at += 2;
+    return byte;
+}
+
+static int64_t number(fields *f)
+{
+    int negative = *f->at == '-';
+    int64_t size = 0;
+    for (f->at += negative; *f->at >= '0' && *f->at <= '9'; f->at++) size = 10 * size + (*f->at - '0');
+    f->at++;
+    return negative ? -size : size;
+}
+
+static uint32_t count(fields *f)
+{
+    letter(f);
+    return (uint32_t)number(f);
+}
+
+static int64_t mark(fields *f)
+{
+    if (f->at[0] != '-' || f->at[1] != ' ') return number(f);
+    f->at += 2;
+    return ARAL_BOTH;
+}
+
+static void read_face(fields *f, int high, aral_face *face)
+{
+    face->zone = letter(f);
+    face->mark = mark(f);
+    if (high) face->height = number(f);
+    face->x = number(f);
+    face->y = number(f);
+    face->z = number(f);
+}
+
+static void read_building(fields *f, aral_building *g)
+{
+    int64_t *const place[] = {&g->h, &g->a, &g->b, &g->density, &g->kind, &g->x};
+    count(f);
+    for (int i = 0; i < 6; i++) *place[i] = number(f);
+}
+
+/* Into a record that is all zero. */
+static void read_job(fields *f, aral_job *j)
+{
+    j->year = 1;
+    if (*f->at == 'V') {
+        count(f);
+        j->year = number(f);
+    }
+    read_building(f, &j->building);
+    j->winds.count = count(f);
+    for (uint32_t i = 0; i < j->winds.count; i++) {
+        j->winds.entry[i].direction = number(f);
+        j->winds.entry[i].speed = number(f);
+    }
+    j->internals.count = count(f);
+    for (uint32_t i = 0; i < j->internals.count; i++) j->internals.entry[i] = number(f);
+    if (has_heights(j)) j->profile.count = count(f);
+    for (uint32_t i = 0; i < j->profile.count; i++) {
+        j->profile.entry[i].height = number(f);
+        j->profile.entry[i].factor = number(f);
+    }
+    j->faces.count = count(f);
+    for (uint32_t i = 0; i < j->faces.count; i++) read_face(f, has_heights(j), &j->faces.entry[i]);
+}
+
+aral_edited ENTRY(open)(const uint8_t *sheet, size_t n)
+{
+    aral_edited opened;
+    aral_answer answer = ENTRY(read)(sheet, n);
+    memset(&opened, 0, sizeof opened);
+    opened.number = answer.number;
+    opened.line = answer.line;
+    if (!answer.number) read_job(&(fields){sheet}, &opened.worksheet.job);
+    return opened;
+}
+
+/* ---- Edits ---- */
+
+static aral_edited answered(uint32_t number, uint32_t line, const aral_worksheet *w)
+{
+    return (aral_edited){number, line, *w};
+}
+
+static int has_face(const aral_worksheet *w, int64_t face) { return face >= 1 && face <= w->job.faces.count; }
+
+/* The face as the record holds it: in year 1 without its height. */
+static aral_face held(const aral_worksheet *w, aral_face f)
+{
+    if (!has_heights(&w->job)) f.height = 0;
+    return f;
+}
+
+/* The worksheet with its new face, which is judged as the line of that sheet, since every other line is accepted. */
+static aral_edited edited(const aral_worksheet *before, const aral_worksheet *after)
+{
+    aral_answer fault = judge(after);
+    return answered(fault.number, fault.line, fault.number ? before : after);
+}
+
+aral_edited ENTRY(add)(aral_worksheet w, aral_face f)
+{
+    aral_answer own = judge(&w);
+    if (own.number) return answered(own.number, own.line, &w);
+    if (w.job.faces.count == FACES) return answered(COUNT, 0, &w);
+    aral_worksheet after = w;
+    after.job.faces.entry[after.job.faces.count++] = held(&w, f);
+    return edited(&w, &after);
+}
+
+aral_edited ENTRY(replace)(aral_worksheet w, int64_t face, aral_face f)
+{
+    aral_answer own = judge(&w);
+    if (own.number) return answered(own.number, own.line, &w);
+    if (!has_face(&w, face)) return answered(NO_FACE, 0, &w);
+    aral_worksheet after = w;
+    after.job.faces.entry[face - 1] = held(&w, f);
+    return edited(&w, &after);
+}
+
+aral_edited ENTRY(take_out)(aral_worksheet w, int64_t face)
+{
+    aral_answer own = judge(&w);
+    if (own.number) return answered(own.number, own.line, &w);
+    if (!has_face(&w, face)) return answered(NO_FACE, 0, &w);
+    if (w.job.faces.count == 1) return answered(COUNT, 0, &w);
+    aral_face *entry = w.job.faces.entry;
+    uint32_t last = --w.job.faces.count;
+    for (uint32_t i = (uint32_t)face - 1; i < last; i++) entry[i] = entry[i + 1];
+    memset(&entry[last], 0, sizeof entry[last]);
+    return answered(0, 0, &w);
+}
+
+/* ---- Texts ---- */
+
+aral_text ENTRY(show)(aral_worksheet w, uint8_t *out, size_t room)
+{
+    page p;
+    put_job(&p, &w.job);
+    return ENTRY(report)(p.text, p.length, out, room);
+}
+
+aral_text ENTRY(write)(aral_worksheet w, uint8_t *out, size_t room)
+{
+    page p;
+    put_job(&p, &w.job);
+    aral_answer own = ENTRY(read)(p.text, p.length);
+    if (own.number) return (aral_text){own.number, own.line, 0};
+    if (p.length > room) return (aral_text){ROOM, 0, 0};
+    memcpy(out, p.text, p.length);
+    return (aral_text){0, 0, p.length};
+}
