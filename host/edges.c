@@ -1,71 +1,14 @@
 /* Lends the library buffers that lie against pages which can't be touched: edges SEED CASES. A byte read or written
    outside a buffer fails. Refused calls leave every byte, and accepted ones every byte after the text. */
-#define _DEFAULT_SOURCE
 #include "aralimogga.h"
+#include "fence.h"
 #include "plain.h"
 #include "sheets.h"
-#include <signal.h>
 #include <stdio.h>
 #include <stdlib.h>
 #include <string.h>
-#include <sys/mman.h>
 
-enum { PAGE = 65536, WATCHED = 4096, FILL = 0xa5 }; /* PAGE: a multiple of any machine's page */
-typedef struct { uint8_t *start, *end; } fence; /* bytes between two pages that can't be touched */
-static fence input, output;
 static unsigned long calls;
-
-static void fail(const char *what)
-{
-    printf("FAILED: %s\n", what);
-    exit(1);
-}
-
-static fence make_fence(size_t size)
-{
-    uint8_t *all = mmap(NULL, size + 2 * PAGE, PROT_NONE, MAP_PRIVATE | MAP_ANONYMOUS, -1, 0);
-    if (all == MAP_FAILED || mprotect(all + PAGE, size, PROT_READ | PROT_WRITE)) {
-        fprintf(stderr, "no memory to be had\n");
-        exit(2);
-    }
-    return (fence){all + PAGE, all + PAGE + size};
-}
-
-static int around(fence f, const uint8_t *at) { return f.start - PAGE <= at && at < f.end + PAGE; }
-
-/* Says what was touched. The load or store that brings us here is one of a call and none of printf's: it may print. */
-static void touched(int number, siginfo_t *info, void *context)
-{
-    (void)number;
-    (void)context;
-    if (around(output, info->si_addr)) fail("a page beside the buffer was touched");
-    if (around(input, info->si_addr)) fail("a page beside the sheet was touched, or the sheet written to");
-    fail("memory was touched that was not lent");
-}
-
-static void watch_pages(void)
-{
-    struct sigaction watch = {.sa_sigaction = touched, .sa_flags = SA_SIGINFO};
-    sigaction(SIGSEGV, &watch, NULL);
-}
-
-/* A copy of the text that can only be read, against the page after it or the page before it. */
-static const uint8_t *lend(const uint8_t *bytes, size_t n, int after)
-{
-    size_t size = (size_t)(input.end - input.start);
-    uint8_t *at = after ? input.end - n : input.start;
-    mprotect(input.start, size, PROT_READ | PROT_WRITE);
-    memcpy(at, bytes, n);
-    mprotect(input.start, size, PROT_READ);
-    return at;
-}
-
-static int filled(const uint8_t *from, const uint8_t *to)
-{
-    while (from < to)
-        if (*from++ != FILL) return 0;
-    return 1;
-}
 
 typedef aral_text writes(const uint8_t *, size_t, uint8_t *, size_t);
 
@@ -73,16 +16,12 @@ typedef aral_text writes(const uint8_t *, size_t, uint8_t *, size_t);
 static void write_at(writes *ours, writes *theirs, const uint8_t *sheet, size_t n, size_t room, int after)
 {
     static uint8_t expected[WATCHED];
-    uint8_t *from = after ? output.end - WATCHED : output.start, *to = from + WATCHED;
-    uint8_t *at = after ? output.end - room : output.start;
-    memset(from, FILL, WATCHED);
-    memset(expected, FILL, WATCHED);
+    uint8_t *at = lend_room(room, after);
     aral_text p = ours(sheet, n, at, room), q = theirs(sheet, n, expected, room);
     calls++;
     if (p.number != q.number || p.line != q.line || p.length != q.length) fail("the answer at an edge");
     if (p.number && p.length) fail("a length where it is refused");
-    if (memcmp(at, expected, p.length)) fail("the text at an edge");
-    if (!filled(from, at) || !filled(at + p.length, to)) fail("a byte that should have stayed");
+    check_room(at, after, expected, p.length);
 }
 
 static void write_rooms(writes *ours, writes *theirs, const uint8_t *sheet, size_t n, size_t length)
@@ -207,11 +146,11 @@ static void very_long(const text *t)
         if (a.number != 1 || a.line != 1) fail("a very long text");
         memcpy(big.start, t->byte, t->length);
         aral_answer p = aral_read(big.start, n), q = plain_read(big.start, n);
-        aral_text r = aral_report(big.start, n, output.start, 900);
+        aral_text r = aral_report(big.start, n, lend_room(900, 0), 900);
         if (p.number != 1 || p.line != q.line || r.number != 1 || r.line != q.line) fail("a very long tail");
         calls += 3;
     }
-    munmap(big.start - PAGE, n + 2 * PAGE);
+    give_back(big);
 }
 
 int main(int argc, char **argv)
@@ -223,9 +162,7 @@ int main(int argc, char **argv)
         return 2;
     }
     dice die = {strtoull(argv[1], NULL, 10)};
-    input = make_fence(TEXT_ROOM);
-    output = make_fence(PAGE);
-    watch_pages();
+    make_fences();
     printf("seed %s\n", argv[1]);
     for (int which = 0; which < LONGEST; which++) {
         longest(which, &t);
