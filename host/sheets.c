@@ -167,6 +167,14 @@ static int mark_of(dice *d, int64_t kind, char zone)
     return pick(d, 0, 1) ? DASH : direction_of(d, kind);
 }
 
+void make_face(dice *d, sample *s, int i)
+{
+    s->zone[i] = zone(d, s->kind);
+    s->mark[i] = mark_of(d, s->kind, s->zone[i]);
+    s->height[i] = face_height(d, s);
+    for (int axis = 0; axis < 3; axis++) s->area[i][axis] = area(d);
+}
+
 void make_sized(dice *d, sample *s, int year, int64_t kind, int winds, int internals, int steps, int faces)
 {
     building_of(d, s, year, kind);
@@ -180,12 +188,7 @@ void make_sized(dice *d, sample *s, int year, int64_t kind, int winds, int inter
     }
     for (int i = 0; i < internals; i++)
         s->internal[i] = (int)(pick(d, 0, 1) ? ONE_OF(d, -100, 100, 0, 20, -20, -30, -70, 70) : pick(d, -100, 100));
-    for (int i = 0; i < faces; i++) {
-        s->zone[i] = zone(d, s->kind);
-        s->mark[i] = mark_of(d, kind, s->zone[i]);
-        s->height[i] = face_height(d, s);
-        for (int axis = 0; axis < 3; axis++) s->area[i][axis] = area(d);
-    }
+    for (int i = 0; i < faces; i++) make_face(d, s, i);
 }
 
 void make_sample(dice *d, sample *s)

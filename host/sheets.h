@@ -28,6 +28,7 @@ int direction_of(dice *d, int64_t kind);                      /* one that the ro
 void make_building(dice *d, sample *s);                       /* an acceptable building of some year */
 void make_sample(dice *d, sample *s);                         /* an acceptable job */
 void make_sized(dice *d, sample *s, int year, int64_t kind, int winds, int internals, int steps, int faces);
+void make_face(dice *d, sample *s, int i);                    /* entry i, as the building and the profile allow */
 void spoil(dice *d, sample *s);                               /* one number or letter, mostly not allowed */
 void write_sample(const sample *s, text *t);                  /* its sheet */
 void damage(dice *d, text *t);                                /* one slip, which may leave the sheet acceptable */

@@ -1,0 +1,222 @@
+/* Edits worksheets with the library and with the plain calculator side by side: edits SEED SEQUENCES. After every step
+   the answers, every field of the records, and what is shown and written must be the same; and a worksheet must show
+   what the report of its sheet has. It stops where they differ. */
+#include "aralimogga.h"
+#include "fence.h"
+#include "plain.h"
+#include "records.h"
+#include <inttypes.h>
+#include <stdio.h>
+#include <stdlib.h>
+#include <string.h>
+
+enum { ADD, REPLACE, TAKE_OUT, EDITS };
+static const char *const names[EDITS] = {"added", "replaced", "taken out"};
+static struct { unsigned long opened, steps, done[EDITS][10], texts; } tally;
+static dice die;
+
+static void show_worksheet(const aral_worksheet *w)
+{
+    int64_t field[RECORD_FIELDS];
+    fields_of(w, field);
+    printf("the worksheet's fields in order:");
+    for (int i = 0; i < RECORD_FIELDS; i++) printf(" %" PRId64, field[i]);
+    printf("\n");
+}
+
+static void differ(const char *what, const aral_worksheet *w)
+{
+    printf("DIFFERENT: %s\n", what);
+    if (w) show_worksheet(w);
+    exit(1);
+}
+
+static int same_worksheet(const aral_worksheet *p, const aral_worksheet *q)
+{
+    int64_t mine[RECORD_FIELDS], other[RECORD_FIELDS];
+    fields_of(p, mine);
+    fields_of(q, other);
+    return !memcmp(mine, other, sizeof mine);
+}
+
+/* The answers and every field of both records. */
+static void compare_edited(const char *what, const aral_worksheet *w, const aral_edited *p, const aral_edited *q)
+{
+    if (p->number != q->number || p->line != q->line) {
+        printf("library %u %u, plain %u %u\n", p->number, p->line, q->number, q->line);
+        differ(what, w);
+    }
+    if (same_worksheet(&p->worksheet, &q->worksheet)) return;
+    printf("both answer %u %u; after it, of the library and of the plain calculator:\n", p->number, p->line);
+    show_worksheet(&p->worksheet);
+    show_worksheet(&q->worksheet);
+    differ(what, w);
+}
+
+/* ---- Shown and written ---- */
+
+typedef aral_text writes(aral_worksheet, uint8_t *, size_t);
+
+/* One call with a room of this size against a page; the text goes into `text` too. */
+static aral_text compare_text(const char *what, writes *ours, writes *theirs, const aral_worksheet *w, size_t room,
+                              uint8_t *text)
+{
+    int after = (int)pick(&die, 0, 1);
+    uint8_t *at = lend_room(room, after);
+    aral_text p = ours(*w, at, room), q = theirs(*w, text, room);
+    tally.texts++;
+    if (p.number != q.number || p.line != q.line || p.length != q.length) {
+        printf("library %u %u %" PRIu64 ", plain %u %u %" PRIu64 ", room %zu\n", p.number, p.line, p.length, q.number,
+               q.line, q.length, room);
+        differ(what, w);
+    }
+    check_room(at, after, text, p.length);
+    return p;
+}
+
+/* In a room of every kind: ample, just enough, one short, some other, and none. */
+static aral_text compare_rooms(const char *what, writes *ours, writes *theirs, const aral_worksheet *w, uint8_t *text)
+{
+    static uint8_t other[WATCHED];
+    aral_text whole = compare_text(what, ours, theirs, w, WATCHED, text), none = ours(*w, NULL, 0);
+    compare_text(what, ours, theirs, w, (size_t)pick(&die, 0, ARAL_SHEET_MOST), other);
+    if (whole.number) {
+        if (none.number != whole.number || none.line != whole.line) differ("a refusal and one without a buffer", w);
+        return whole;
+    }
+    compare_text(what, ours, theirs, w, whole.length, other);
+    if (compare_text(what, ours, theirs, w, whole.length - 1, other).number != ARAL_ROOM) differ("one short", w);
+    if (none.number != ARAL_ROOM || none.line || none.length) differ("no room through no pointer", w);
+    return whole;
+}
+
+/* What is written is a sheet whose report is what is shown, and which opens as the same job. */
+static void compare_texts(const aral_worksheet *w)
+{
+    static uint8_t shown[WATCHED], written[WATCHED], report[WATCHED];
+    aral_text s = compare_rooms("a worksheet shown", aral_show, plain_show, w, shown);
+    aral_text t = compare_rooms("a worksheet written", aral_write, plain_write, w, written);
+    if (s.number != t.number || s.line != t.line) differ("what showing and writing answer", w);
+    if (s.number) return;
+    aral_text r = aral_report(written, t.length, report, sizeof report);
+    if (r.number || r.length != s.length || memcmp(report, shown, r.length))
+        differ("what is shown and the report of the sheet written afresh", w);
+    aral_edited again = aral_open(written, t.length);
+    aral_worksheet job = *w;
+    clear_litter(&job);
+    if (again.number || !same_worksheet(&again.worksheet, &job)) differ("a worksheet and its sheet opened", w);
+}
+
+/* ---- Steps ---- */
+
+static void compare_open(const text *t, int after)
+{
+    static const aral_worksheet nothing;
+    const uint8_t *sheet = lend(t->byte, t->length, after);
+    aral_edited p = aral_open(sheet, t->length), q = plain_open(sheet, t->length);
+    aral_answer read = aral_read(sheet, t->length);
+    tally.opened++;
+    compare_edited("a sheet opened", NULL, &p, &q);
+    if (p.number != read.number || p.line != read.line) differ("a sheet opened and the same read", NULL);
+    if (p.number && !same_worksheet(&p.worksheet, &nothing)) differ("a refused sheet and nothing", &p.worksheet);
+}
+
+/* A face to edit with: one that the job could have, with none, one or two of its fields off. */
+static aral_face new_face(sample *s)
+{
+    sample one = *s;
+    make_face(&die, &one, 0);
+    aral_face f = face_at(&one, 0);
+    if (one.year == 1) f.height = edge_of(&die, 0);
+    for (int64_t slips = pick(&die, 0, 5) - 3; slips > 0; slips--) spoil_face(&die, &f);
+    return f;
+}
+
+/* A number of a face: mostly of one that is there. */
+static int64_t some_face(const aral_worksheet *w)
+{
+    int64_t count = w->job.faces.count > 24 ? 24 : w->job.faces.count;
+    return pick(&die, 0, 4) ? pick(&die, 1, count ? count : 1) : edge_of(&die, count);
+}
+
+static void call(int edit, const aral_worksheet *w, int64_t face, aral_face f, aral_edited *p, aral_edited *q)
+{
+    switch (edit) {
+    case ADD:
+        *p = aral_add(*w, f);
+        *q = plain_add(*w, f);
+        break;
+    case REPLACE:
+        *p = aral_replace(*w, face, f);
+        *q = plain_replace(*w, face, f);
+        break;
+    default:
+        *p = aral_take_out(*w, face);
+        *q = plain_take_out(*w, face);
+    }
+}
+
+/* One edit, often of the kind that this sequence likes; answers whether it was accepted. */
+static int step(sample *s, aral_worksheet *w, int liked)
+{
+    int edit = pick(&die, 0, 1) ? liked : (int)pick(&die, 0, EDITS - 1);
+    int64_t face = some_face(w);
+    aral_edited p, q;
+    call(edit, w, face, new_face(s), &p, &q);
+    tally.steps++;
+    tally.done[edit][p.number < 10 ? p.number : 0]++;
+    compare_edited(names[edit], w, &p, &q);
+    if (p.number && !same_worksheet(&p.worksheet, w)) differ("a refused edit's worksheet and the one handed in", w);
+    *w = p.worksheet;
+    return p.number == 0;
+}
+
+/* From an acceptable job on, as it was read, with anything where it does not look, or spoiled. */
+static void sequence(unsigned long i)
+{
+    static sample s;
+    static text t;
+    aral_worksheet w;
+    make_sample(&die, &s);
+    write_sample(&s, &t);
+    record_of(&s, &w);
+    aral_edited opened = aral_open(t.byte, t.length);
+    if (opened.number || !same_worksheet(&opened.worksheet, &w)) differ("a job and its sheet opened", &w);
+    compare_open(&t, (int)(i % 2));
+    damage(&die, &t);
+    compare_open(&t, (int)(i % 2));
+    if (i % 2) litter(&die, &w);
+    for (int64_t slips = i % 4 == 3 ? pick(&die, 1, 2) : 0; slips > 0; slips--) spoil_record(&die, &w);
+    compare_texts(&w);
+    int liked = (int)pick(&die, 0, EDITS - 1);
+    for (int64_t steps = pick(&die, 1, i % 4 == 3 ? 4 : 30); steps > 0; steps--)
+        if (step(&s, &w, liked)) compare_texts(&w);
+}
+
+static void no_sheet(void)
+{
+    aral_edited p = aral_open(NULL, 0), q = plain_open(NULL, 0);
+    compare_edited("nothing opened through no pointer", NULL, &p, &q);
+    if (p.number != ARAL_FORM || p.line != 1) differ("nothing opened and (1, 1)", NULL);
+}
+
+int main(int argc, char **argv)
+{
+    if (argc != 3) {
+        fprintf(stderr, "edits SEED SEQUENCES\n");
+        return 2;
+    }
+    die.state = strtoull(argv[1], NULL, 10);
+    printf("seed %s\n", argv[1]);
+    make_fences();
+    no_sheet();
+    for (unsigned long i = 0, count = strtoul(argv[2], NULL, 10); i < count; i++) sequence(i);
+    for (int edit = 0; edit < EDITS; edit++) {
+        printf("%s: %lu accepted, refused by number", names[edit], tally.done[edit][0]);
+        for (int number = 1; number <= 9; number++)
+            if (number != ARAL_ROOM) printf(" %d: %lu", number, tally.done[edit][number]);
+        printf("\n");
+    }
+    printf("%lu sheets opened, %lu edits, %lu texts: all the same\n", tally.opened, tally.steps, tally.texts);
+    return 0;
+}

@@ -1,0 +1,141 @@
+/* Makes worksheets from the jobs of sheets.c, litters them where a job does not look, and spoils them. */
+#include "records.h"
+#include <string.h>
+
+aral_face face_at(const sample *s, int i)
+{
+    int64_t mark = s->mark[i] == DASH ? ARAL_BOTH : s->mark[i];
+    return (aral_face){(uint8_t)s->zone[i], mark, s->height[i], s->area[i][0], s->area[i][1], s->area[i][2]};
+}
+
+void record_of(const sample *s, aral_worksheet *w)
+{
+    aral_job *j = &w->job;
+    memset(w, 0, sizeof *w);
+    j->year = s->year;
+    j->building = (aral_building){s->h, s->a, s->b, s->density, s->kind, s->x};
+    j->winds.count = (uint32_t)s->winds;
+    for (int i = 0; i < s->winds; i++) j->winds.entry[i] = (aral_wind){s->direction[i], s->speed[i]};
+    j->internals.count = (uint32_t)s->internals;
+    for (int i = 0; i < s->internals; i++) j->internals.entry[i] = s->internal[i];
+    j->profile.count = (uint32_t)s->steps;
+    for (int i = 0; i < s->steps; i++) j->profile.entry[i] = (aral_step){s->step[i].height, s->step[i].factor};
+    j->faces.count = (uint32_t)s->faces;
+    for (int i = 0; i < s->faces; i++) j->faces.entry[i] = face_at(s, i);
+}
+
+/* ---- Where a job does not look ---- */
+
+typedef int64_t wanted(dice *d);
+
+static int64_t zero(dice *d)
+{
+    (void)d;
+    return 0;
+}
+
+static int64_t anything(dice *d) { return edge_of(d, 90); }
+
+/* A count of the record's, or its room where it is above it. */
+static uint32_t used(uint32_t count, uint32_t room) { return count < room ? count : room; }
+
+static void fill_face(dice *d, aral_face *f, wanted *some)
+{
+    f->zone = (uint8_t)some(d);
+    f->mark = some(d);
+    f->height = some(d);
+    f->x = some(d);
+    f->y = some(d);
+    f->z = some(d);
+}
+
+/* Past the counts, and in year 1 in the profile and the heights. */
+static void fill_rest(dice *d, aral_job *j, wanted *some)
+{
+    if (j->year == 1) j->profile.count = (uint32_t)some(d);
+    for (uint32_t i = used(j->winds.count, 8); i < 8; i++) j->winds.entry[i] = (aral_wind){some(d), some(d)};
+    for (uint32_t i = used(j->internals.count, 4); i < 4; i++) j->internals.entry[i] = some(d);
+    for (uint32_t i = j->year == 1 ? 0 : used(j->profile.count, 16); i < 16; i++)
+        j->profile.entry[i] = (aral_step){some(d), some(d)};
+    for (uint32_t i = used(j->faces.count, 24); i < 24; i++) fill_face(d, &j->faces.entry[i], some);
+    for (uint32_t i = 0; j->year == 1 && i < used(j->faces.count, 24); i++) j->faces.entry[i].height = some(d);
+}
+
+void litter(dice *d, aral_worksheet *w) { fill_rest(d, &w->job, anything); }
+
+void clear_litter(aral_worksheet *w) { fill_rest(NULL, &w->job, zero); }
+
+/* ---- What is not allowed ---- */
+
+static uint32_t wild_count(dice *d, uint32_t room)
+{
+    static const uint32_t count[] = {0, 0, 25, 255, 256, 65536, 9999999, 10000000, INT32_MAX, UINT32_MAX};
+    return pick(d, 0, 1) ? room + (uint32_t)pick(d, 0, 2) : count[pick(d, 0, 9)];
+}
+
+static void spoil_number(dice *d, int64_t *number) { *number = edge_of(d, *number); }
+
+void spoil_face(dice *d, aral_face *f)
+{
+    int64_t *const number[] = {&f->mark, &f->mark, &f->height, &f->height, &f->x, &f->y, &f->z};
+    switch (pick(d, 0, 5)) {
+    case 0: f->zone = (uint8_t)roll(d); break;
+    case 1: f->zone = (uint8_t)('@' + pick(d, 0, 9)); break;
+    case 2: f->mark = pick(d, 0, 1) ? ARAL_BOTH : 45 * pick(d, -1, 5); break;
+    case 3: f->height = pick(d, -1, 30001); break;
+    default: spoil_number(d, number[pick(d, 0, 6)]); break;
+    }
+}
+
+static void spoil_building(dice *d, aral_building *g)
+{
+    int64_t *const number[] = {&g->h, &g->a, &g->b, &g->density, &g->kind, &g->x};
+    spoil_number(d, number[pick(d, 0, 5)]);
+}
+
+void spoil_record(dice *d, aral_worksheet *w)
+{
+    aral_job *j = &w->job;
+    aral_wind *wind = &j->winds.entry[pick(d, 0, 7)];
+    aral_step *step = &j->profile.entry[pick(d, 0, 15)];
+    switch (pick(d, 0, 11)) {
+    case 0: j->year = pick(d, 0, 1) ? pick(d, -1, 5) : edge_of(d, j->year); break;
+    case 1: spoil_building(d, &j->building); break;
+    case 2: j->winds.count = wild_count(d, 8); break;
+    case 3: j->internals.count = wild_count(d, 4); break;
+    case 4: j->profile.count = wild_count(d, 16); break;
+    case 5: j->faces.count = wild_count(d, 24); break;
+    case 6: spoil_number(d, pick(d, 0, 1) ? &wind->direction : &wind->speed); break;
+    case 7: spoil_number(d, &j->internals.entry[pick(d, 0, 3)]); break;
+    case 8: spoil_number(d, pick(d, 0, 1) ? &step->height : &step->factor); break;
+    default: spoil_face(d, &j->faces.entry[pick(d, 0, used(j->faces.count ? j->faces.count : 1, 24) - 1)]); break;
+    }
+}
+
+/* ---- Fields ---- */
+
+void fields_of(const aral_worksheet *w, int64_t field[RECORD_FIELDS])
+{
+    const aral_job *j = &w->job;
+    const aral_building *g = &j->building;
+    const int64_t first[] = {j->year, g->h, g->a, g->b, g->density, g->kind, g->x};
+    for (int i = 0; i < 7; i++) *field++ = first[i];
+    *field++ = j->winds.count;
+    for (int i = 0; i < 8; i++) {
+        *field++ = j->winds.entry[i].direction;
+        *field++ = j->winds.entry[i].speed;
+    }
+    *field++ = j->internals.count;
+    for (int i = 0; i < 4; i++) *field++ = j->internals.entry[i];
+    *field++ = j->profile.count;
+    for (int i = 0; i < 16; i++) {
+        *field++ = j->profile.entry[i].height;
+        *field++ = j->profile.entry[i].factor;
+    }
+    *field++ = j->faces.count;
+    for (int i = 0; i < 24; i++) {
+        const aral_face *f = &j->faces.entry[i];
+        const int64_t number[] = {f->zone, f->mark, f->height, f->x, f->y, f->z};
+        for (int k = 0; k < 6; k++) *field++ = number[k];
+    }
+}
