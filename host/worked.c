@@ -1,23 +1,18 @@
-/* The build definition's worked cases, typed in by hand, on the library and on the plain calculator. */
-#include "aralimogga.h"
+/* The worked cases of the build definition and of the requests, typed in by hand, on the library and on the plain
+   calculator. */
+#include "worked.h"
 #include "plain.h"
 #include <stdio.h>
 #include <string.h>
 
-typedef struct {
-    const char *name;
-    aral_answer (*read)(const uint8_t *, size_t);
-    aral_text (*report)(const uint8_t *, size_t, uint8_t *, size_t);
-    aral_coefficient (*outside)(int64_t, int64_t, int64_t, int64_t, int64_t, int64_t, int64_t, int64_t, uint8_t);
-    aral_coefficient (*net)(int64_t, int64_t, int64_t, int64_t, int64_t, int64_t, int64_t, int64_t, uint8_t, int64_t);
-    aral_double (*panel)(int64_t);
-} calculator;
-
-static const calculator both[] = {{"library", aral_read, aral_report, aral_outside, aral_net, aral_panel},
-                                  {"plain", plain_read, plain_report, plain_outside, plain_net, plain_panel}};
+static const calculator both[] = {
+    {"library", aral_read, aral_report, aral_outside, aral_net, aral_panel, aral_open, aral_add, aral_replace,
+     aral_take_out, aral_show, aral_write},
+    {"plain", plain_read, plain_report, plain_outside, plain_net, plain_panel, plain_open, plain_add, plain_replace,
+     plain_take_out, plain_show, plain_write}};
 static int cases, failures;
 
-static void expect(const calculator *c, const char *what, int holds)
+void expect(const calculator *c, const char *what, int holds)
 {
     cases++;
     if (holds) return;
@@ -499,6 +494,7 @@ int main(void)
         check_greatest(&both[i], "V 1\n2\n", "P 1\n30000 1000\n", "E 0 30000 -100000 100000 0\n");
         check_greatest(&both[i], "V 1\n3\n", "P 1\n30000 1000\n", "E 0 30000 -100000 100000 0\n");
         check_doubles(&both[i]);
+        check_edits(&both[i]);
     }
     printf("%d worked cases on both calculators, %d failed\n", cases, failures);
     return failures != 0;

@@ -1,0 +1,28 @@
+/* The two calculators that the worked cases are tried on, and how a case is told (worked.c). */
+#ifndef WORKED_H
+#define WORKED_H
+
+#include "aralimogga.h"
+
+typedef struct {
+    const char *name;
+    aral_answer (*read)(const uint8_t *, size_t);
+    aral_text (*report)(const uint8_t *, size_t, uint8_t *, size_t);
+    aral_coefficient (*outside)(int64_t, int64_t, int64_t, int64_t, int64_t, int64_t, int64_t, int64_t, uint8_t);
+    aral_coefficient (*net)(int64_t, int64_t, int64_t, int64_t, int64_t, int64_t, int64_t, int64_t, uint8_t, int64_t);
+    aral_double (*panel)(int64_t);
+    aral_edited (*open)(const uint8_t *, size_t);
+    aral_edited (*add)(aral_worksheet, aral_face);
+    aral_edited (*replace)(aral_worksheet, int64_t, aral_face);
+    aral_edited (*take_out)(aral_worksheet, int64_t);
+    aral_text (*show)(aral_worksheet, uint8_t *, size_t);
+    aral_text (*write)(aral_worksheet, uint8_t *, size_t);
+} calculator;
+
+/* Counts the case, and says which does not hold. */
+void expect(const calculator *c, const char *what, int holds);
+
+/* The worked edits (worked_edits.c). */
+void check_edits(const calculator *c);
+
+#endif

@@ -1,0 +1,254 @@
+/* Worked edits, typed in by hand: sequences of them on worksheets of years 1 and 2, and refused worksheets. */
+#include "worked.h"
+#include <stdio.h>
+#include <string.h>
+
+enum { ADD, REPLACE, TAKE_OUT };
+
+/* An edit of face `face`, what it answers, how many faces there are then, and a line of what is then shown. */
+typedef struct {
+    const char *what;
+    int edit;
+    int64_t face;
+    aral_face new;
+    uint32_t number, line, faces;
+    const char *shown;
+} move;
+
+/* Year 1: the faces are on lines 9 to 11. A thousandth of a net coefficient times an area is 200,000,000 units. At the
+   internal coefficients 0.2 and -0.3 the nets are 500 and 1000 on A, -400 and 100 on B, -900 and -400 on E. */
+#define SAMPLE "B 1\n500 1200 1000 1250 2 0\nW 1\n0 400\nI 2\n20\n-30\n" \
+               "F 3\nA 0 1000 0 0\nB - -1000 0 0\nF 0 0 0 -2000\n"
+static const move first_year[] = {
+    {"no face 4 to take out", TAKE_OUT, 4, {0}, 9, 0, 3, NULL},
+    {"no face 0 to replace", REPLACE, 0, {'A', 0, 0, 1, 0, 0}, 9, 0, 3, NULL},
+    {"no face before the new face's faults", REPLACE, 4, {'I', 45, 0, 1, 0, 0}, 9, 0, 3, NULL},
+    {"no face of the least number", TAKE_OUT, INT64_MIN, {0}, 9, 0, 3, NULL},
+    {"no face 2^32 + 1", TAKE_OUT, 4294967297, {0}, 9, 0, 3, NULL},
+    {"A added: 2 x 1000 - 100 at -0.3", ADD, 0, {'A', 0, 0, 1000, 0, 0}, 0, 0, 4,
+     "x max 380000000000000 1 2 1 1 1 1\nx min 280000000000000 1 1 1 1 1 1\n"},
+    {"zone G added to a flat roof, on line 13", ADD, 0, {'G', 0, 0, 1000, 0, 0}, 6, 13, 4, NULL},
+    {"zone I added", ADD, 0, {'I', 0, 0, 1000, 0, 0}, 1, 13, 4, NULL},
+    {"zone 0 added", ADD, 0, {0, 0, 0, 1000, 0, 0}, 1, 13, 4, NULL},
+    {"mark 45 added, before its zone", ADD, 0, {'G', 45, 0, 1000, 0, 0}, 3, 13, 4, NULL},
+    {"mark 45 added in no form", ADD, 0, {'I', 45, 0, 1000, 0, 0}, 1, 13, 4, NULL},
+    {"mark -1 added", ADD, 0, {'A', -1, 0, 1000, 0, 0}, 3, 13, 4, NULL},
+    {"a mark one off that for all", ADD, 0, {'A', ARAL_BOTH + 1, 0, 1000, 0, 0}, 1, 13, 4, NULL},
+    {"an area out of range", ADD, 0, {'A', 0, 0, 0, 0, 100001}, 3, 13, 4, NULL},
+    {"an area of eight digits", ADD, 0, {'A', 0, 0, 0, -10000000, 0}, 1, 13, 4, NULL},
+    {"B for A: 2 x 400 + 500 at 0.2", REPLACE, 1, {'B', ARAL_BOTH, 0, -1000, 0, 0}, 0, 0, 4,
+     "x max 260000000000000 1 1 1 1 1 1\nx min 160000000000000 1 2 1 1 1 1\n"},
+    {"zone G for face 3, on line 11", REPLACE, 3, {'G', 0, 0, 1000, 0, 0}, 6, 11, 4, NULL},
+    {"zone H for the last face, on line 12", REPLACE, 4, {'H', 0, 0, 1000, 0, 0}, 6, 12, 4, NULL},
+    {"E for F, whose height year 1 has not", REPLACE, 3, {'E', 0, 12345678, 0, 0, -1000}, 0, 0, 4,
+     "z max 180000000000000 1 1 1 1 1 1\nz min 80000000000000 1 2 1 1 1 1\n"},
+    {"the first taken out: 400 + 500, and 1000 - 100", TAKE_OUT, 1, {0}, 0, 0, 3,
+     "x max 180000000000000 1 1 1 1 1\nx min 180000000000000 1 1 1 1 1\n"},
+    {"the last taken out", TAKE_OUT, 3, {0}, 0, 0, 2, "x max 80000000000000 1 1 1 1\nx min -20000000000000 1 2 1 1\n"},
+    {"the first of two taken out", TAKE_OUT, 1, {0}, 0, 0, 1, "x max 0 1 1 1\n"},
+    {"the only face stays", TAKE_OUT, 1, {0}, 2, 0, 1, NULL},
+    {"no face 2 before the only face", TAKE_OUT, 2, {0}, 9, 0, 1, NULL},
+    {"zone H for the only face, on line 9", REPLACE, 1, {'H', 0, 0, 0, 0, 0}, 6, 9, 1,
+     "z max 180000000000000 1 1 1\n"},
+};
+
+/* Year 2: the face is on line 13. A has 0.7; speeds are 320 at 0, 360 at 600 and 400 at 1200. */
+#define SLOPING "V 1\n2\nB 1\n500 1200 1000 1250 0 0\nW 1\n0 400\nI 1\n0\n" \
+                "P 2\n0 800\n1200 1000\nF 1\nA 0 600 1000 0 0\n"
+static const move second_year[] = {
+    {"one above the profile", ADD, 0, {'A', 0, 1201, 1000, 0, 0}, 8, 14, 1, "x max 113400000000000 1 1 1\n"},
+    {"its zone before its height", ADD, 0, {'E', 0, 1201, 1000, 0, 0}, 6, 14, 1, NULL},
+    {"its range before its zone", ADD, 0, {'E', 0, 30001, 1000, 0, 0}, 3, 14, 1, NULL},
+    {"its form before its range", ADD, 0, {'E', 0, 10000000, 100001, 0, 0}, 1, 14, 1, NULL},
+    {"a height below 0 for the face", REPLACE, 1, {'A', 0, -1, 1000, 0, 0}, 3, 13, 1, NULL},
+    {"the face at the top: speed 400", REPLACE, 1, {'A', 0, 1200, 1000, 0, 0}, 0, 0, 1,
+     "x max 140000000000000 1 1 1\n"},
+    {"one more at the bottom: speed 320", ADD, 0, {'A', 0, 0, 1000, 0, 0}, 0, 0, 2, "x max 229600000000000 1 1 1 1\n"},
+    {"the first taken out", TAKE_OUT, 1, {0}, 0, 0, 1, "x max 89600000000000 1 1 1\n"},
+};
+
+/* Full: 24 faces on lines 9 to 32. */
+static const move full[] = {
+    {"a face too many", ADD, 0, {'A', 0, 0, 1000, 0, 0}, 2, 0, 24, NULL},
+    {"a full worksheet before the new face's faults", ADD, 0, {'I', 45, 0, 1000, 0, 0}, 2, 0, 24, NULL},
+    {"a full worksheet can be changed", REPLACE, 24, {'A', 0, 0, 1000, 0, 0}, 0, 0, 24, NULL},
+    {"zone G for the last, on line 32", REPLACE, 24, {'G', 0, 0, 1000, 0, 0}, 6, 32, 24, NULL},
+    {"the last taken out", TAKE_OUT, 24, {0}, 0, 0, 23, NULL},
+    {"a bad face in its place, on line 32", ADD, 0, {'G', 0, 0, 1000, 0, 0}, 6, 32, 23, NULL},
+    {"a good one", ADD, 0, {'A', 0, 0, 1000, 0, 0}, 0, 0, 24, NULL},
+};
+
+static int zero_face(const aral_face *f)
+{
+    return !f->zone && !f->mark && !f->height && !f->x && !f->y && !f->z;
+}
+
+static aral_edited made(const calculator *c, const aral_worksheet *w, const move *m)
+{
+    if (m->edit == ADD) return c->add(*w, m->new);
+    return m->edit == REPLACE ? c->replace(*w, m->face, m->new) : c->take_out(*w, m->face);
+}
+
+static int shows(const calculator *c, const aral_worksheet *w, const char *line)
+{
+    char out[ARAL_REPORT_MOST + 1] = "";
+    aral_text t = c->show(*w, (uint8_t *)out, ARAL_REPORT_MOST);
+    return t.number == 0 && strstr(out, line);
+}
+
+static void check_moves(const calculator *c, aral_worksheet w, const move *m, size_t count)
+{
+    for (const move *end = m + count; m < end; m++) {
+        aral_edited e = made(c, &w, m);
+        uint32_t faces = e.worksheet.job.faces.count;
+        expect(c, m->what, e.number == m->number && e.line == m->line && faces == m->faces);
+        if (m->edit == TAKE_OUT && !e.number)
+            expect(c, "the vacated entry is zero", zero_face(&e.worksheet.job.faces.entry[faces]));
+        if (m->shown) expect(c, m->what, shows(c, &e.worksheet, m->shown));
+        w = e.worksheet;
+    }
+}
+
+static aral_worksheet opened(const calculator *c, const char *sheet)
+{
+    aral_edited e = c->open((const uint8_t *)sheet, strlen(sheet));
+    expect(c, "a sheet opened", e.number == 0 && e.line == 0);
+    return e.worksheet;
+}
+
+static void check_full(const calculator *c)
+{
+    char sheet[1000] = "B 1\n500 1200 1000 1250 2 0\nW 1\n0 400\nI 2\n20\n-30\nF 24\n";
+    for (int i = 0; i < 24; i++) strcat(sheet, "A 0 1000 0 0\n");
+    check_moves(c, opened(c, sheet), full, sizeof full / sizeof *full);
+}
+
+/* What is opened is what the sheet says, with zeros where it says nothing. */
+static void check_opened(const calculator *c)
+{
+    aral_worksheet w = opened(c, SAMPLE);
+    const aral_job *j = &w.job;
+    const aral_face *f = j->faces.entry;
+    expect(c, "the year and the building", j->year == 1 && j->building.h == 500 && j->building.a == 1200
+                                               && j->building.b == 1000 && j->building.density == 1250
+                                               && j->building.kind == 2 && j->building.x == 0);
+    expect(c, "the winds", j->winds.count == 1 && j->winds.entry[0].speed == 400 && j->winds.entry[1].speed == 0);
+    expect(c, "the internals", j->internals.count == 2 && j->internals.entry[1] == -30 && j->internals.entry[2] == 0);
+    expect(c, "no profile", j->profile.count == 0 && j->profile.entry[0].factor == 0);
+    expect(c, "face 2", f[1].zone == 'B' && f[1].mark == ARAL_BOTH && f[1].height == 0 && f[1].x == -1000);
+    expect(c, "three faces", j->faces.count == 3 && zero_face(&f[3]) && zero_face(&f[23]));
+    w = opened(c, SLOPING);
+    expect(c, "the profile", j->year == 2 && j->profile.count == 2 && j->profile.entry[1].factor == 1000);
+    expect(c, "a height", f[0].height == 600);
+    aral_edited e = c->open((const uint8_t *)"B 1\n500 ", 8);
+    expect(c, "a refused sheet opened is nothing", e.number == 1 && e.line == 2 && e.worksheet.job.year == 0
+                                                       && e.worksheet.job.building.h == 0);
+}
+
+/* Every call refuses the held job, before all else. */
+static void check_held(const calculator *c, const char *what, const aral_worksheet *w, uint32_t number, uint32_t line)
+{
+    static const aral_face good = {'A', 0, 0, 1000, 0, 0};
+    aral_edited e[] = {c->add(*w, good), c->replace(*w, 1, good), c->replace(*w, 0, good), c->take_out(*w, 1),
+                       c->take_out(*w, 25)};
+    for (int i = 0; i < 5; i++)
+        expect(c, what, e[i].number == number && e[i].line == line && e[i].worksheet.job.year == w->job.year
+                            && e[i].worksheet.job.faces.count == w->job.faces.count);
+    aral_text t[] = {c->show(*w, NULL, 0), c->write(*w, NULL, 0)};
+    for (int i = 0; i < 2; i++) expect(c, what, t[i].number == number && t[i].line == line && t[i].length == 0);
+}
+
+static void check_years(const calculator *c)
+{
+    static const struct { const char *what; int64_t year; uint32_t number; } years[] = {
+        {"a record of year 0", 0, 3}, {"a record of year 4", 4, 3}, {"a record of year -1", -1, 3},
+        {"a record of year 9999999", 9999999, 3}, {"a record of year 10000000", 10000000, 1},
+        {"a record of year 2^32 + 1", 4294967297, 1}};
+    for (size_t i = 0; i < sizeof years / sizeof *years; i++) {
+        aral_worksheet w = opened(c, SAMPLE);
+        w.job.year = years[i].year;
+        check_held(c, years[i].what, &w, years[i].number, 2);
+    }
+    aral_worksheet nothing = {.job = {.year = 0}};
+    check_held(c, "a record of zeros", &nothing, 3, 2);
+}
+
+static void check_counts(const calculator *c)
+{
+    static const uint32_t wrong[] = {0, 25, 10000000, UINT32_MAX};
+    for (int i = 0; i < 4; i++) {
+        aral_worksheet w = opened(c, SAMPLE);
+        w.job.faces.count = wrong[i];
+        check_held(c, "a count of faces", &w, 2, 8);
+        w.job.internals.count = wrong[i];
+        check_held(c, "a count of internal coefficients", &w, 2, 5);
+        w.job.winds.count = wrong[i];
+        check_held(c, "a count of winds", &w, 2, 3);
+        w = opened(c, SLOPING);
+        w.job.profile.count = wrong[i];
+        check_held(c, "a count of the profile", &w, 2, 9);
+    }
+}
+
+static void check_fields(const calculator *c)
+{
+    aral_worksheet w = opened(c, SAMPLE);
+    w.job.faces.entry[1].zone = 0;
+    check_held(c, "a zone that is no letter", &w, 1, 10);
+    w.job.faces.entry[1] = (aral_face){'G', 45, 0, 0, 0, 0};
+    check_held(c, "a mark before its zone", &w, 3, 10);
+    w.job.faces.entry[1].mark = 10000000;
+    check_held(c, "a mark that no sheet can carry", &w, 1, 10);
+    w.job.building.h = 10000000;
+    check_held(c, "the first line, of eight digits", &w, 1, 2);
+    w.job.building.h = 9999999;
+    check_held(c, "the first line, out of range", &w, 3, 2);
+    w = opened(c, SLOPING);
+    w.job.profile.entry[1].height = 0;
+    check_held(c, "a profile that does not rise", &w, 3, 11);
+    w.job.profile.entry[1].height = 599;
+    check_held(c, "a face above the profile", &w, 8, 13);
+}
+
+/* In year 1 the profile and the heights are not looked at, and an edit keeps them. */
+static void check_not_carried(const calculator *c)
+{
+    aral_worksheet w = opened(c, SAMPLE);
+    w.job.profile.count = UINT32_MAX;
+    w.job.profile.entry[3].factor = -7;
+    w.job.faces.entry[0].height = 10000000;
+    w.job.faces.entry[20].zone = 'z';
+    aral_edited e = c->add(w, (aral_face){'A', 0, 5, 1000, 0, 0});
+    const aral_job *j = &e.worksheet.job;
+    expect(c, "an accepted edit", e.number == 0 && e.line == 0);
+    expect(c, "a profile in year 1", j->profile.count == UINT32_MAX && j->profile.entry[3].factor == -7);
+    expect(c, "heights in year 1", j->faces.entry[0].height == 10000000 && j->faces.entry[3].height == 0);
+    expect(c, "an entry past the count", j->faces.entry[20].zone == 'z');
+    expect(c, "it is shown", shows(c, &e.worksheet, "x max 380000000000000 1 2 1 1 1 1\n"));
+}
+
+/* What is written is the sheet; one short of it is refused, and nothing is written. */
+static void check_written(const calculator *c)
+{
+    uint8_t out[200] = {0};
+    aral_worksheet w = opened(c, SAMPLE);
+    size_t length = strlen(SAMPLE);
+    aral_text t = c->write(w, out, length - 1);
+    expect(c, "no room for the sheet", t.number == 7 && t.line == 0 && t.length == 0 && out[0] == 0);
+    t = c->write(w, out, sizeof out);
+    expect(c, "the sheet written", t.number == 0 && t.length == length && !memcmp(out, SAMPLE, length));
+    expect(c, "nothing after the sheet", out[length] == 0);
+}
+
+void check_edits(const calculator *c)
+{
+    check_opened(c);
+    check_moves(c, opened(c, SAMPLE), first_year, sizeof first_year / sizeof *first_year);
+    check_moves(c, opened(c, SLOPING), second_year, sizeof second_year / sizeof *second_year);
+    check_full(c);
+    check_years(c);
+    check_counts(c);
+    check_fields(c);
+    check_not_carried(c);
+    check_written(c);
+}
