@@ -1,5 +1,6 @@
 /* aral: the calculator on the command line, for people. It links libaralimogga.a and reckons nothing itself. */
 #include "aralimogga.h"
+#include "edit.h"
 #include "rows.h"
 #include "words.h"
 #include <errno.h>
@@ -8,14 +9,14 @@
 #include <stdlib.h>
 #include <string.h>
 
-enum { ACCEPTED, REFUSED, MISUSED };
-
 static const char help[] =
     "aral: the forces of wind on a building, by the tables of ROM 0.4-95\n"
     "\n"
     "  aral totals FILE   the six worst totals: axis, max or min, total, wind, internal, each face's alternative\n"
     "  aral check FILE    whether the sheet is accepted, and if not, which line is wrong and what it may say\n"
     "  aral panel FILE    the six totals in newtons, and the doubles that a panel shows for them\n"
+    "  aral edit FILE     faces added, replaced and taken out line by line, with the six totals after each;\n"
+    "                     its `help` says how, and its lines may come through a pipe\n"
     "  aral ask WORDS     one coefficient and the printed rows that it comes from, as:\n"
     "                       aral ask h 500 a 1200 b 1000 kind 1 x 123 wind 0 zone E internal -30\n"
     "                       aral ask year 3 h 500 a 1000 b 1000 wind 0 zone B\n"
@@ -35,7 +36,9 @@ static const char help[] =
     "cm, each with its part of the speed in thousandths; and each face has a height in cm after its mark.\n"
     "One of year 3 opens with `V 1` and `3`, is written in the same way, and may have a square plan, a equal to b.\n"
     "\n"
-    "The exit status is 0, or 1 where the sheet or the question is refused, or 2 where the command is none of these.\n";
+    "The exit status is 0, or 1 where the sheet or the question is refused, or 2 where the command is none of these.\n"
+    "That of `edit` is the worst of its lines: 1 where an edit was refused or a file could not be written, 2 where a\n"
+    "line was none of its own.\n";
 
 /* ---- Sheets ---- */
 
@@ -80,6 +83,8 @@ static int check(void)
     describe(sheet, length);
     return ACCEPTED;
 }
+
+static int edit_sheet(void) { return edit(sheet, length); }
 
 /* A total in newtons to three decimals, the rest cut off. */
 static void print_newtons(int64_t total)
@@ -275,13 +280,15 @@ static int ask(int count, char **word)
 int main(int argc, char **argv)
 {
     static const struct { const char *name; int (*run)(void); } command[] = {
-        {"totals", totals}, {"check", check}, {"panel", panel}};
+        {"totals", totals}, {"check", check}, {"panel", panel}, {"edit", edit_sheet}};
     if (argc == 2 && (!strcmp(argv[1], "help") || !strcmp(argv[1], "--help"))) {
         fputs(help, stdout);
         return ACCEPTED;
     }
     if (argc >= 2 && !strcmp(argv[1], "ask")) return ask(argc - 2, argv + 2);
-    for (int i = 0; argc == 3 && i < 3; i++)
+    if (argc == 3 && !strcmp(argv[1], "edit") && !strcmp(argv[2], "-"))
+        return misused("standard input has the lines of the dialogue, and the sheet can't be", "-");
+    for (int i = 0; argc == 3 && i < 4; i++)
         if (!strcmp(argv[1], command[i].name)) return load(argv[2]) ? command[i].run() : MISUSED;
     fputs(help, stderr);
     return MISUSED;
