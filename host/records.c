@@ -90,7 +90,12 @@ void spoil_face(dice *d, aral_face *f)
 static void spoil_building(dice *d, aral_building *g)
 {
     int64_t *const number[] = {&g->h, &g->a, &g->b, &g->density, &g->kind, &g->x};
-    spoil_number(d, number[pick(d, 0, 5)]);
+    switch (pick(d, 0, 3)) {
+    case 0: g->a = g->b + pick(d, -1, 1); break;
+    case 1: g->a = 4 * g->b + pick(d, 0, 1); break;
+    case 2: g->x = pick(d, 0, 1000); break;
+    default: spoil_number(d, number[pick(d, 0, 5)]); break;
+    }
 }
 
 void spoil_record(dice *d, aral_worksheet *w)
@@ -98,16 +103,17 @@ void spoil_record(dice *d, aral_worksheet *w)
     aral_job *j = &w->job;
     aral_wind *wind = &j->winds.entry[pick(d, 0, 7)];
     aral_step *step = &j->profile.entry[pick(d, 0, 15)];
-    switch (pick(d, 0, 11)) {
+    switch (pick(d, 0, 12)) {
     case 0: j->year = pick(d, 0, 1) ? pick(d, -1, 5) : edge_of(d, j->year); break;
-    case 1: spoil_building(d, &j->building); break;
-    case 2: j->winds.count = wild_count(d, 8); break;
-    case 3: j->internals.count = wild_count(d, 4); break;
-    case 4: j->profile.count = wild_count(d, 16); break;
-    case 5: j->faces.count = wild_count(d, 24); break;
-    case 6: spoil_number(d, pick(d, 0, 1) ? &wind->direction : &wind->speed); break;
-    case 7: spoil_number(d, &j->internals.entry[pick(d, 0, 3)]); break;
-    case 8: spoil_number(d, pick(d, 0, 1) ? &step->height : &step->factor); break;
+    case 1:
+    case 2: spoil_building(d, &j->building); break;
+    case 3: j->winds.count = wild_count(d, 8); break;
+    case 4: j->internals.count = wild_count(d, 4); break;
+    case 5: j->profile.count = wild_count(d, 16); break;
+    case 6: j->faces.count = wild_count(d, 24); break;
+    case 7: spoil_number(d, pick(d, 0, 1) ? &wind->direction : &wind->speed); break;
+    case 8: spoil_number(d, &j->internals.entry[pick(d, 0, 3)]); break;
+    case 9: spoil_number(d, pick(d, 0, 1) ? &step->height : &step->factor); break;
     default: spoil_face(d, &j->faces.entry[pick(d, 0, used(j->faces.count ? j->faces.count : 1, 24) - 1)]); break;
     }
 }

@@ -193,7 +193,7 @@ aral_edited aral_take_out(aral_worksheet w, int64_t face);
 
 /* Write the report of the held job, as aral_report does of its sheet, and its sheet.
    Refuse the held job as its sheet would be; then with 7, line 0, where the text is longer than `room`. The buffer as
-   for aral_rewrite. */
+   for aral_rewrite. No report is longer than ARAL_REPORT_MOST bytes, and no sheet than ARAL_SHEET_MOST. */
 aral_text aral_show(aral_worksheet w, uint8_t *out, size_t room);
 aral_text aral_write(aral_worksheet w, uint8_t *out, size_t room);
 
