@@ -69,8 +69,8 @@ module _ (j : Job) where
       then-later (onlyFace j) w
       (by-test (ltb 1 (j .faces .count)) (λ t. rw t) (λ t. absurd (h (ltb-false 1 (j .faces .count) t))))
 
-  own : {k n : ℕ} (f : Face) → n ≡ faceFault j f → 0 < n → (newFace k f j orThen accepted) ≡ refusal n (faceLine (carried j) k)
-  own {k} {n} f e h =
+  own : (k n : ℕ) (f : Face) → n ≡ faceFault j f → 0 < n → (newFace k f j orThen accepted) ≡ refusal n (faceLine (carried j) k)
+  own k n f e h =
       then-earlier (newFace k f j) accepted (λ z. absurd (omega (arith, e)))
       ∙ ap (λ m. refusal m (faceLine (carried j) k)) (sym e)
 
@@ -92,10 +92,13 @@ module _ (j : Job) where
   fault-is (Add f) (full-or-only g n h) = past-held g _ ∙ ap (λ u. u orThen newFace (j .faces .count + 1) f j orThen accepted) (is-full h)
   fault-is (Replace k f) (full-or-only g n h) = absurd h
   fault-is (TakeOut k) (full-or-only g n h) = past-held g _ ∙ past-there k n _ ∙ ap (λ u. u orThen accepted) (is-only h)
-  fault-is (Add f) (new-face g n h (p, q) s) = past-held g _ ∙ past-full h _ ∙ own f q s ∙ ap (λ k. refusal _ (faceLine (carried j) k)) (sym p)
-  fault-is (Replace i f) (new-face {k} g n h (p, q) s) =
-      past-held g _ ∙ past-there i n _ ∙ own f q s ∙ ap (λ m. refusal _ (faceLine (carried j) (natAbs m))) (sym p)
-  fault-is (TakeOut i) (new-face g n h p s) = absurd p
+  fault-is (Add f) (new-face k m g n h (p, q) s) =
+      past-held g _ ∙ past-full h _ ∙ own (j .faces .count + 1) m f q s
+      ∙ ap (λ i. refusal m (faceLine (carried j) i)) (sym p)
+  fault-is (Replace i f) (new-face k m g n h (p, q) s) =
+      past-held g _ ∙ past-there i n _ ∙ own (natAbs i) m f q s
+      ∙ ap (λ z. refusal m (faceLine (carried j) (natAbs z))) (sym p)
+  fault-is (TakeOut i) (new-face k m g n h p s) = absurd p
 
   -- ---- where it is refused, it has such a fault
 
@@ -110,8 +113,8 @@ module _ (j : Job) where
       (λ t. some (not-beyond (pos 1) (pos (j .faces .count)) k t) (range.within 1 (j .faces .count) k t .plain))
 
   by-count : {P : Type 0} (m n : ℕ) → (n ≤ m → P) → ((n ≤ m → ⊥) → P) → P
-  by-count m n yes no =
-      by-test (ltb m n) (λ t. no (λ h. absurd (omega (arith, ltb-true m n t)))) (λ t. yes (ltb-false m n t))
+  by-count m n most more =
+      by-test (ltb m n) (λ t. more (λ h. absurd (omega (arith, ltb-true m n t)))) (λ t. most (ltb-false m n t))
 
   by-fault : {P : Type 0} (f : Face) → (faceFault j f ≡ 0 → P) → (0 < faceFault j f → P) → P
   by-fault f none some =
@@ -125,12 +128,12 @@ module _ (j : Job) where
       by-count (j .faces .count) 24 (λ h. as-fault (Add f) (full-or-only g (λ x. x) h))
       (λ h. by-fault f
       (λ z. absurd (r (ap (λ v. v .number) (past-held g _ ∙ past-full h _ ∙ then-later (newFace _ f j) accepted z))))
-      (λ s. as-fault (Add f) (new-face g (λ x. x) h (refl, refl) s)))
+      (λ s. as-fault (Add f) (new-face (j .faces .count + 1) (faceFault j f) g (λ x. x) h (refl, refl) s)))
   behind (Replace k f) g r =
       by-number k (λ h. as-fault (Replace k f) (no-such-face g h))
       (λ t plain. by-fault f
       (λ z. absurd (r (ap (λ v. v .number) (past-held g _ ∙ past-there k (λ n. n t) _ ∙ then-later (newFace _ f j) accepted z))))
-      (λ s. as-fault (Replace k f) (new-face g (λ n. n t) (λ x. x) (plain, refl) s)))
+      (λ s. as-fault (Replace k f) (new-face (natAbs k) (faceFault j f) g (λ n. n t) (λ x. x) (plain, refl) s)))
   behind (TakeOut k) g r =
       by-number k (λ h. as-fault (TakeOut k) (no-such-face g h))
       (λ t plain. by-count 1 (j .faces .count) (λ h. as-fault (TakeOut k) (full-or-only g (λ n. n t) h))

@@ -107,7 +107,7 @@ at-start : {text before after : List ℕ} {w : Writing} {n : ℕ} → Written te
     → hostText w ≡ hostText (written.Length n) → take n after ≡ text
 at-start {text} {before} (put h e) q =
     ap₂ take (sym (ap (λ x. x .length) q)) e ∙ take-append-seam text (drop (length text) before)
-at-start (longer h e) q = let seven : 7 ≡ 0 = ap (λ x. x .verdict .number) q in absurd (omega arith)
+at-start (longer h e) q = let seven : _≡_ {A = ℕ} 7 0 = ap (λ x. x .verdict .number) q in absurd (omega arith)
 
 -- what was written, read again
 read-afresh : (v : Worksheet) (d : Carried) → judged (v .job) ≡ Accepted d → (buf : List ℕ) {after s : List ℕ} {r : Text}

@@ -51,5 +51,5 @@ module _ (j : Job) where
     held-job : {v : Verdict} → Faulty (linesOf (carried j)) v → EditFault e v
     no-such-face : Faultless (linesOf (carried j)) → NoSuchFace e → EditFault e (refusal 9 0)
     full-or-only : Faultless (linesOf (carried j)) → (NoSuchFace e → ⊥) → FullOrOnly e → EditFault e (refusal 2 0)
-    new-face : {k n : ℕ} → Faultless (linesOf (carried j)) → (NoSuchFace e → ⊥) → (FullOrOnly e → ⊥)
+    new-face : (k n : ℕ) → Faultless (linesOf (carried j)) → (NoSuchFace e → ⊥) → (FullOrOnly e → ⊥)
         → NewFace e k n → 0 < n → EditFault e (refusal n (faceLine (carried j) k))
