@@ -161,7 +161,8 @@ pub extern "C" fn aral_net(
     internal: i64,
 ) -> answers::Coefficient
     ensures { λ r. ⌜ r ≡ hostCoefficient
-        (netOf year (record { h = h; a = a; b = b; density = density; kind = kind; x = x }) direction place internal) ⌝ }
+        (netOf year (record { h = h; a = a; b = b; density = density; kind = kind; x = x }) direction place
+        internal) ⌝ }
 {
     let building = Building {
         h: h,

@@ -168,7 +168,8 @@ module _ (year : ℤ) (g : Building) (direction : ℤ) (place : ℕ) where
       (λ f. rw (bad-direction year g direction place e f) (omega arith))
 
   -- any answer: no alternative is above 2.500
-  small-answer : (q : Question) → FitIn year g direction place q → Small (valuesOf (answerTo q (natAbs direction) place))
+  small-answer : (q : Question) → FitIn year g direction place q
+      → Small (valuesOf (answerTo q (natAbs direction) place))
   small-answer (asked.Of s) f =
       let o = f .order in
       small-of

@@ -69,7 +69,8 @@ module _ (s : Sizes) (o : SizesInOrder s) (wind place : ℕ) where
 module _ (year : ℤ) (g : Building) (direction : ℤ) (place : ℕ) where
   pub outside-is : InYear year g → knows (g .kind) direction ≡ true
       → placeOn (g .kind) direction place ≡ true
-      → (c : Cited) × (outsideOf year g direction place ≡ Answered c) × IsCoefficient (sizes g) (natAbs direction) place c
+      → (c : Cited) × (outsideOf year g direction place ≡ Answered c)
+      × IsCoefficient (sizes g) (natAbs direction) place c
   outside-is good known on = (
     coefficientOf (sizes g) (natAbs direction) place,
     answered year g direction place good known on,

@@ -41,7 +41,8 @@ module _ (y z : ℤ) (g : Building) (direction : ℤ) (place : ℕ) where
       (λ e f.
       let n = given-apart y z g h in
       lines (givenFault y g) (rw (bad-building y g direction place p f))
-      (rw (bad-building z g direction place q (λ k. f (n ∙ k))) (ap (λ m. Refused (refusal m (buildingLine z))) (sym n))))
+      (rw (bad-building z g direction place q (λ k. f (n ∙ k)))
+      (ap (λ m. Refused (refusal m (buildingLine z))) (sym n))))
       (λ e. same (readings-agree e (record { is = q; none = sym (fault-apart y z g h) ∙ e .none })))
     where
       clash : isYear y ≡ false → ⊥

@@ -110,12 +110,18 @@ answers-are-the-books =
       net = λ κ a r s p.
           rw p (question.net-got (a .0 .year) (a .0 .building) (a .1 .0) (a .1 .1 .0) (a .1 .1 .1 .0));
       aral-outside = λ κ a r s p.
+          let y = yearIn a in
           let g = buildingIn a in
-          (outsideOf (yearIn a) g (directionIn a) (placeIn a), question.outside-got (yearIn a) g (directionIn a) (placeIn a), p);
+          let d = directionIn a in
+          let l = placeIn a in
+          (outsideOf y g d l, question.outside-got y g d l, p);
       aral-net = λ κ a r s p.
+          let y = yearIn a in
           let g = buildingIn a in
+          let d = directionIn a in
+          let l = placeIn a in
           let i = restIn a .0 in
-          (netOf (yearIn a) g (directionIn a) (placeIn a) i, question.net-got (yearIn a) g (directionIn a) (placeIn a) i, p);
+          (netOf y g d l i, question.net-got y g d l i, p);
     }
 
 pub answers-are-one : AnswersAreOne

@@ -19,11 +19,12 @@ use Rattle.job.specs.declared.Job.{Job}
 use Rattle.job.specs.Carried.{carried}
 use Rattle.job.specs.Lines.{linesOf, faceLine}
 use Rattle.job.specs.Walk.{verdict}
-use Rattle.worksheet.specs.Edits.{Edit, Add, Replace, TakeOut, heldJob, noSuchFace, full, onlyFace, newFace, editVerdict}
-use Rattle.worksheet.proofs.Refused.{verdict-accepted}
+use Rattle.worksheet.specs.Edits.{Edit, Add, Replace, TakeOut, heldJob, noSuchFace, full, onlyFace, newFace}
+use Rattle.worksheet.specs.Edits.{editVerdict}
+use Rattle.worksheet.proofs.Checks.{verdict-accepted}
 use Rattle.claims.specs.Fault.{Faulty, at, Faultless}
-use Rattle.claims.specs.Edit.{There, NoSuchFace, FullOrOnly, NewFace, faceFault, EditFault, held-job, no-such-face}
-use Rattle.claims.specs.Edit.{full-or-only, new-face}
+use Rattle.claims.specs.Edit.{There, NoSuchFace, FullOrOnly, NewFace, faceFault, EditFault, held-job}
+use Rattle.claims.specs.Edit.{no-such-face, full-or-only, new-face}
 use Rattle.claims.proofs.Fault as fault
 use Rattle.claims.proofs.Question.{clash}
 
@@ -69,7 +70,8 @@ module _ (j : Job) where
       then-later (onlyFace j) w
       (by-test (ltb 1 (j .faces .count)) (λ t. rw t) (λ t. absurd (h (ltb-false 1 (j .faces .count) t))))
 
-  own : (k n : ℕ) (f : Face) → n ≡ faceFault j f → 0 < n → (newFace k f j orThen accepted) ≡ refusal n (faceLine (carried j) k)
+  own : (k n : ℕ) (f : Face) → n ≡ faceFault j f → 0 < n
+      → (newFace k f j orThen accepted) ≡ refusal n (faceLine (carried j) k)
   own k n f e h =
       then-earlier (newFace k f j) accepted (λ z. absurd (omega (arith, e)))
       ∙ ap (λ m. refusal m (faceLine (carried j) k)) (sym e)
@@ -87,9 +89,11 @@ module _ (j : Job) where
   fault-is (Replace k f) (held-job h) = held-first h _
   fault-is (TakeOut k) (held-job h) = held-first h _
   fault-is (Add f) (no-such-face g h) = absurd h
-  fault-is (Replace k f) (no-such-face g h) = past-held g _ ∙ ap (λ u. u orThen newFace (natAbs k) f j orThen accepted) (missing k h)
+  fault-is (Replace k f) (no-such-face g h) =
+      past-held g _ ∙ ap (λ u. u orThen newFace (natAbs k) f j orThen accepted) (missing k h)
   fault-is (TakeOut k) (no-such-face g h) = past-held g _ ∙ ap (λ u. u orThen onlyFace j orThen accepted) (missing k h)
-  fault-is (Add f) (full-or-only g n h) = past-held g _ ∙ ap (λ u. u orThen newFace (j .faces .count + 1) f j orThen accepted) (is-full h)
+  fault-is (Add f) (full-or-only g n h) =
+      past-held g _ ∙ ap (λ u. u orThen newFace (j .faces .count + 1) f j orThen accepted) (is-full h)
   fault-is (Replace k f) (full-or-only g n h) = absurd h
   fault-is (TakeOut k) (full-or-only g n h) = past-held g _ ∙ past-there k n _ ∙ ap (λ u. u orThen accepted) (is-only h)
   fault-is (Add f) (new-face k m g n h (p, q) s) =
@@ -132,7 +136,9 @@ module _ (j : Job) where
   behind (Replace k f) g r =
       by-number k (λ h. as-fault (Replace k f) (no-such-face g h))
       (λ t plain. by-fault f
-      (λ z. absurd (r (ap (λ v. v .number) (past-held g _ ∙ past-there k (λ n. n t) _ ∙ then-later (newFace _ f j) accepted z))))
+      (λ z.
+      let none = past-held g _ ∙ past-there k (λ n. n t) _ ∙ then-later (newFace _ f j) accepted z in
+      absurd (r (ap (λ v. v .number) none)))
       (λ s. as-fault (Replace k f) (new-face (natAbs k) (faceFault j f) g (λ n. n t) (λ x. x) (plain, refl) s)))
   behind (TakeOut k) g r =
       by-number k (λ h. as-fault (TakeOut k) (no-such-face g h))

@@ -2,16 +2,18 @@
 use mathlib.Core.Path.{_≡_, refl, sym, ap, ap₂, _∙_, subst}
 use mathlib.Core.Logic.{_⊎_, ⊎-elim}
 use mathlib.Core.List.{List}
-use Prim.Native.Nat.{ℕ}
+use Prim.Native.Nat.{ℕ, _+_, _≤_, _<_}
 use denote.Ref.{now}
 use native.Mathlib.Omega.{arith}
+use lib.IntN.{pos, natAbs}
 use lib.ListN.{length, take, drop}
 use lib.Seq.{take-append-seam}
 use Rattle.verdict.specs.declared.Verdict.{Verdict}
-use Rattle.verdict.specs.Verdict.{accepted, Refuses}
+use Rattle.verdict.specs.Verdict.{accepted, refusal, Refuses}
 use Rattle.job.specs.declared.Job.{Job}
 use Rattle.job.specs.Carried.{Carried, carried}
-use Rattle.job.specs.Walk.{Reading, Accepted, judged}
+use Rattle.job.specs.Lines.{linesOf, faceLine}
+use Rattle.job.specs.Walk.{Reading, Accepted, Refused, judged}
 use Rattle.page.specs.declared.Writing.{Writing}
 use Rattle.page.specs.declared.Writing.the-variants as written
 use Rattle.job.proofs.RoundTrip.{judged-carried}
@@ -22,12 +24,18 @@ use Rattle.answers.specs.declared.Text.{Text}
 use Rattle.answers.specs.Answers.{hostText}
 use Rattle.worksheet.specs.declared.Worksheet.{Worksheet}
 use Rattle.worksheet.specs.declared.Edited.{Edited}
-use Rattle.worksheet.specs.Edits.{Edit, Add, Replace, TakeOut, edited}
+use Rattle.building.proofs.Accepted as range
+use Rattle.building.proofs.Ranges.{is-within}
+use Rattle.worksheet.specs.Edits.{Edit, Add, Replace, TakeOut, editFaces, jobWith, edited}
 use Rattle.worksheet.proofs.Accepted.{edited-stays, refused-stays}
+use Rattle.worksheet.proofs.NewFace.{add-refused, replace-refused}
 use Rattle.claims.specs.Contract.{Always}
-use Rattle.claims.specs.Edit.{EditFault}
+use Rattle.claims.specs.Fault.{Faultless}
+use Rattle.claims.specs.Edit.{There, faceFault, EditFault, new-face}
 use Rattle.claims.specs.Written.{Written, put, longer}
 use Rattle.claims.proofs.Contracts as of
+use Rattle.claims.proofs.Accepted.{job-in-order}
+use Rattle.claims.proofs.Fault as fault
 use Rattle.claims.proofs.Edit as edit
 use Rattle.claims.proofs.Again as again
 
@@ -82,6 +90,16 @@ pub record EditsGetFirstFault : Type 0 where
       (λ κ a r s. FirstOfFaults (a .0 .job) (Replace (a .1 .0) (a .1 .1 .0)) (r .verdict))
   pub take-out : Always of.aral-take-out.Post (λ κ a r s. FirstOfFaults (a .0 .job) (TakeOut (a .1 .0)) (r .verdict))
 
+-- "as in 01, with the line it would have in the sheet": where a new face is at fault, the sheet with it in its place
+-- would be refused with the same number and line
+pub record NewFaceAsInSheet : Type 0 where
+  pub add : Always of.aral-add.Post (λ κ a r s. let j = a .0 .job in
+      Faultless (linesOf (carried j)) → j .faces .count < 24 → (faceFault j (a .1 .0) ≡ 0 → ⊥)
+      → judged (jobWith (editFaces (Add (a .1 .0)) j) j) ≡ Refused (r .verdict))
+  pub replace : Always of.aral-replace.Post (λ κ a r s. let j = a .0 .job in
+      Faultless (linesOf (carried j)) → There j (a .1 .0) → (faceFault j (a .1 .1 .0) ≡ 0 → ⊥)
+      → judged (jobWith (editFaces (Replace (a .1 .0) (a .1 .1 .0)) j) j) ≡ Refused (r .verdict))
+
 -- ---- the proofs
 
 -- a call whose contract is that of an edit
@@ -110,8 +128,8 @@ at-start {text} {before} (put h e) q =
 at-start (longer h e) q = let seven : _≡_ {A = ℕ} 7 0 = ap (λ x. x .verdict .number) q in absurd (omega arith)
 
 -- what was written, read again
-read-afresh : (v : Worksheet) (d : Carried) → judged (v .job) ≡ Accepted d → (buf : List ℕ) {after s : List ℕ} {r : Text}
-    {n : ℕ} → r ≡ hostText (jobWriting sheetText (judged (v .job)) buf)
+read-afresh : (v : Worksheet) (d : Carried) → judged (v .job) ≡ Accepted d
+    → (buf : List ℕ) {after s : List ℕ} {r : Text} {n : ℕ} → r ≡ hostText (jobWriting sheetText (judged (v .job)) buf)
     → after ≡ jobBuffer sheetText (judged (v .job)) buf → r ≡ hostText (written.Length n) → s ≡ take n after
     → reading s ≡ judged (v .job)
 read-afresh v d a buf p q e same =
@@ -158,4 +176,33 @@ refused-is-same =
       add = λ κ a r s p h. refused-by (Add (a .1 .0)) (a .0) p h;
       replace = λ κ a r s p h. refused-by (Replace (a .1 .0) (a .1 .1 .0)) (a .0) p h;
       take-out = λ κ a r s p h. refused-by (TakeOut (a .1 .0)) (a .0) p h;
+    }
+
+-- the verdict of an edit whose new face is at fault
+new-verdict : (e : Edit) (w : Worksheet) {r : Edited} {v : Verdict} → r ≡ edited e w → EditFault (w .job) e v
+    → r .verdict ≡ v
+new-verdict e w p f = first-of e w p .0 _ f
+
+pub new-face-as-in-sheet : NewFaceAsInSheet
+new-face-as-in-sheet =
+    record {
+      add = λ κ a r s p g room z.
+          let j = a .0 .job in
+          let f = a .1 .0 in
+          let k = j .faces .count + 1 in
+          let o = job-in-order j (carried j) (fault.job-faultless j g) in
+          let free : 24 ≤ j .faces .count → ⊥ = λ x. absurd (omega arith) in
+          let at : EditFault j (Add f) (refusal (faceFault j f) (faceLine (carried j) k)) =
+          new-face k (faceFault j f) g (λ x. x) free (refl, refl) (omega arith) in
+          add-refused j o f room z ∙ ap Refused (sym (new-verdict (Add f) (a .0) p at));
+      replace = λ κ a r s p g there z.
+          let j = a .0 .job in
+          let i = a .1 .0 in
+          let f = a .1 .1 .0 in
+          let o = job-in-order j (carried j) (fault.job-faultless j g) in
+          let n = j .faces .count in
+          let w = range.within 1 n i (is-within (pos 1) (pos n) i (there .0) (there .1)) in
+          let at : EditFault j (Replace i f) (refusal (faceFault j f) (faceLine (carried j) (natAbs i))) =
+          new-face (natAbs i) (faceFault j f) g (λ n. n there) (λ x. x) (w .plain, refl) (omega arith) in
+          replace-refused j o i f w z ∙ ap Refused (sym (new-verdict (Replace i f) (a .0) p at));
     }

@@ -145,7 +145,9 @@ module _ (g : Building) (ranged : outOfRange g ≡ false) (square : g .a ≡ g .
 
   refused : (year : ℤ) → hasSquares year ≡ false → buildingFault year g ≡ 4
   unfolding buildingFault outOfWalls
-  refused year y = rw (ranged, y, not-over) (before-it (not (leb (1 * natAbs (g .h)) (6 * side))) (not (leb (1 * natAbs (g .a)) (4 * side))) _)
+  refused year y =
+      rw (ranged, y, not-over)
+      (before-it (not (leb (1 * natAbs (g .h)) (6 * side))) (not (leb (1 * natAbs (g .a)) (4 * side))) _)
 
   taken : natAbs (g .h) ≤ 6 * side → outOfRoof (sizes g) ≡ false → buildingFault (pos 3) g ≡ 0
   unfolding buildingFault outOfWalls

@@ -31,7 +31,8 @@ use Rattle.claims.proofs.Question.{clash, faultless, answered-so}
 -- terms; on a row itself .. both are that row and the fraction is 0 over 1."
 abbrev pub AnswersCiteRows : Type 0
 AnswersCiteRows = Always of.outside.Post (λ κ a r s. (c : Cited) → r ≡ Answered c → wallPlace (a .1 .1 .0) ≡ false
-    → let b = sizes (a .0 .building) in (w : Way) × LiesAt (partOf b) (b .along) (b .across) w × (c ≡ cites (c .values) w))
+    → let b = sizes (a .0 .building) in
+    (w : Way) × LiesAt (partOf b) (b .along) (b .across) w × (c ≡ cites (c .values) w))
 
 -- "or where the table has nothing to interpolate": on a wall, the row that its building has
 abbrev pub WallsCiteTheirRow : Type 0
@@ -67,7 +68,8 @@ walls-cite-their-row κ a r s p c e =
     let i = answered-so (a .0 .year) (a .0 .building) (a .1 .0) (a .1 .1 .0) (sym p ∙ e) .1 in
     on-wall (sizes (a .0 .building)) (natAbs (a .1 .0)) (a .1 .1 .0) i
 
-again : (year : ℤ) (g : Building) (direction : ℤ) (place : ℕ) {c : Cited} → outsideOf year g direction place ≡ Answered c
+again : (year : ℤ) (g : Building) (direction : ℤ) (place : ℕ) {c : Cited}
+    → outsideOf year g direction place ≡ Answered c
     → ByHand (tableFor (sizes g) place) (columnFor (sizes g) (natAbs direction) place) c
 again year g direction place h =
     let answered = answered-so year g direction place h in

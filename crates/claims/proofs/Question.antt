@@ -31,8 +31,9 @@ use Rattle.book.specs.Question.{outsideOf, net, minus, netCited, tooGreat, netO
 use Rattle.book.proofs.Coefficients.{coefficient-unique, outside-is}
 use Rattle.claims.specs.Question.{Judged, not-asked, asked-of}
 use Rattle.job.specs.Carried.{nothing, withYear, before}
-use Rattle.claims.specs.Question.{InSheet, Refusal, bad-year, bad-building, bad-direction, bad-place, InQuestion, Outside, refused}
-use Rattle.claims.specs.Question.{answered, SameRows, Net, as-outside, bad-internal, less-internal, sheetFault}
+use Rattle.claims.specs.Question.{InSheet, Refusal, bad-year, bad-building, bad-direction, bad-place, InQuestion}
+use Rattle.claims.specs.Question.{Outside, refused, answered, SameRows, Net, as-outside, bad-internal}
+use Rattle.claims.specs.Question.{less-internal, sheetFault}
 
 -- no test both holds and fails
 pub clash : {A : Type 0} {t : Bool} → t ≡ true → t ≡ false → A
@@ -154,11 +155,13 @@ module _ (year : ℤ) (g : Building) (direction : ℤ) (place : ℕ) where
       (λ q d e i. let same : d ≡ c = cc in (q, subst (IsCoefficient (sizes g) (natAbs direction) place) same i))
 
   -- the coefficient of a question in order is one
-  coefficient-one : {c d : Cited} → InQuestion year g direction place → IsCoefficient (sizes g) (natAbs direction) place c
+  coefficient-one : {c d : Cited} → InQuestion year g direction place
+      → IsCoefficient (sizes g) (natAbs direction) place c
       → IsCoefficient (sizes g) (natAbs direction) place d → c ≡ d
   coefficient-one q = coefficient-unique (sizes g) (in-order year g (faultless q .none)) (natAbs direction) place
 
-  pub outside-unique : {r r′ : book.Answer} → Outside year g direction place r → Outside year g direction place r′ → r ≡ r′
+  pub outside-unique : {r r′ : book.Answer} → Outside year g direction place r → Outside year g direction place r′
+      → r ≡ r′
   outside-unique (refused f) (refused h) = ap Refused (refusal-unique f h)
   outside-unique (refused f) (answered q i) = not-both f q
   outside-unique (answered q i) (refused f) = not-both f q
@@ -178,8 +181,8 @@ module _ (year : ℤ) (g : Building) (direction : ℤ) (place : ℕ) where
         record { lower = refl; upper = refl; part = refl; whole = refl } in
         rw (e, t) (less-internal q t i (minus-values internal (c .values)) same)))
 
-    pub net-unique : {r r′ : book.Answer} → Net year g direction place internal r → Net year g direction place internal r′
-        → r ≡ r′
+    pub net-unique : {r r′ : book.Answer} → Net year g direction place internal r
+        → Net year g direction place internal r′ → r ≡ r′
     net-unique (as-outside f) (as-outside h) = ap Refused (refusal-unique f h)
     net-unique (as-outside f) (bad-internal q e) = not-both f q
     net-unique (as-outside f) (less-internal q e o v r) = not-both f q

@@ -171,7 +171,8 @@ at-one-factor : (c : Carried) → InOrder c → OneSpeed c → AtOneFactor c
 at-one-factor c o =
     ⊎-elim
     (λ e.
-    ⊎-elim (λ y. first-year c o (y .profile)) (λ y. absurd (true≢false (sym (later-heights (c .year) (y .year)) ∙ ap hasHeights e))) (o .form))
+    ⊎-elim (λ y. first-year c o (y .profile))
+    (λ y. absurd (true≢false (sym (later-heights (c .year) (y .year)) ∙ ap hasHeights e))) (o .form))
     (λ s. one-height c o (s .0) (s .1))
 
 -- each wind has its faster one in its own place

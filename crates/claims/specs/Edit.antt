@@ -10,7 +10,7 @@ use Rattle.entry.specs.declared.Face.{Face}
 use Rattle.entry_written.specs.Fields.{faceFields}
 use Rattle.rules.specs.declared.Section.the-variants.{F}
 use Rattle.rules.specs.declared.Kind.the-variants.{Entry}
-use Rattle.rules.specs.Sections.{lineFault}
+use Rattle.rules.specs.Sections.{about, lineFault}
 use Rattle.job.specs.declared.Job.{Job}
 use Rattle.job.specs.Carried.{before, carried}
 use Rattle.job.specs.Lines.{linesOf, faceLine}
@@ -32,7 +32,7 @@ module _ (j : Job) where
 
   -- "a full worksheet on add, or taking out the only face"
   abbrev pub FullOrOnly : Edit → Type 0
-  FullOrOnly (Add f) = 24 ≤ faces
+  FullOrOnly (Add f) = about F .most ≤ faces
   FullOrOnly (Replace k f) = ⊥
   FullOrOnly (TakeOut k) = faces ≤ 1
 

@@ -98,7 +98,8 @@ building-given g b =
       number-form (g .x),
     ))
     (λ e.
-    ap (λ (h : Building). first (faults (b .year) h)) (building-back g (in-formed (numberForms 6) (buildingFields g) e))))
+    ap (λ (h : Building). first (faults (b .year) h))
+    (building-back g (in-formed (numberForms 6) (buildingFields g) e))))
   where
     long : List Bool
     long =

@@ -22,7 +22,8 @@ ghost use lib.IntN.{ℤ};
 ghost use Rattle.building.specs.Year.{hasHeights};
 ghost use Rattle.entry.specs.Says.{both};
 ghost use Rattle.rules.specs.Sections.{about, lineFault};
-ghost use Rattle.entry_written.specs.Fields.{yearFields, buildingFields, windFields, internalFields, stepFields, faceFields};
+ghost use Rattle.entry_written.specs.Fields.{yearFields, buildingFields, windFields, internalFields};
+ghost use Rattle.entry_written.specs.Fields.{stepFields, faceFields};
 
 pub(crate) fn count_fault(s: Section, n: u32) -> u32
     ensures { λ r. ⌜ ((b : Before)

@@ -75,7 +75,8 @@ in-range {f} k least most h o few =
     short k h (w .plain) (omega (arith, w .to))
 
 -- one digit
-year-bytes : {x : List Field} → AllFormed (numberForms 1) x → Limited (pos 2) (pos lastYear) (yearOf x) → fieldBytes x ≤ 2
+year-bytes : {x : List Field} → AllFormed (numberForms 1) x
+    → Limited (pos 2) (pos lastYear) (yearOf x) → fieldBytes x ≤ 2
 year-bytes (more y none) o = omega (arith, in-range 0 2 lastYear y o (omega arith))
 
 -- a direction has no sign and at most 3 digits
@@ -141,7 +142,8 @@ in-order-bytes (Entry «V») b x z =
     let o = in-order (Entry «V») b x z in
     year-bytes (o .formed) (between (pos 2) (pos lastYear) _ (o .none .0))
 in-order-bytes (Entry B) b x z =
-    let o = in-order (Entry B) b x z in building-bytes (b .year) (o .formed) (found-none (faults (b .year) (buildingOf x)) (o .none))
+    let o = in-order (Entry B) b x z in
+    building-bytes (b .year) (o .formed) (found-none (faults (b .year) (buildingOf x)) (o .none))
 in-order-bytes (Entry W) b x z = wind-bytes (b .building) (in-order (Entry W) b x z .formed) (wind-line b x z)
 in-order-bytes (Entry I) b x z = internal-bytes (in-order (Entry I) b x z .formed) (internal-line b x z)
 in-order-bytes (Entry P) b x z = step-bytes (in-order (Entry P) b x z .formed) (step-line b x z .0)

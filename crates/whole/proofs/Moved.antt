@@ -17,11 +17,16 @@ module _ {A : Type 0} (d : A) (n : ℕ) where
   moved-next i l h k =
       let x = getD l (suc i) d in
       let first = take-suc-set l i x (omega arith) in
-      let kept = ap (drop (suc (suc i))) (take-set-lt n l i x (omega arith)) ∙ drop-set-lt (suc (suc i)) (take n l) i x (omega arith) in
+      let kept =
+      ap (drop (suc (suc i))) (take-set-lt n l i x (omega arith))
+      ∙ drop-set-lt (suc (suc i)) (take n l) i x (omega arith) in
       let rest = drop-set-lt n l i x (omega arith) in
-      let next = drop-cons (take n l) (suc i) d (omega (arith, length-take-le n l k)) ∙ ap (λ y. y ∷ drop (suc (suc i)) (take n l)) (getD-take n l (suc i) d h) in
+      let next =
+      drop-cons (take n l) (suc i) d (omega (arith, length-take-le n l k))
+      ∙ ap (λ y. y ∷ drop (suc (suc i)) (take n l)) (getD-take n l (suc i) d h) in
       (λ j. (first j ++ kept j) ++ (d ∷ rest j))
-      ∙ ap (λ m. m ++ (d ∷ drop n l)) (append-snoc (take i l) x (drop (suc (suc i)) (take n l)) ∙ ap (λ m. take i l ++ m) (sym next))
+      ∙ ap (λ m. m ++ (d ∷ drop n l))
+      (append-snoc (take i l) x (drop (suc (suc i)) (take n l)) ∙ ap (λ m. take i l ++ m) (sym next))
 
   -- the last place freed
   pub moved-last : (i : ℕ) (l : List A) → suc i ≡ n → n ≤ length l → set l i d ≡ moved i l

@@ -13,8 +13,8 @@ use lib.Seq.{length-take-le}
 use borrow.Author.Tests.{ltb-true, ltb-false, eqb-true, ne-eqb}
 use Rattle.whole.specs.Lists.{firstOf, Every}
 use Rattle.whole.proofs.Tests.{by-test}
-use Rattle.whole.proofs.Lists.{every-by, every-both, every-at, getD-map, map-take, map-drop, firstOf-length, firstOf-take}
-use Rattle.whole.proofs.Lists.{firstOf-getD}
+use Rattle.whole.proofs.Lists.{every-by, every-both, every-at, getD-map, map-take, map-drop, firstOf-length}
+use Rattle.whole.proofs.Lists.{firstOf-take, firstOf-getD}
 use Rattle.whole.proofs.Pieces.{every-append, every-first, every-rest, map-append, firstOf-front}
 use Rattle.building.specs.Year.{hasHeights}
 use Rattle.building.proofs.Accepted as range
@@ -39,10 +39,10 @@ use Rattle.job.proofs.Years.{later-heights}
 use Rattle.verdict.specs.Verdict.{Refuses}
 use Rattle.worksheet.specs.declared.Worksheet.{Worksheet}
 use Rattle.worksheet.specs.Faces.{add, replace, takeOut, facesIn, behind, holding}
-use Rattle.worksheet.specs.Edits.{Edit, Add, Replace, TakeOut, heldJob, newFace, editVerdict, editFaces, withFaces}
-use Rattle.worksheet.specs.Edits.{edited}
+use Rattle.worksheet.specs.Edits.{Edit, Add, Replace, TakeOut, heldJob, newFace, editVerdict, editFaces}
+use Rattle.worksheet.specs.Edits.{jobWith, edited}
 use Rattle.worksheet.proofs.Counts.{held-in-order, few-faces}
-use Rattle.worksheet.proofs.Refused.{add-passed, replace-passed, take-out-passed, there-is, has-room, not-only}
+use Rattle.worksheet.proofs.Checks.{add-passed, replace-passed, take-out-passed, there-is, has-room, not-only}
 
 -- ---- a face that fits a job, by all but its own list
 
@@ -144,7 +144,7 @@ module _ (j : Job) (o : InOrder (carried j)) where
 
 -- a record that holds some faces carries them
 holding-carried : (j : Job) (fs rest : List Face)
-    → carried (withFaces (holding fs rest) j) ≡ job.withFaces (map (carriedFace (hasHeights (j .year))) fs) (carried j)
+    → carried (jobWith (holding fs rest) j) ≡ job.withFaces (map (carriedFace (hasHeights (j .year))) fs) (carried j)
 unfolding carried
 holding-carried j fs rest =
     ap (λ l. job.withFaces (map (carriedFace (hasHeights (j .year))) l) (carried j)) (firstOf-front noFace fs rest)
@@ -168,8 +168,8 @@ module _ (j : Job) (o : InOrder (carried j)) where
   abbrev held : List Face
   held = facesIn (j .faces)
 
-  abbrev after : Edit → Job
-  after e = withFaces (editFaces e j) j
+  abbrev pub after : Edit → Job
+  after e = jobWith (editFaces e j) j
 
   first-carried : (n : ℕ) → map (carriedFace h) (take n held) ≡ take n (carried j .faces)
   first-carried n = sym (map-take (carriedFace h) n held) ∙ ap (take n) (sym (carried-faces j o))
@@ -181,7 +181,7 @@ module _ (j : Job) (o : InOrder (carried j)) where
       → map (carriedFace h) fs ≡ editCarried h e (carried j .faces)
       → carried (after e) ≡ job.withFaces (editCarried h e (carried j .faces)) (carried j)
   faces-edited e fs rest q m =
-      ap (λ x. carried (withFaces x j)) q ∙ holding-carried j fs rest ∙ ap (λ l. job.withFaces l (carried j)) m
+      ap (λ x. carried (jobWith x j)) q ∙ holding-carried j fs rest ∙ ap (λ l. job.withFaces l (carried j)) m
 
   -- what the sheet carries after an edit
   pub carried-edited : (e : Edit) → carried (after e) ≡ job.withFaces (editCarried h e (carried j .faces)) (carried j)
@@ -208,7 +208,7 @@ module _ (j : Job) (o : InOrder (carried j)) where
   abbrev fs : List Face
   fs = carried j .faces
 
-  many : length fs ≡ j .faces .count
+  pub many : length fs ≡ j .faces .count
   many = ap length (carried-faces j o) ∙ length-map held (carriedFace h) ∙ counted j o
 
   abbrev Fitting : Face → Type 0

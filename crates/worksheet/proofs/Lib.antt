@@ -2,5 +2,7 @@
 pub mod Held
 pub mod Line
 pub mod Counts
-pub mod Refused
+pub mod Checks
 pub mod Accepted
+pub mod AtFace
+pub mod NewFace

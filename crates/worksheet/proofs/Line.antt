@@ -18,11 +18,11 @@ use Rattle.job.proofs.Judged.{year-is}
 
 module _ (es : Section → List (List Field)) where
   -- how many lines so many sections have
-  abbrev linesIn : List Section → ℕ
+  abbrev pub linesIn : List Section → ℕ
   linesIn [] = 0
   linesIn (s ∷ ss) = 1 + length (es s) + linesIn ss
 
-  lines-counted : (ss : List Section) → length (sectionsOf es ss) ≡ linesIn ss
+  pub lines-counted : (ss : List Section) → length (sectionsOf es ss) ≡ linesIn ss
   lines-counted [] = refl
   lines-counted (s ∷ ss) =
       omega (arith, length-append (sectionOf s (es s)) (sectionsOf es ss), lines-counted ss)

@@ -70,8 +70,8 @@ editFaces (Replace k f) j = replaced (natAbs k) (carriedFace (hasHeights (j .yea
 editFaces (TakeOut k) j = takenOut (natAbs k) (j .faces)
 
 -- the same job with other faces
-abbrev pub withFaces : Faces → Job → Job
-withFaces r j =
+abbrev pub jobWith : Faces → Job → Job
+jobWith r j =
     record {
       year = j .year;
       building = j .building;
@@ -88,5 +88,5 @@ edited e w =
     record {
       verdict = v;
       worksheet =
-          cond (eqb (v .number) 0) (record { job = withFaces (editFaces e (w .job)) (w .job) }) w;
+          cond (eqb (v .number) 0) (record { job = jobWith (editFaces e (w .job)) (w .job) }) w;
     }

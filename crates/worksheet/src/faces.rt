@@ -10,7 +10,7 @@ ghost use Prim.Native.Nat.{_≤_, _<_};
 ghost use Rattle.verdict.specs.Verdict.{accepted};
 ghost use Rattle.job.specs.Carried.{noFace};
 ghost use Rattle.worksheet.specs.Faces as faces;
-ghost use Rattle.worksheet.specs.Edits.{withFaces};
+ghost use Rattle.worksheet.specs.Edits.{jobWith};
 
 // The new face takes the first entry behind.
 pub(crate) fn added(held: Faces, f: Face) -> Faces
@@ -67,7 +67,7 @@ pub(crate) fn taken_out(held: Faces, k: usize) -> Faces
 
 // The answer to an edit that is not refused: the job with these faces.
 pub(crate) fn with(j: Job, held: Faces) -> Edited
-    ensures { λ r. ⌜ r ≡ record { verdict = accepted; worksheet = record { job = withFaces held j } } ⌝ }
+    ensures { λ r. ⌜ r ≡ record { verdict = accepted; worksheet = record { job = jobWith held j } } ⌝ }
 {
     let mut job = j;
     job.faces = held;

@@ -35,6 +35,16 @@ pub fn open(s: &[u8]) -> Edited
     Edited { verdict, worksheet }
 }
 
+// A refused edit leaves the worksheet the same.
+fn refused(v: Verdict, w: Worksheet) -> Edited
+    ensures { λ r. ⌜ r ≡ record { verdict = v; worksheet = w } ⌝ }
+{
+    Edited {
+        verdict: v,
+        worksheet: w,
+    }
+}
+
 // A face at the end.
 pub fn add(w: Worksheet, f: Face) -> Edited
     ensures { λ r. ⌜ r ≡ edited (Add f) w ⌝ }
@@ -42,10 +52,7 @@ pub fn add(w: Worksheet, f: Face) -> Edited
     let j = w.job;
     let v = refusals::of_add(j, f);
     if v.number != 0 {
-        return Edited {
-            verdict: v,
-            worksheet: w,
-        };
+        return refused(v, w);
     }
     let held = j.faces;
     let new = carried_face(has_heights(j.year), f);
@@ -59,10 +66,7 @@ pub fn replace(w: Worksheet, k: i64, f: Face) -> Edited
     let j = w.job;
     let v = refusals::of_replace(j, k, f);
     if v.number != 0 {
-        return Edited {
-            verdict: v,
-            worksheet: w,
-        };
+        return refused(v, w);
     }
     let held = j.faces;
     let new = carried_face(has_heights(j.year), f);
@@ -77,10 +81,7 @@ pub fn take_out(w: Worksheet, k: i64) -> Edited
     let j = w.job;
     let v = refusals::of_take_out(j, k);
     if v.number != 0 {
-        return Edited {
-            verdict: v,
-            worksheet: w,
-        };
+        return refused(v, w);
     }
     let held = j.faces;
     let n = whole::magnitude(k) as usize;

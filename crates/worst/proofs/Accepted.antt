@@ -100,7 +100,8 @@ module _ (c : Carried) (o : InOrder c) where
 
   answered : (d : ℤ) → knows (c .building .kind) d ≡ true → (f : Face) → FaceInOrder (c .building) f
       → acts f d ≡ true
-      → Alternatives 1200 (natAbs (c .building .kind)) (f .zone) (valuesOf (outsideOf (c .year) (c .building) d (f .zone)))
+      → Alternatives 1200 (natAbs (c .building .kind)) (f .zone)
+      (valuesOf (outsideOf (c .year) (c .building) d (f .zone)))
   answered d e f h a = zone-answered (c .year) (c .building) d (f .zone) in-year e (reached d e f h a) (h .on)
 
   -- and no coefficient is above 1.200, whatever the direction

@@ -32,8 +32,8 @@ use Rattle.worst.specs.Shown.{padded, shown}
 use Rattle.worst.specs.Worst.{given, extreme, sixExtremes}
 use Rattle.worst.specs.Table.{firstAndLast}
 use Rattle.worst.specs.Quick.{over, sum, tagged}
-use Rattle.worst.specs.Engine.{weight, reach, pick, reachOf, pickOf, facesOf, axesOf, axesUnder, sumsOn, cellTotal}
-use Rattle.worst.specs.Engine.{Cell, cell, topAt}
+use Rattle.worst.specs.Engine.{weight, reach, pick, reachOf, pickOf, facesOf, axesOf, axesUnder, sumsOn}
+use Rattle.worst.specs.Engine.{cellTotal, Cell, cell, topAt}
 use Rattle.worst.specs.Engine.{windNumbered, internalNumbered, cellBest, bestUpTo, alternativesAt}
 use Rattle.worst.specs.Engine.{extremeWith, sixOf}
 use Rattle.worst.proofs.Better.{over-same-in, tagged-over}

@@ -22,8 +22,8 @@ asked : (c : tie.After-outside)
     → let a = c .before .args in c .outside .result ≡ outsideOf (a .d .year) (a .d .building) (a .direction) (a .place)
 asked c =
     let s = c .before in
-    said (λ (d : ℤ). outsideOf (s .args .d .year) (s .args .d .building) d (s .args .place)) (s .args .direction) (c .outside .ensures)
-    (s .fits .direction .sfits)
+    said (λ (z : ℤ). outsideOf (s .args .d .year) (s .args .d .building) z (s .args .place)) (s .args .direction)
+    (c .outside .ensures) (s .fits .direction .sfits)
 
 -- the test of the internal coefficient, said of the number
 tested : (z : ℤ) {r t : Bool} → r ≡ tooGreat (toZ w64 (ofZ w64 z)) → mag z < 2 ^ 63 → r ≡ t → tooGreat z ≡ t
@@ -36,7 +36,8 @@ returns c =
     let s = o .before in
     let a = s .args in
     let great = tested (a .internal) (c .before .too-great .ensures) (s .fits .internal .sfits) (c .if1 .taken) in
-    sym (net-bad (a .d .year) (a .d .building) (a .direction) (a .place) (a .internal) (sym (asked o) ∙ r .r .given .1) great)
+    sym (net-bad (a .d .year) (a .d .building) (a .direction) (a .place) (a .internal)
+    (sym (asked o) ∙ r .r .given .1) great)
 
 net-cited-requires : tie.Need-net-cited-requires
 net-cited-requires c κs =
@@ -62,14 +63,16 @@ returns-2 c =
     let fits = s .fits .internal .sfits in
     let small = tested (a .internal) (t .before .too-great .ensures) fits (t .if1 .left) in
     ap Answered (said (λ (z : ℤ). netCited outside z) (a .internal) (c .net-cited .ensures) fits)
-    ∙ sym (net-answered (a .d .year) (a .d .building) (a .direction) (a .place) (a .internal) (sym (asked o) ∙ r .r .given .1) small)
+    ∙ sym (net-answered (a .d .year) (a .d .building) (a .direction) (a .place) (a .internal)
+    (sym (asked o) ∙ r .r .given .1) small)
 
 returns-3 : tie.Need-returns-3
 returns-3 c =
     let r = c .before in
     let o = r .before .before in
     let a = o .before .args in
-    sym (net-refused (a .d .year) (a .d .building) (a .direction) (a .place) (a .internal) (sym (asked o) ∙ r .r2 .given .1))
+    sym (net-refused (a .d .year) (a .d .building) (a .direction) (a .place) (a .internal)
+    (sym (asked o) ∙ r .r2 .given .1))
 
 pub net-spec : {M : Type 1} → statement M
 net-spec =

@@ -13,11 +13,12 @@ use Rattle.book.proofs.outside.Statement.{statement}
 use Rattle.book.proofs.outside.Tie as tie
 
 -- what was asked, said of the question
-asked : (c : tie.After-asked) → let a = c .before .args in c .asked .result ≡ askedOf (a .d .year) (a .d .building) (a .direction) (a .place)
+asked : (c : tie.After-asked) → let a = c .before .args in
+    c .asked .result ≡ askedOf (a .d .year) (a .d .building) (a .direction) (a .place)
 asked c =
     let s = c .before in
-    said (λ (d : ℤ). askedOf (s .args .d .year) (s .args .d .building) d (s .args .place)) (s .args .direction) (c .asked .ensures)
-    (s .fits .direction .sfits)
+    said (λ (z : ℤ). askedOf (s .args .d .year) (s .args .d .building) z (s .args .place)) (s .args .direction)
+    (c .asked .ensures) (s .fits .direction .sfits)
 
 coefficient-requires : tie.Need-coefficient-requires
 coefficient-requires c κs =

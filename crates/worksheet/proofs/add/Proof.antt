@@ -10,16 +10,18 @@ use Rattle.entry.specs.declared.Face.{Face}
 use Rattle.entry.specs.Says.{carriedFace}
 use Rattle.job.specs.declared.Faces.{Faces}
 use Rattle.worksheet.specs.Faces.{added}
-use Rattle.worksheet.specs.Edits.{Add, editFaces, withFaces}
-use Rattle.worksheet.proofs.Refused.{add-passed, has-room, edit-refused, edit-taken}
+use Rattle.worksheet.specs.Edits.{Add, editFaces, jobWith}
+use Rattle.worksheet.proofs.Checks.{add-passed, has-room, edit-refused, edit-taken}
 use Rattle.worksheet.proofs.add.Statement.{statement}
 use Rattle.worksheet.proofs.add.Tie as tie
 
 returns : tie.Need-returns
 returns c =
-    let v = c .before .before in
+    let t = c .before in
+    let v = t .before .before in
     let a = v .before .before .args in
-    edit-refused (Add (a .f)) (a .w) (v .of-add .ensures) (c .if1 .taken)
+    c .refused .ensures
+    ∙ edit-refused (Add (a .f)) (a .w) (v .of-add .ensures) (t .if1 .taken)
 
 -- the edit is not refused
 module _ (c : tie.After-carried-face) where
@@ -56,12 +58,12 @@ returns-2 c =
     let n = d .before in
     let a = start n .args in
     c .with .ensures
-    ∙ ap (λ (r : Faces). record { verdict = accepted; worksheet = record { job = withFaces r (a .w .job) } })
+    ∙ ap (λ (r : Faces). record { verdict = accepted; worksheet = record { job = jobWith r (a .w .job) } })
     (d .added .ensures ∙ ap (λ (f : Face). added f (a .w .job .faces)) (new-is n))
     ∙ edit-taken (Add (a .f)) (a .w) (judged n .of-add .ensures) (fine n .if1 .left)
 
 pub add-spec : {M : Type 1} → statement M
 add-spec =
     tie.close
-    (tie.spec (λ c κs. search needs) returns (λ c κs. search needs) (λ c κs. search needs) added-requires
-    (λ c κs. search needs) returns-2)
+    (tie.spec (λ c κs. search needs) (λ c κs. search needs) returns (λ c κs. search needs) (λ c κs. search needs)
+    added-requires (λ c κs. search needs) returns-2)

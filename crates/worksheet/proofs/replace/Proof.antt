@@ -12,9 +12,9 @@ use Rattle.building.proofs.Accepted.{Within}
 use Rattle.entry.specs.Says.{carriedFace}
 use Rattle.job.specs.declared.Faces.{Faces}
 use Rattle.worksheet.specs.Faces.{replaced}
-use Rattle.worksheet.specs.Edits.{Replace, heldJob, noSuchFace, newFace, editVerdict, editFaces, withFaces}
+use Rattle.worksheet.specs.Edits.{Replace, heldJob, noSuchFace, newFace, editVerdict, editFaces, jobWith}
 use Rattle.worksheet.proofs.Counts.{held-in-order, few-faces}
-use Rattle.worksheet.proofs.Refused.{Passed, replace-passed, there-is, edit-refused, edit-taken}
+use Rattle.worksheet.proofs.Checks.{Passed, replace-passed, there-is, edit-refused, edit-taken}
 use Rattle.worksheet.proofs.replace.Statement.{statement}
 use Rattle.worksheet.proofs.replace.Tie as tie
 
@@ -27,9 +27,11 @@ verdict-is c =
 
 returns : tie.Need-returns
 returns c =
-    let v = c .before .before in
+    let t = c .before in
+    let v = t .before .before in
     let a = v .before .before .args in
-    edit-refused (Replace (a .k) (a .f)) (a .w) (verdict-is v) (c .if1 .taken)
+    c .refused .ensures
+    ∙ edit-refused (Replace (a .k) (a .f)) (a .w) (verdict-is v) (t .if1 .taken)
 
 -- the edit is not refused
 module _ (c : tie.After-magnitude) where
@@ -80,12 +82,12 @@ returns-2 c =
     let n = d .before in
     let a = start n .args in
     c .with .ensures
-    ∙ ap (λ (r : Faces). record { verdict = accepted; worksheet = record { job = withFaces r (a .w .job) } })
+    ∙ ap (λ (r : Faces). record { verdict = accepted; worksheet = record { job = jobWith r (a .w .job) } })
     (d .replaced .ensures ∙ (λ i. replaced (size-is n i) (new-is n i) (a .w .job .faces)))
     ∙ edit-taken (Replace (a .k) (a .f)) (a .w) (verdict-is (judged n)) (fine n .if1 .left)
 
 pub replace-spec : {M : Type 1} → statement M
 replace-spec =
     tie.close
-    (tie.spec (λ c κs. search needs) returns (λ c κs. search needs) (λ c κs. search needs) (λ c κs. search needs)
-    replaced-requires (λ c κs. search needs) returns-2)
+    (tie.spec (λ c κs. search needs) (λ c κs. search needs) returns (λ c κs. search needs) (λ c κs. search needs)
+    (λ c κs. search needs) replaced-requires (λ c κs. search needs) returns-2)

@@ -10,9 +10,9 @@ use Rattle.verdict.specs.Verdict.{accepted}
 use Rattle.building.proofs.Accepted.{Within}
 use Rattle.job.specs.declared.Faces.{Faces}
 use Rattle.worksheet.specs.Faces.{takenOut}
-use Rattle.worksheet.specs.Edits.{TakeOut, heldJob, noSuchFace, onlyFace, editVerdict, editFaces, withFaces}
+use Rattle.worksheet.specs.Edits.{TakeOut, heldJob, noSuchFace, onlyFace, editVerdict, editFaces, jobWith}
 use Rattle.worksheet.proofs.Counts.{held-in-order, few-faces}
-use Rattle.worksheet.proofs.Refused.{Passed, take-out-passed, there-is, edit-refused, edit-taken}
+use Rattle.worksheet.proofs.Checks.{Passed, take-out-passed, there-is, edit-refused, edit-taken}
 use Rattle.worksheet.proofs.take_out.Statement.{statement}
 use Rattle.worksheet.proofs.take_out.Tie as tie
 
@@ -25,9 +25,11 @@ verdict-is c =
 
 returns : tie.Need-returns
 returns c =
-    let v = c .before .before in
+    let t = c .before in
+    let v = t .before .before in
     let a = v .before .before .args in
-    edit-refused (TakeOut (a .k)) (a .w) (verdict-is v) (c .if1 .taken)
+    c .refused .ensures
+    ∙ edit-refused (TakeOut (a .k)) (a .w) (verdict-is v) (t .if1 .taken)
 
 -- the edit is not refused
 module _ (c : tie.After-magnitude) where
@@ -65,12 +67,12 @@ returns-2 c =
     let n = d .before in
     let a = start n .args in
     c .with .ensures
-    ∙ ap (λ (r : Faces). record { verdict = accepted; worksheet = record { job = withFaces r (a .w .job) } })
+    ∙ ap (λ (r : Faces). record { verdict = accepted; worksheet = record { job = jobWith r (a .w .job) } })
     (d .taken-out .ensures ∙ ap (λ (k : ℕ). takenOut k (a .w .job .faces)) (size-is n))
     ∙ edit-taken (TakeOut (a .k)) (a .w) (verdict-is (judged n)) (fine n .if1 .left)
 
 pub take-out-spec : {M : Type 1} → statement M
 take-out-spec =
     tie.close
-    (tie.spec (λ c κs. search needs) returns (λ c κs. search needs) taken-out-requires (λ c κs. search needs)
-    returns-2)
+    (tie.spec (λ c κs. search needs) (λ c κs. search needs) returns (λ c κs. search needs) taken-out-requires
+    (λ c κs. search needs) returns-2)

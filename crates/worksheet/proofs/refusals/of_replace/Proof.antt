@@ -13,7 +13,7 @@ use Rattle.job.specs.Carried.{carried}
 use Rattle.job.specs.InOrder.{InOrder}
 use Rattle.worksheet.specs.Edits.{heldJob, noSuchFace, newFace, editVerdict}
 use Rattle.worksheet.proofs.Counts.{held-in-order, few-faces}
-use Rattle.worksheet.proofs.Refused.{there-is}
+use Rattle.worksheet.proofs.Checks.{there-is}
 use Rattle.worksheet.proofs.refusals.of_replace.Statement.{statement}
 use Rattle.worksheet.proofs.refusals.of_replace.Tie as tie
 
@@ -42,7 +42,8 @@ module _ (c : tie.After-no-such-face) where
   in-order = held-in-order (start .args .j) (judged .judge .result) (judged .judge .ensures) (held .if1 .left)
 
   none-is : c .no-such-face .result ≡ noSuchFace (start .args .k) (start .args .j)
-  none-is = said (λ k. noSuchFace k (start .args .j)) (start .args .k) (c .no-such-face .ensures) (start .fits .k .sfits)
+  none-is =
+      said (λ k. noSuchFace k (start .args .j)) (start .args .k) (c .no-such-face .ensures) (start .fits .k .sfits)
 
   past-held : (w : Verdict) → (heldJob (start .args .j) orThen w) ≡ w
   past-held w =

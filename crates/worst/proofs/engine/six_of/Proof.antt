@@ -165,7 +165,8 @@ returns c =
     let d = c .before .before .before .before .before in
     let j = start d .args .job in
     c .shown .ensures
-    ∙ six-are j (last-reading j (start d .pre)) (given-sound (carried j) (start d .pre)) (l d .loop .ends) (λ axis s. top d axis s .best)
+    ∙ six-are j (last-reading j (start d .pre)) (given-sound (carried j) (start d .pre)) (l d .loop .ends)
+    (λ axis s. top d axis s .best)
 
 pub six-of-spec : {M : Type 1} → statement M
 six-of-spec =

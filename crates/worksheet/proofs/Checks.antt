@@ -17,7 +17,7 @@ use Rattle.job.specs.declared.Job.{Job}
 use Rattle.worksheet.specs.declared.Worksheet.{Worksheet}
 use Rattle.worksheet.specs.declared.Edited.{Edited}
 use Rattle.worksheet.specs.Edits.{Edit, Add, Replace, TakeOut, heldJob, noSuchFace, full, onlyFace, newFace}
-use Rattle.worksheet.specs.Edits.{editVerdict, editFaces, withFaces, edited}
+use Rattle.worksheet.specs.Edits.{editVerdict, editFaces, jobWith, edited}
 
 -- ---- three checks, one after the other
 
@@ -88,6 +88,7 @@ module _ (e : Edit) (w : Worksheet) where
       rw q (rw (ne-eqb (editVerdict e (w .job) .number) 0 (λ z. r (ap (λ u. u .number) q ∙ z))))
 
   pub edit-taken : {v : Verdict} → v ≡ editVerdict e (w .job) → v .number ≡ 0
-      → record { verdict = accepted; worksheet = record { job = withFaces (editFaces e (w .job)) (w .job) } } ≡ edited e w
+      → record { verdict = accepted; worksheet = record { job = jobWith (editFaces e (w .job)) (w .job) } }
+      ≡ edited e w
   unfolding edited
   edit-taken {v} q z = rw (verdict-accepted (w .job) e (sym (ap (λ u. u .number) q) ∙ z))
