@@ -8,12 +8,13 @@ use lib.IntN.{ℤ, pos, natAbs}
 use borrow.Author.Tests.{not-true, ltb-true, eq-eqb, ne-eqb}
 use Rattle.verdict.specs.declared.Verdict.{Verdict}
 use Rattle.verdict.specs.Verdict.{accepted, _orThen_, Refuses}
-use Rattle.verdict.proofs.After.{then-later, then-passed}
+use Rattle.verdict.proofs.After.{then-later, then-earlier, then-passed}
 use Rattle.building.specs.Test.{beyond, within, unless}
 use Rattle.building.proofs.Accepted.{Within}
 use Rattle.building.proofs.Accepted as range
 use Rattle.entry.specs.declared.Face.{Face}
 use Rattle.job.specs.declared.Job.{Job}
+use Rattle.job.specs.declared.Faces.{Faces}
 use Rattle.worksheet.specs.declared.Worksheet.{Worksheet}
 use Rattle.worksheet.specs.declared.Edited.{Edited}
 use Rattle.worksheet.specs.Edits.{Edit, Add, Replace, TakeOut, heldJob, noSuchFace, full, onlyFace, newFace}
@@ -78,6 +79,14 @@ module _ (j : Job) where
   pub not-only : onlyFace j .number ≡ 0 → 1 < j .faces .count
   not-only e = ltb-true 1 (j .faces .count) (unless-none 1 (ltb 1 (j .faces .count)) e)
 
+  -- ---- the held job, as it was judged
+
+  pub held-refused : {v : Verdict} (w : Verdict) → v ≡ heldJob j → Refuses v → v ≡ (heldJob j orThen w)
+  held-refused w e h = e ∙ sym (then-earlier (heldJob j) w (λ z. h (ap (λ u. u .number) e ∙ z)))
+
+  pub held-passed : {v : Verdict} (w : Verdict) → v ≡ heldJob j → v .number ≡ 0 → (heldJob j orThen w) ≡ w
+  held-passed w e z = then-later (heldJob j) w (sym (ap (λ u. u .number) e) ∙ z)
+
 -- ---- the answer to an edit
 
 module _ (e : Edit) (w : Worksheet) where
@@ -87,8 +96,11 @@ module _ (e : Edit) (w : Worksheet) where
   edit-refused {v} q r =
       rw q (rw (ne-eqb (editVerdict e (w .job) .number) 0 (λ z. r (ap (λ u. u .number) q ∙ z))))
 
-  pub edit-taken : {v : Verdict} → v ≡ editVerdict e (w .job) → v .number ≡ 0
-      → record { verdict = accepted; worksheet = record { job = jobWith (editFaces e (w .job)) (w .job) } }
-      ≡ edited e w
+  -- with the faces that it makes
+  pub edit-taken : {v : Verdict} {r : Faces} {a : Edited} → v ≡ editVerdict e (w .job) → v .number ≡ 0
+      → a ≡ record { verdict = accepted; worksheet = record { job = jobWith r (w .job) } } → r ≡ editFaces e (w .job)
+      → a ≡ edited e w
   unfolding edited
-  edit-taken {v} q z = rw (verdict-accepted (w .job) e (sym (ap (λ u. u .number) q) ∙ z))
+  edit-taken q z p s =
+      p ∙ ap (λ r. record { verdict = accepted; worksheet = record { job = jobWith r (w .job) } }) s
+      ∙ rw (verdict-accepted (w .job) e (sym (ap (λ u. u .number) q) ∙ z))

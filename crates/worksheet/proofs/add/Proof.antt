@@ -4,13 +4,11 @@ use mathlib.Core.Bool.{Bool}
 use borrow.Author.Needs.{needs}
 use Rattle.whole.proofs.Size.{said}
 use Rattle.verdict.specs.declared.Verdict.{Verdict}
-use Rattle.verdict.specs.Verdict.{accepted}
 use Rattle.building.specs.Year.{hasHeights}
 use Rattle.entry.specs.declared.Face.{Face}
 use Rattle.entry.specs.Says.{carriedFace}
-use Rattle.job.specs.declared.Faces.{Faces}
 use Rattle.worksheet.specs.Faces.{added}
-use Rattle.worksheet.specs.Edits.{Add, editFaces, jobWith}
+use Rattle.worksheet.specs.Edits.{Add, editFaces}
 use Rattle.worksheet.proofs.Checks.{add-passed, has-room, edit-refused, edit-taken}
 use Rattle.worksheet.proofs.add.Statement.{statement}
 use Rattle.worksheet.proofs.add.Tie as tie
@@ -57,10 +55,8 @@ returns-2 c =
     let d = c .before in
     let n = d .before in
     let a = start n .args in
-    c .with .ensures
-    ∙ ap (λ (r : Faces). record { verdict = accepted; worksheet = record { job = jobWith r (a .w .job) } })
+    edit-taken (Add (a .f)) (a .w) (judged n .of-add .ensures) (fine n .if1 .left) (c .with .ensures)
     (d .added .ensures ∙ ap (λ (f : Face). added f (a .w .job .faces)) (new-is n))
-    ∙ edit-taken (Add (a .f)) (a .w) (judged n .of-add .ensures) (fine n .if1 .left)
 
 pub add-spec : {M : Type 1} → statement M
 add-spec =

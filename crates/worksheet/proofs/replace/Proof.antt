@@ -6,13 +6,11 @@ use lib.IntN.{ℤ, natAbs}
 use borrow.Author.Needs.{needs}
 use Rattle.whole.proofs.Size.{said}
 use Rattle.verdict.specs.declared.Verdict.{Verdict}
-use Rattle.verdict.specs.Verdict.{accepted}
 use Rattle.building.specs.Year.{hasHeights}
 use Rattle.building.proofs.Accepted.{Within}
 use Rattle.entry.specs.Says.{carriedFace}
-use Rattle.job.specs.declared.Faces.{Faces}
 use Rattle.worksheet.specs.Faces.{replaced}
-use Rattle.worksheet.specs.Edits.{Replace, heldJob, noSuchFace, newFace, editVerdict, editFaces, jobWith}
+use Rattle.worksheet.specs.Edits.{Replace, heldJob, noSuchFace, newFace, editVerdict, editFaces}
 use Rattle.worksheet.proofs.Counts.{held-in-order, few-faces}
 use Rattle.worksheet.proofs.Checks.{Passed, replace-passed, there-is, edit-refused, edit-taken}
 use Rattle.worksheet.proofs.replace.Statement.{statement}
@@ -81,10 +79,8 @@ returns-2 c =
     let d = c .before in
     let n = d .before in
     let a = start n .args in
-    c .with .ensures
-    ∙ ap (λ (r : Faces). record { verdict = accepted; worksheet = record { job = jobWith r (a .w .job) } })
+    edit-taken (Replace (a .k) (a .f)) (a .w) (verdict-is (judged n)) (fine n .if1 .left) (c .with .ensures)
     (d .replaced .ensures ∙ (λ i. replaced (size-is n i) (new-is n i) (a .w .job .faces)))
-    ∙ edit-taken (Replace (a .k) (a .f)) (a .w) (verdict-is (judged n)) (fine n .if1 .left)
 
 pub replace-spec : {M : Type 1} → statement M
 replace-spec =

@@ -6,11 +6,9 @@ use lib.IntN.{ℤ, natAbs}
 use borrow.Author.Needs.{needs}
 use Rattle.whole.proofs.Size.{said}
 use Rattle.verdict.specs.declared.Verdict.{Verdict}
-use Rattle.verdict.specs.Verdict.{accepted}
 use Rattle.building.proofs.Accepted.{Within}
-use Rattle.job.specs.declared.Faces.{Faces}
 use Rattle.worksheet.specs.Faces.{takenOut}
-use Rattle.worksheet.specs.Edits.{TakeOut, heldJob, noSuchFace, onlyFace, editVerdict, editFaces, jobWith}
+use Rattle.worksheet.specs.Edits.{TakeOut, heldJob, noSuchFace, onlyFace, editVerdict, editFaces}
 use Rattle.worksheet.proofs.Counts.{held-in-order, few-faces}
 use Rattle.worksheet.proofs.Checks.{Passed, take-out-passed, there-is, edit-refused, edit-taken}
 use Rattle.worksheet.proofs.take_out.Statement.{statement}
@@ -66,10 +64,8 @@ returns-2 c =
     let d = c .before in
     let n = d .before in
     let a = start n .args in
-    c .with .ensures
-    ∙ ap (λ (r : Faces). record { verdict = accepted; worksheet = record { job = jobWith r (a .w .job) } })
+    edit-taken (TakeOut (a .k)) (a .w) (verdict-is (judged n)) (fine n .if1 .left) (c .with .ensures)
     (d .taken-out .ensures ∙ ap (λ (k : ℕ). takenOut k (a .w .job .faces)) (size-is n))
-    ∙ edit-taken (TakeOut (a .k)) (a .w) (verdict-is (judged n)) (fine n .if1 .left)
 
 pub take-out-spec : {M : Type 1} → statement M
 take-out-spec =

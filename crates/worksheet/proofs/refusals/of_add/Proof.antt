@@ -1,24 +1,20 @@
 -- `refusals::of_add`: one check after the other.
-use mathlib.Core.Path.{_≡_, sym, ap, ap₂, _∙_}
+use mathlib.Core.Path.{sym, ap₂, _∙_}
 use native.Mathlib.Omega.{arith}
 use Prim.Native.Nat.{_≤_}
 use borrow.Author.Needs.{needs}
 use Rattle.job.specs.Carried.{carried}
 use Rattle.job.specs.InOrder.{InOrder}
-use Rattle.verdict.specs.declared.Verdict.{Verdict}
 use Rattle.verdict.specs.Verdict.{_orThen_}
-use Rattle.verdict.proofs.After.{then-later, then-earlier}
-use Rattle.worksheet.specs.Edits.{heldJob, editVerdict}
+use Rattle.worksheet.specs.Edits.{editVerdict}
 use Rattle.worksheet.proofs.Counts.{held-in-order, few-faces}
+use Rattle.worksheet.proofs.Checks.{held-refused, held-passed}
 use Rattle.worksheet.proofs.refusals.of_add.Statement.{statement}
 use Rattle.worksheet.proofs.refusals.of_add.Tie as tie
 
 returns : tie.Need-returns
 unfolding editVerdict
-returns c =
-    let v = c .before .before in
-    let e = v .judge .ensures in
-    e ∙ sym (then-earlier (heldJob (v .before .args .j)) _ (λ z. c .if1 .taken (ap (λ (w : Verdict). w .number) e ∙ z)))
+returns c = let v = c .before .before in held-refused (v .before .args .j) _ (v .judge .ensures) (c .if1 .taken)
 
 -- the held job is in order
 module _ (c : tie.Else1) where
@@ -48,8 +44,7 @@ returns-2 c =
     let e = n .before .before in
     let v = judged e in
     c .or-then .ensures ∙ ap₂ _orThen_ (f .full .ensures) (n .new-face .ensures)
-    ∙ sym (then-later (heldJob (start e .args .j)) _
-    (sym (ap (λ (w : Verdict). w .number) (v .judge .ensures)) ∙ e .if1 .left))
+    ∙ sym (held-passed (start e .args .j) _ (v .judge .ensures) (e .if1 .left))
 
 pub of-add-spec : {M : Type 1} → statement M
 of-add-spec =

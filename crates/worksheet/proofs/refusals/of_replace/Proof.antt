@@ -13,7 +13,7 @@ use Rattle.job.specs.Carried.{carried}
 use Rattle.job.specs.InOrder.{InOrder}
 use Rattle.worksheet.specs.Edits.{heldJob, noSuchFace, newFace, editVerdict}
 use Rattle.worksheet.proofs.Counts.{held-in-order, few-faces}
-use Rattle.worksheet.proofs.Checks.{there-is}
+use Rattle.worksheet.proofs.Checks.{held-refused, held-passed, there-is}
 use Rattle.worksheet.proofs.refusals.of_replace.Statement.{statement}
 use Rattle.worksheet.proofs.refusals.of_replace.Tie as tie
 
@@ -22,10 +22,7 @@ numberIn v = v .number
 
 returns : tie.Need-returns
 unfolding editVerdict
-returns c =
-    let v = c .before .before in
-    let e = v .judge .ensures in
-    e ∙ sym (then-earlier (heldJob (v .before .args .j)) _ (λ z. c .if1 .taken (ap numberIn e ∙ z)))
+returns c = let v = c .before .before in held-refused (v .before .args .j) _ (v .judge .ensures) (c .if1 .taken)
 
 -- the held job is in order
 module _ (c : tie.After-no-such-face) where
@@ -46,8 +43,7 @@ module _ (c : tie.After-no-such-face) where
       said (λ k. noSuchFace k (start .args .j)) (start .args .k) (c .no-such-face .ensures) (start .fits .k .sfits)
 
   past-held : (w : Verdict) → (heldJob (start .args .j) orThen w) ≡ w
-  past-held w =
-      then-later (heldJob (start .args .j)) w (sym (ap numberIn (judged .judge .ensures)) ∙ held .if1 .left)
+  past-held w = held-passed (start .args .j) w (judged .judge .ensures) (held .if1 .left)
 
 returns-2 : tie.Need-returns-2
 unfolding editVerdict

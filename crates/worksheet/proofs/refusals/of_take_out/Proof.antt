@@ -1,25 +1,18 @@
 -- `refusals::of_take_out`: one check after the other.
 use mathlib.Core.Path.{_≡_, sym, ap, ap₂, _∙_}
-use Prim.Native.Nat.{ℕ}
 use lib.IntN.{ℤ}
 use borrow.Author.Needs.{needs}
 use Rattle.whole.proofs.Size.{said}
 use Rattle.verdict.specs.declared.Verdict.{Verdict}
 use Rattle.verdict.specs.Verdict.{accepted, _orThen_}
-use Rattle.verdict.proofs.After.{then-later, then-earlier}
-use Rattle.worksheet.specs.Edits.{heldJob, noSuchFace, editVerdict}
+use Rattle.worksheet.specs.Edits.{noSuchFace, editVerdict}
+use Rattle.worksheet.proofs.Checks.{held-refused, held-passed}
 use Rattle.worksheet.proofs.refusals.of_take_out.Statement.{statement}
 use Rattle.worksheet.proofs.refusals.of_take_out.Tie as tie
 
-abbrev numberIn : Verdict → ℕ
-numberIn v = v .number
-
 returns : tie.Need-returns
 unfolding editVerdict
-returns c =
-    let v = c .before .before in
-    let e = v .judge .ensures in
-    e ∙ sym (then-earlier (heldJob (v .before .args .j)) _ (λ z. c .if1 .taken (ap numberIn e ∙ z)))
+returns c = let v = c .before .before in held-refused (v .before .args .j) _ (v .judge .ensures) (c .if1 .taken)
 
 returns-2 : tie.Need-returns-2
 unfolding editVerdict
@@ -34,7 +27,7 @@ returns-2 c =
     said (λ (k : ℤ). noSuchFace k (s .args .j)) (s .args .k) (n .no-such-face .ensures) (s .fits .k .sfits) in
     c .or-then2 .ensures
     ∙ ap₂ _orThen_ none (o .or-then .ensures ∙ ap (λ (w : Verdict). w orThen accepted) (f .only-face .ensures))
-    ∙ sym (then-later (heldJob (s .args .j)) _ (sym (ap numberIn (v .judge .ensures)) ∙ h .if1 .left))
+    ∙ sym (held-passed (s .args .j) _ (v .judge .ensures) (h .if1 .left))
 
 pub of-take-out-spec : {M : Type 1} → statement M
 of-take-out-spec =
