@@ -13,7 +13,6 @@ use Rattle.building.specs.Building.{givenFault}
 use Rattle.building.specs.Places.{knows, placeOn}
 use Rattle.building.proofs.Judged.{InYear, first-checks, bad-building, bad-direction, bad-place}
 use Rattle.building.proofs.Readings.{in-order-last, fault-apart, given-apart}
-use Rattle.book.specs.declared.Answer.{Answer}
 use Rattle.book.specs.declared.Answer.the-variants.{Refused}
 use Rattle.book.specs.Question.{outsideOf}
 use Rattle.book.proofs.Answers.{answered}

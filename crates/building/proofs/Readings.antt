@@ -1,7 +1,7 @@
 -- The readings of the walls' table, year by year: a building that is in order by one is in order by the last, and no
 -- two of them differ but at a equal to b.
 use mathlib.Core.Path.{_≡_, refl, sym, ap, _∙_}
-use mathlib.Core.Bool.{Bool, true, false, cond, not, _||_}
+use mathlib.Core.Bool.{Bool, true, false, cond, not}
 use Prim.Native.Nat.{ℕ}
 use native.Mathlib.Omega.{arith}
 use lib.Arith.{lt-of-le-ne}

@@ -1,6 +1,6 @@
 // The tests of a building's line, in their order.
 ghost use mathlib.Core.Path.{_≡_};
-ghost use mathlib.Core.Bool.{false, _||_};
+ghost use mathlib.Core.Bool.{false};
 ghost use Prim.Native.Nat.{_≤_};
 ghost use Rattle.building.specs.Roof.{lastKind, roofOf, alongOf, acrossOf};
 ghost use Rattle.building.specs.Order.{Ranged};

@@ -1,17 +1,16 @@
 -- The verdict of an edit is the first of its faults, and no other.
-use mathlib.Core.Path.{_≡_, refl, sym, ap, ap₂, _∙_, subst}
+use mathlib.Core.Path.{_≡_, refl, sym, ap, _∙_, subst}
 use mathlib.Core.Logic.{⊎-elim}
-use mathlib.Core.Bool.{Bool, true, false, not}
 use Prim.Native.Nat.{ℕ, _+_, _≤_, _<_}
 use native.Mathlib.Omega.{arith}
 use lib.Dec.{eqb, ltb}
 use lib.IntN.{ℤ, pos, natAbs}
-use borrow.Author.Tests.{lt-ltb, le-ltb, ltb-true, ltb-false, eqb-true, eqb-false}
+use borrow.Author.Tests.{le-ltb, ltb-true, ltb-false, eqb-true, eqb-false}
 use Rattle.whole.proofs.Tests.{by-test}
 use Rattle.verdict.specs.declared.Verdict.{Verdict}
 use Rattle.verdict.specs.Verdict.{accepted, refusal, _orThen_, Refuses}
 use Rattle.verdict.proofs.After.{then-later, then-earlier}
-use Rattle.building.specs.Test.{beyond, within, unless}
+use Rattle.building.specs.Test.{beyond, within}
 use Rattle.building.proofs.Ranges.{not-beyond, is-within}
 use Rattle.building.proofs.Accepted as range
 use Rattle.entry.specs.declared.Face.{Face}
@@ -23,7 +22,7 @@ use Rattle.worksheet.specs.Edits.{Edit, Add, Replace, TakeOut, heldJob, noSuchF
 use Rattle.worksheet.specs.Edits.{editVerdict}
 use Rattle.worksheet.proofs.Checks.{verdict-accepted}
 use Rattle.claims.specs.Fault.{Faulty, at, Faultless}
-use Rattle.claims.specs.Edit.{There, NoSuchFace, FullOrOnly, NewFace, faceFault, EditFault, held-job}
+use Rattle.claims.specs.Edit.{There, faceFault, EditFault, held-job}
 use Rattle.claims.specs.Edit.{no-such-face, full-or-only, new-face}
 use Rattle.claims.proofs.Fault as fault
 use Rattle.claims.proofs.Question.{clash}

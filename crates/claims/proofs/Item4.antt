@@ -1,5 +1,5 @@
 -- Item 4 of paper 02: faces edited on screen.
-use mathlib.Core.Path.{_≡_, refl, sym, ap, ap₂, _∙_, subst}
+use mathlib.Core.Path.{_≡_, refl, sym, ap, ap₂, _∙_}
 use mathlib.Core.Logic.{_⊎_, ⊎-elim}
 use mathlib.Core.List.{List}
 use Prim.Native.Nat.{ℕ, _+_, _≤_, _<_}
@@ -13,7 +13,7 @@ use Rattle.verdict.specs.Verdict.{accepted, refusal, Refuses}
 use Rattle.job.specs.declared.Job.{Job}
 use Rattle.job.specs.Carried.{Carried, carried}
 use Rattle.job.specs.Lines.{linesOf, faceLine}
-use Rattle.job.specs.Walk.{Reading, Accepted, Refused, judged}
+use Rattle.job.specs.Walk.{Accepted, Refused, judged}
 use Rattle.page.specs.declared.Writing.{Writing}
 use Rattle.page.specs.declared.Writing.the-variants as written
 use Rattle.job.proofs.RoundTrip.{judged-carried}

@@ -18,7 +18,7 @@ use Rattle.building.specs.Places.{knows, placeOn}
 use Rattle.building.proofs.Accepted.{in-order, given-none, none-given}
 use Rattle.building.proofs.Judged as judged
 use Rattle.building.proofs.Judged.{InYear}
-use Rattle.building.specs.Year.{isYear, buildingLine}
+use Rattle.building.specs.Year.{buildingLine}
 use Rattle.job.proofs.Written.{building-given}
 use Rattle.book.specs.declared.Answer as book
 use Rattle.book.specs.declared.Answer.the-variants.{Answered, Refused}

@@ -39,7 +39,7 @@ use Rattle.rules.specs.Sections.{about, forms, lineFault}
 use Rattle.rules.proofs.Form.{AllFormed}
 use Rattle.rules.proofs.Rising.{found-none}
 use Rattle.rules.proofs.Line.{in-order}
-use Rattle.entry_written.specs.Fields.{yearFields, windFields, internalFields, stepFields, faceFields}
+use Rattle.entry_written.specs.Fields.{windFields, internalFields, stepFields, faceFields}
 use Rattle.job.specs.Lines.{entriesOf, linesOf}
 use Rattle.job.specs.Walk.{learn, Accepted, readLines}
 use Rattle.job.specs.InOrder.{Within, Limited, WindInOrder, InternalInOrder, FaceInOrder, StepInOrder}

@@ -5,25 +5,23 @@ use mathlib.Core.List.{List, [], _∷_, _++_, map, append-nil}
 use mathlib.Core.Bool.{Bool, true, false, cond}
 use native.Mathlib.Numerals.{add-one}
 use native.Mathlib.Omega.{arith}
-use lib.Dec.{eqb, ltb}
+use lib.Dec.{eqb}
 use lib.IntN.{ℤ}
 use lib.ListN.{length, take, drop, drop-of-length-le}
 use lib.Seq.{take-suc, drop-cons}
-use borrow.Author.Tests.{eqb-true, eqb-false, ltb-true, ltb-false}
+use borrow.Author.Tests.{eqb-true, eqb-false}
 use Rattle.whole.specs.Lists.{Every}
 use Rattle.whole.proofs.Tests.{by-test}
 use Rattle.verdict.specs.declared.Verdict.{Verdict}
 use Rattle.verdict.specs.Verdict.{accepted, Refuses}
 use Rattle.field.specs.declared.Field.{Field}
 use Rattle.rules.specs.declared.Section.{Section}
-use Rattle.rules.specs.declared.Section.the-variants.{«V», B, W, P, F}
+use Rattle.rules.specs.declared.Section.the-variants.{«V», B, F}
 use Rattle.rules.specs.declared.Kind.{Kind}
 use Rattle.rules.specs.declared.Kind.the-variants.{Count, Entry}
 use Rattle.rules.specs.declared.Before.{Before}
-use Rattle.building.specs.declared.Building.{Building}
 use Rattle.building.specs.Fault.{first}
 use Rattle.building.specs.Building.{faults}
-use Rattle.rules.specs.Faults.{windFaults}
 use Rattle.rules.specs.Form.{inForm, numberForms}
 use Rattle.rules.specs.Sections.{sections, sectionAt, forms, formsBy, lineFault}
 use Rattle.rules.proofs.Form.{AllFormed}

@@ -18,7 +18,6 @@ ghost use mathlib.Core.Path.{_≡_};
 ghost use mathlib.Core.Bool.{false, cond, not, _&&_, _||_};
 ghost use mathlib.Core.List.{[], _∷_};
 ghost use Rattle.building.specs.Test.{is, tooLong};
-ghost use lib.IntN.{ℤ};
 ghost use Rattle.building.specs.Year.{hasHeights};
 ghost use Rattle.entry.specs.Says.{both};
 ghost use Rattle.rules.specs.Sections.{about, lineFault};

@@ -16,7 +16,6 @@ use entry::Step;
 use entry::Wind;
 ghost use mathlib.Core.Path.{_≡_};
 ghost use mathlib.Core.Bool.{cond, _||_};
-ghost use lib.IntN.{pos, negℤ};
 ghost use Rattle.building.specs.Fault.{first};
 ghost use Rattle.building.specs.Places as places;
 ghost use Rattle.building.specs.Test as test;

@@ -1,15 +1,15 @@
 -- The longest line in order of each kind, and the longest that still can come of the lines called for.
 use Prim.Native.Nat.{ℕ, zero, suc, _+_, _*_, _/_, _^_, _≤_, _<_}
-use mathlib.Core.Path.{_≡_, refl, sym, ap, _∙_}
+use mathlib.Core.Path.{_≡_, refl}
 use mathlib.Core.Logic.{_⊎_, inl, inr}
 use mathlib.Core.Bool.{Bool, true, false}
 use mathlib.Core.List.{List, [], _∷_, _++_}
 use native.Mathlib.Nat.{mul-le-mul-right, suc-mul}
 use native.Mathlib.Omega.{arith}
 use lib.Dec.{ltb}
-use lib.IntN.{ℤ, pos, natAbs}
+use lib.IntN.{ℤ, pos}
 use lib.ListN.{length}
-use borrow.Author.Tests.{ltb-true, ltb-false, not-false}
+use borrow.Author.Tests.{ltb-true, ltb-false}
 use Rattle.whole.proofs.Tests.{by-test}
 use Rattle.field.specs.declared.Field.{Field}
 use Rattle.whole.specs.Digits.{digitsWithin, digits}
@@ -19,7 +19,6 @@ use Rattle.building.specs.declared.Building.{Building}
 use Rattle.building.specs.Building.{faults, buildingFault}
 use Rattle.building.specs.Places.{knows}
 use Rattle.building.proofs.Accepted.{within}
-use Rattle.building.proofs.Machine.{is-same}
 use Rattle.building.proofs.Places.{known-within}
 use Rattle.building.proofs.Ranges.{is-within}
 use Rattle.rules.specs.declared.Before.{Before}

@@ -1,9 +1,9 @@
 -- The first n of a list without one of them: those behind it move up, and the place that is then free holds d.
-use mathlib.Core.Path.{_≡_, sym, ap, ap₂, _∙_}
-use mathlib.Core.List.{List, [], _∷_, _++_, append-nil}
+use mathlib.Core.Path.{_≡_, sym, ap, _∙_}
+use mathlib.Core.List.{List, _∷_, _++_, append-nil}
 use Prim.Native.Nat.{ℕ, suc, _≤_, _<_}
 use native.Mathlib.Omega.{arith}
-use lib.ListN.{length, getD, take, drop, set, length-take, drop-of-length-le}
+use lib.ListN.{length, getD, take, drop, set, drop-of-length-le}
 use lib.Seq.{take-suc-set, take-set-lt, drop-set-lt, drop-cons, getD-take, length-take-le, append-snoc, set-split}
 
 module _ {A : Type 0} (d : A) (n : ℕ) where

@@ -4,11 +4,11 @@ use mathlib.Core.Path.{_≡_, refl, sym, ap, ap₂, _∙_, subst}
 use mathlib.Core.Logic.{_⊎_, inl, inr, ⊎-elim}
 use mathlib.Core.Bool.{Bool, true, false, true≢false}
 use mathlib.Core.List.{List, [], _∷_, _++_, map}
-use Prim.Native.Nat.{ℕ, _+_, _-_, _≤_, _<_}
+use Prim.Native.Nat.{ℕ, _+_, _-_, _≤_}
 use native.Mathlib.Omega.{arith}
 use lib.Dec.{ltb, eqb}
-use lib.IntN.{ℤ, pos, natAbs}
-use lib.ListN.{length, getD, take, drop, length-append, length-drop, length-map, List·getD-eq-default}
+use lib.IntN.{pos, natAbs}
+use lib.ListN.{length, take, drop, length-append, length-drop, length-map, List·getD-eq-default}
 use lib.Seq.{length-take-le}
 use borrow.Author.Tests.{ltb-true, ltb-false, eqb-true, ne-eqb}
 use Rattle.whole.specs.Lists.{firstOf, Every}
@@ -18,10 +18,9 @@ use Rattle.whole.proofs.Lists.{firstOf-take, firstOf-getD}
 use Rattle.whole.proofs.Pieces.{every-append, every-first, every-rest, map-append, firstOf-front}
 use Rattle.building.specs.Year.{hasHeights}
 use Rattle.building.proofs.Accepted as range
-use Rattle.rules.specs.declared.Before.{Before}
 use Rattle.rules.specs.declared.Section.the-variants.{F}
 use Rattle.rules.specs.declared.Kind.the-variants.{Entry}
-use Rattle.rules.specs.Sections.{forms, lineFault}
+use Rattle.rules.specs.Sections.{lineFault}
 use Rattle.rules.proofs.Line.{in-order}
 use Rattle.entry.specs.declared.Face.{Face}
 use Rattle.entry.specs.Says.{carriedFace, faceOf}
@@ -30,8 +29,7 @@ use Rattle.job.specs.declared.Job.{Job}
 use Rattle.job.specs.declared.Faces.{Faces}
 use Rattle.job.specs.Carried as job
 use Rattle.job.specs.Carried.{Carried, carried, noFace, before}
-use Rattle.job.specs.InOrder.{Within, FaceInOrder, HeightInOrder, OfYear1, OfLaterYear, InOrder}
-use Rattle.job.specs.Lines.{linesOf}
+use Rattle.job.specs.InOrder.{Within, FaceInOrder, HeightInOrder, InOrder}
 use Rattle.job.specs.Walk.{Accepted, verdict, judged}
 use Rattle.job.proofs.InOrder.{face-line, height-line, within-line, in-order-accepted}
 use Rattle.job.proofs.Lines.{face-back}

@@ -1,11 +1,10 @@
 -- A sheet whose first fault is at one of its faces: refused with that face's fault, at its line.
-use mathlib.Core.Path.{_≡_, refl, sym, ap, ap₂, _∙_, subst}
+use mathlib.Core.Path.{_≡_, refl, sym, ap, ap₂, _∙_}
 use mathlib.Core.Bool.{Bool, true, false}
-use mathlib.Core.List.{List, [], _∷_, _++_, map}
+use mathlib.Core.List.{List, [], _∷_, map}
 use Prim.Native.Nat.{ℕ, _+_, _<_}
 use native.Mathlib.Omega.{arith}
-use lib.Dec.{T}
-use lib.ListN.{length, getD, take, length-append, length-map}
+use lib.ListN.{length, getD, take, length-map}
 use Rattle.whole.specs.Lists.{Every}
 use Rattle.whole.proofs.Lists.{every-by, map-every, map-take, getD-map}
 use Rattle.verdict.specs.Verdict.{refusal}
@@ -13,14 +12,14 @@ use Rattle.field.specs.declared.Field.{Field}
 use Rattle.building.specs.Year.{hasHeights}
 use Rattle.rules.specs.declared.Section.{Section}
 use Rattle.rules.specs.declared.Section.the-variants.{«V», B, W, I, P, F}
-use Rattle.rules.specs.declared.Kind.the-variants.{Count, Entry}
+use Rattle.rules.specs.declared.Kind.the-variants.{Entry}
 use Rattle.rules.specs.Sections.{sections, lineFault}
 use Rattle.entry.specs.declared.Face.{Face}
 use Rattle.entry_written.specs.Fields.{faceFields}
 use Rattle.job.specs.Carried.{Carried, nothing, noFace, before, withFaces}
 use Rattle.job.specs.InOrder.{Within, InOrder}
-use Rattle.job.specs.Lines.{entriesOf, sectionsOf, sheetOf, linesOf, faceLine}
-use Rattle.job.specs.Walk.{Reading, Accepted, Refused, walk, readLines}
+use Rattle.job.specs.Lines.{entriesOf, sheetOf, linesOf, faceLine}
+use Rattle.job.specs.Walk.{Accepted, Refused, readLines}
 use Rattle.job.proofs.InOrder.{in-order-accepted}
 use Rattle.job.proofs.Walk.{learnAll, EntriesInOrder, entries-tell, every-entry}
 use Rattle.job.proofs.Sections.{Counted, section-refused}

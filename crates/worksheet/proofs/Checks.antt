@@ -1,15 +1,15 @@
 -- The verdict of an edit: refused for the first of its faults, and accepted where there is none.
 use mathlib.Core.Path.{_≡_, refl, sym, ap, _∙_}
-use mathlib.Core.Bool.{Bool, true, false, not}
-use Prim.Native.Nat.{ℕ, suc, _+_, _≤_, _<_}
+use mathlib.Core.Bool.{Bool, true, false}
+use Prim.Native.Nat.{ℕ, suc, _+_, _<_}
 use native.Mathlib.Omega.{arith}
 use lib.Dec.{ltb}
 use lib.IntN.{ℤ, pos, natAbs}
-use borrow.Author.Tests.{not-true, ltb-true, eq-eqb, ne-eqb}
+use borrow.Author.Tests.{not-true, ltb-true, ne-eqb}
 use Rattle.verdict.specs.declared.Verdict.{Verdict}
 use Rattle.verdict.specs.Verdict.{accepted, _orThen_, Refuses}
 use Rattle.verdict.proofs.After.{then-later, then-earlier, then-passed}
-use Rattle.building.specs.Test.{beyond, within, unless}
+use Rattle.building.specs.Test.{within, unless}
 use Rattle.building.proofs.Accepted.{Within}
 use Rattle.building.proofs.Accepted as range
 use Rattle.entry.specs.declared.Face.{Face}

@@ -10,7 +10,7 @@ use Rattle.entry.specs.declared.Face.{Face}
 use Rattle.job.specs.declared.Faces.{Faces}
 use Rattle.job.specs.Carried.{noFace}
 use Rattle.whole.proofs.Moved.{moved}
-use Rattle.worksheet.specs.Faces.{add, replace, takeOut, holding, added, replaced, takenOut}
+use Rattle.worksheet.specs.Faces.{replace, added, replaced, takenOut}
 
 abbrev pub faces : ℕ → List Face → Faces
 faces n l = record { count = n; entry = l }

@@ -1,14 +1,14 @@
 -- The line of a face in the sheet of a job, counted.
-use mathlib.Core.Path.{_≡_, refl, sym, ap, _∙_}
+use mathlib.Core.Path.{_≡_, refl, ap, _∙_}
 use mathlib.Core.Bool.{Bool, true, false, cond}
-use mathlib.Core.List.{List, [], _∷_, _++_, append-nil}
+use mathlib.Core.List.{List, [], _∷_}
 use Prim.Native.Nat.{ℕ, _+_}
 use native.Mathlib.Omega.{arith}
 use lib.ListN.{length, length-append}
 use Rattle.field.specs.declared.Field.{Field}
 use Rattle.building.specs.Year.{hasHeights}
 use Rattle.rules.specs.declared.Section.{Section}
-use Rattle.rules.specs.declared.Section.the-variants.{«V», B, W, I, P, F}
+use Rattle.rules.specs.declared.Section.the-variants.{P}
 use Rattle.rules.specs.Sections.{sections}
 use Rattle.job.specs.declared.Job.{Job}
 use Rattle.job.specs.Carried.{Carried, carried, withFaces}

@@ -1,8 +1,8 @@
 -- A new face that is refused gets the number and line that the sheet with it would get.
-use mathlib.Core.Path.{_≡_, refl, sym, ap, ap₂, _∙_, subst}
+use mathlib.Core.Path.{_≡_, refl, sym, ap, _∙_, subst}
 use mathlib.Core.Bool.{Bool, true, false}
-use mathlib.Core.List.{List, [], _∷_, _++_, map}
-use Prim.Native.Nat.{ℕ, _+_, _-_, _≤_, _<_}
+use mathlib.Core.List.{List, [], _∷_, _++_}
+use Prim.Native.Nat.{ℕ, _+_, _-_, _<_}
 use native.Mathlib.Omega.{arith}
 use lib.IntN.{ℤ, natAbs}
 use lib.ListN.{length, getD, take, drop, length-append, length-drop}
@@ -26,11 +26,11 @@ use Rattle.job.specs.InOrder.{Within, InOrder}
 use Rattle.job.specs.Lines.{entriesOf, sheetOf, linesOf, faceLine}
 use Rattle.job.specs.Walk.{Accepted, Refused, readLines, judged}
 use Rattle.job.proofs.InOrder.{in-order-accepted}
-use Rattle.job.proofs.Sheet.{saidBy, sheet-in-order, sheet-said, in-order-all}
-use Rattle.worksheet.specs.Edits.{Edit, Add, Replace, newFace}
+use Rattle.job.proofs.Sheet.{sheet-in-order, sheet-said, in-order-all}
+use Rattle.worksheet.specs.Edits.{Add, Replace, newFace}
 use Rattle.worksheet.proofs.Counts.{few-faces}
 use Rattle.worksheet.proofs.AtFace.{refused-at-face}
-use Rattle.worksheet.proofs.Accepted.{editCarried, after, carried-edited, many}
+use Rattle.worksheet.proofs.Accepted.{after, carried-edited, many}
 
 -- what is in order is read as it is written
 as-read : (c : Carried) → InOrder c → readLines (sheetOf (hasHeights (c .year)) (entriesOf c)) ≡ Accepted c

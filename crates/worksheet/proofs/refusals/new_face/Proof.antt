@@ -1,5 +1,5 @@
 -- `refusals::new_face`: the number first, and its line where there is one.
-use mathlib.Core.Path.{_≡_, sym, ap₂, _∙_}
+use mathlib.Core.Path.{sym, ap₂, _∙_}
 use borrow.Author.Needs.{needs}
 use Rattle.verdict.specs.Verdict.{accepted, refusal}
 use Rattle.verdict.proofs.After.{then-later, then-earlier}

@@ -1,5 +1,5 @@
 -- `refusals::of_take_out`: one check after the other.
-use mathlib.Core.Path.{_≡_, sym, ap, ap₂, _∙_}
+use mathlib.Core.Path.{sym, ap, ap₂, _∙_}
 use lib.IntN.{ℤ}
 use borrow.Author.Needs.{needs}
 use Rattle.whole.proofs.Size.{said}
