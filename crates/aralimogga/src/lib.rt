@@ -16,7 +16,8 @@ ghost use Rattle.panel.specs.Chart.{pointOf};
 ghost use Rattle.job.specs.Walk.{verdict, judged};
 ghost use Rattle.sheet.specs.Sheet.{reading, sheetText, jobWriting, jobBuffer};
 ghost use Rattle.report.specs.Report.{reportText};
-ghost use Rattle.worksheet.specs.Edits.{Add, Replace, TakeOut, opened, edited};
+ghost use Rattle.edits.specs.Edits.{Add, Replace, TakeOut};
+ghost use Rattle.worksheet.specs.Worksheet.{opened, edited};
 ghost use Rattle.answers.specs.Answers.{hostText, hostCoefficient, hostDouble, hostTotal};
 
 // ---- about a sheet

@@ -69,6 +69,9 @@ pub use Rattle.report.proofs.write_report.Reads as write-report
 pub use Rattle.report.proofs.write_totals.Reads as write-totals
 pub use Rattle.panel.proofs.panel_of.Reads as panel-of
 pub use Rattle.panel.proofs.chart.Reads as chart
+pub use Rattle.edits.proofs.add.Reads as add-face
+pub use Rattle.edits.proofs.replace.Reads as replace-face
+pub use Rattle.edits.proofs.take_out.Reads as take-out-face
 pub use Rattle.worksheet.proofs.open.Reads as open-sheet
 pub use Rattle.worksheet.proofs.add.Reads as add
 pub use Rattle.worksheet.proofs.replace.Reads as replace

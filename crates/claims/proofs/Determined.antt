@@ -276,6 +276,17 @@ no-extreme-determined κ a r r′ s s′ p q = same p q
 line-of-determined : OneAnswer of.line-of.Post
 line-of-determined κ a r r′ s s′ p q = same p q
 
+-- ---- edits
+
+add-face-determined : OneAnswer of.add-face.Post
+add-face-determined κ a r r′ s s′ p q = same p q
+
+replace-face-determined : OneAnswer of.replace-face.Post
+replace-face-determined κ a r r′ s s′ p q = same p q
+
+take-out-face-determined : OneAnswer of.take-out-face.Post
+take-out-face-determined κ a r r′ s s′ p q = same p q
+
 -- ---- worksheet
 
 open-sheet-determined : OneAnswer of.open-sheet.Post

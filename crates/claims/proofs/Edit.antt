@@ -18,9 +18,9 @@ use Rattle.job.specs.declared.Job.{Job}
 use Rattle.job.specs.Carried.{carried}
 use Rattle.job.specs.Lines.{linesOf, faceLine}
 use Rattle.job.specs.Walk.{verdict}
-use Rattle.worksheet.specs.Edits.{Edit, Add, Replace, TakeOut, heldJob, noSuchFace, full, onlyFace, newFace}
-use Rattle.worksheet.specs.Edits.{editVerdict}
-use Rattle.worksheet.proofs.Checks.{verdict-accepted}
+use Rattle.edits.specs.Edits.{Edit, Add, Replace, TakeOut, heldJob, noSuchFace, full, onlyFace, newFace}
+use Rattle.edits.specs.Edits.{editVerdict}
+use Rattle.edits.proofs.Checks.{verdict-accepted}
 use Rattle.claims.specs.Fault.{Faulty, at, Faultless}
 use Rattle.claims.specs.Edit.{There, faceFault, EditFault, held-job}
 use Rattle.claims.specs.Edit.{no-such-face, full-or-only, new-face}

@@ -22,13 +22,14 @@ use Rattle.sheet.specs.Sheet.{reading, sheetText, jobWriting, jobBuffer}
 use Rattle.report.specs.Report.{reportText}
 use Rattle.answers.specs.declared.Text.{Text}
 use Rattle.answers.specs.Answers.{hostText}
-use Rattle.worksheet.specs.declared.Worksheet.{Worksheet}
-use Rattle.worksheet.specs.declared.Edited.{Edited}
 use Rattle.building.proofs.Accepted as range
 use Rattle.building.proofs.Ranges.{is-within}
-use Rattle.worksheet.specs.Edits.{Edit, Add, Replace, TakeOut, editFaces, jobWith, edited}
-use Rattle.worksheet.proofs.Accepted.{edited-stays, refused-stays}
-use Rattle.worksheet.proofs.NewFace.{add-refused, replace-refused}
+use Rattle.edits.specs.Edits.{Edit, Add, Replace, TakeOut, editFaces, jobWith}
+use Rattle.edits.proofs.NewFace.{add-refused, replace-refused}
+use Rattle.worksheet.specs.declared.Worksheet.{Worksheet}
+use Rattle.worksheet.specs.declared.Edited.{Edited}
+use Rattle.worksheet.specs.Worksheet.{edited}
+use Rattle.worksheet.proofs.Stays.{edited-accepted, refused-stays}
 use Rattle.claims.specs.Contract.{Always}
 use Rattle.claims.specs.Fault.{Faultless}
 use Rattle.claims.specs.Edit.{There, faceFault, EditFault, new-face}
@@ -106,7 +107,7 @@ pub record NewFaceAsInSheet : Type 0 where
 step-stays : {u v : Worksheet} {r : Edited} (e : Edit) (w : Worksheet) (c : Carried) → judged (u .job) ≡ Accepted c
     → r ≡ edited e w → w ≡ u → r .worksheet ≡ v → (d : Carried) × (judged (v .job) ≡ Accepted d)
 step-stays {v = v} e w c a p q s =
-    let k = edited-stays e w c (ap (λ x. judged (x .job)) q ∙ a) in
+    let k = edited-accepted e w c (ap (λ x. judged (x .job)) q ∙ a) in
     (k .0, ap (λ x. judged (x .job)) (sym s ∙ ap (λ x. x .worksheet) p) ∙ k .1)
 
 one-step : (w v : Worksheet) (c : Carried) → judged (w .job) ≡ Accepted c → Step w v

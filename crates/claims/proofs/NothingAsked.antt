@@ -259,6 +259,17 @@ no-extreme-asks κ a = tt
 line-of-asks : AsksNothing of.line-of.Asked
 line-of-asks κ a = tt
 
+-- ---- edits
+
+add-face-asks : AsksNothing of.add-face.Asked
+add-face-asks κ a = tt
+
+replace-face-asks : AsksNothing of.replace-face.Asked
+replace-face-asks κ a = tt
+
+take-out-face-asks : AsksNothing of.take-out-face.Asked
+take-out-face-asks κ a = tt
+
 -- ---- worksheet
 
 open-sheet-asks : AsksNothing of.open-sheet.Asked

@@ -14,7 +14,7 @@ use Rattle.rules.specs.Sections.{about, lineFault}
 use Rattle.job.specs.declared.Job.{Job}
 use Rattle.job.specs.Carried.{before, carried}
 use Rattle.job.specs.Lines.{linesOf, faceLine}
-use Rattle.worksheet.specs.Edits.{Edit, Add, Replace, TakeOut}
+use Rattle.edits.specs.Edits.{Edit, Add, Replace, TakeOut}
 use Rattle.claims.specs.Fault.{Faulty, Faultless}
 
 module _ (j : Job) where

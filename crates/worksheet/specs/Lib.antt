@@ -1,3 +1,2 @@
--- What it is to edit the faces of a worksheet, and what each edit is refused for.
-pub mod Faces
-pub mod Edits
+-- A sheet opened as a worksheet, and a worksheet after an edit.
+pub mod Worksheet

@@ -1,16 +1,13 @@
-// A worksheet: a job whose faces a student adds, replaces and takes out. Each edit answers its refusal with the
-// worksheet as it was, or the worksheet after it.
-use building::year::has_heights;
+// A worksheet: a job held while a student edits its faces. Each edit answers its refusal with the worksheet as it was,
+// or the worksheet after it.
+use edits::EditedJob;
 use entry::Face;
-use entry::says::carried_face;
 use job::Job;
 use verdict::Verdict;
 ghost use mathlib.Core.Path.{_≡_};
 ghost use Rattle.sheet.specs.Sheet.{reading};
-ghost use Rattle.worksheet.specs.Edits.{Add, Replace, TakeOut, opened, edited};
-
-mod faces;
-mod refusals;
+ghost use Rattle.edits.specs.Edits.{Edit, Add, Replace, TakeOut, editedJob};
+ghost use Rattle.worksheet.specs.Worksheet.{opened, edited};
 
 // It holds its faces in place.
 #[repr(C)]
@@ -35,55 +32,39 @@ pub fn open(s: &[u8]) -> Edited
     Edited { verdict, worksheet }
 }
 
-// A refused edit leaves the worksheet the same.
-fn refused(v: Verdict, w: Worksheet) -> Edited
-    ensures { λ r. ⌜ r ≡ record { verdict = v; worksheet = w } ⌝ }
+// The answer to an edit, from that to the same edit of its job. A refused edit leaves the worksheet the same.
+fn answer(w: Worksheet, to: EditedJob) -> Edited
+    ensures { λ r. ⌜ ((e : Edit) → to ≡ editedJob e (w .job) → r ≡ edited e w) ⌝ }
 {
-    Edited {
-        verdict: v,
-        worksheet: w,
+    let verdict = to.verdict;
+    if verdict.number != 0 {
+        return Edited {
+            verdict,
+            worksheet: w,
+        };
     }
+    let job = to.job;
+    let worksheet = Worksheet { job };
+    Edited { verdict, worksheet }
 }
 
 // A face at the end.
 pub fn add(w: Worksheet, f: Face) -> Edited
     ensures { λ r. ⌜ r ≡ edited (Add f) w ⌝ }
 {
-    let j = w.job;
-    let v = refusals::of_add(j, f);
-    if v.number != 0 {
-        return refused(v, w);
-    }
-    let held = j.faces;
-    let new = carried_face(has_heights(j.year), f);
-    faces::with(j, faces::added(held, new))
+    answer(w, edits::add(w.job, f))
 }
 
 // Another face in the place of face k, from 1.
 pub fn replace(w: Worksheet, k: i64, f: Face) -> Edited
     ensures { λ r. ⌜ r ≡ edited (Replace k f) w ⌝ }
 {
-    let j = w.job;
-    let v = refusals::of_replace(j, k, f);
-    if v.number != 0 {
-        return refused(v, w);
-    }
-    let held = j.faces;
-    let new = carried_face(has_heights(j.year), f);
-    let n = whole::magnitude(k) as usize;
-    faces::with(j, faces::replaced(held, n, new))
+    answer(w, edits::replace(w.job, k, f))
 }
 
 // No face k, from 1: later faces move up.
 pub fn take_out(w: Worksheet, k: i64) -> Edited
     ensures { λ r. ⌜ r ≡ edited (TakeOut k) w ⌝ }
 {
-    let j = w.job;
-    let v = refusals::of_take_out(j, k);
-    if v.number != 0 {
-        return refused(v, w);
-    }
-    let held = j.faces;
-    let n = whole::magnitude(k) as usize;
-    faces::with(j, faces::taken_out(held, n))
+    answer(w, edits::take_out(w.job, k))
 }

@@ -2,7 +2,8 @@
 use lib.IntN.{ℤ}
 use borrow.Author.Needs.{needs}
 use Rattle.whole.proofs.Size.{said}
-use Rattle.worksheet.specs.Edits.{Replace, edited}
+use Rattle.edits.specs.Edits.{Replace}
+use Rattle.worksheet.specs.Worksheet.{edited}
 use Rattle.aralimogga.proofs.aral_replace.Statement.{statement}
 use Rattle.aralimogga.proofs.aral_replace.Tie as tie
 

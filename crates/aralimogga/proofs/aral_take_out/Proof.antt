@@ -2,7 +2,8 @@
 use lib.IntN.{ℤ}
 use borrow.Author.Needs.{needs}
 use Rattle.whole.proofs.Size.{said}
-use Rattle.worksheet.specs.Edits.{TakeOut, edited}
+use Rattle.edits.specs.Edits.{TakeOut}
+use Rattle.worksheet.specs.Worksheet.{edited}
 use Rattle.aralimogga.proofs.aral_take_out.Statement.{statement}
 use Rattle.aralimogga.proofs.aral_take_out.Tie as tie
 

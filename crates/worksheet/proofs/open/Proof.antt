@@ -6,7 +6,7 @@ use Rattle.job.specs.Walk.{Reading, Accepted, Refused}
 use Rattle.sheet.specs.declared.read.Read.{Read}
 use Rattle.sheet.specs.Sheet.{reading, answer}
 use Rattle.worksheet.specs.declared.Edited.{Edited}
-use Rattle.worksheet.specs.Edits.{opened}
+use Rattle.worksheet.specs.Worksheet.{opened}
 use Rattle.worksheet.proofs.open.Statement.{statement}
 use Rattle.worksheet.proofs.open.Tie as tie
 

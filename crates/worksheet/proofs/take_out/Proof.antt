@@ -1,74 +1,17 @@
--- `take_out`: refused, or the faces without one.
-use mathlib.Core.Path.{_≡_, refl, sym, ap, _∙_}
-use Prim.Native.Nat.{ℕ}
-use native.Mathlib.Omega.{arith}
-use lib.IntN.{ℤ, natAbs}
+-- `take_out`: the edit of its job, answered.
+use lib.IntN.{ℤ}
 use borrow.Author.Needs.{needs}
 use Rattle.whole.proofs.Size.{said}
-use Rattle.verdict.specs.declared.Verdict.{Verdict}
-use Rattle.building.proofs.Accepted.{Within}
-use Rattle.worksheet.specs.Faces.{takenOut}
-use Rattle.worksheet.specs.Edits.{TakeOut, heldJob, noSuchFace, onlyFace, editVerdict, editFaces}
-use Rattle.worksheet.proofs.Counts.{held-in-order, few-faces}
-use Rattle.worksheet.proofs.Checks.{Passed, take-out-passed, there-is, edit-refused, edit-taken}
+use Rattle.edits.specs.Edits.{TakeOut, editedJob}
 use Rattle.worksheet.proofs.take_out.Statement.{statement}
 use Rattle.worksheet.proofs.take_out.Tie as tie
 
-verdict-is : (c : tie.After-of-take-out) → let a = c .before .before .args in
-    c .of-take-out .result ≡ editVerdict (TakeOut (a .k)) (a .w .job)
-verdict-is c =
-    let s = c .before .before in
-    said (λ (k : ℤ). editVerdict (TakeOut k) (s .args .w .job)) (s .args .k) (c .of-take-out .ensures)
-    (s .fits .k .sfits)
-
 returns : tie.Need-returns
 returns c =
-    let t = c .before in
-    let v = t .before .before in
-    let a = v .before .before .args in
-    c .refused .ensures
-    ∙ edit-refused (TakeOut (a .k)) (a .w) (verdict-is v) (t .if1 .taken)
-
--- the edit is not refused
-module _ (c : tie.After-magnitude) where
-  abbrev fine : tie.Else1
-  fine = c .before .before
-
-  abbrev judged : tie.After-of-take-out
-  judged = fine .before .before
-
-  abbrev start : tie.Start
-  start = judged .before .before
-
-  size-is : c .magnitude .result ≡ natAbs (start .args .k)
-  size-is = said natAbs (start .args .k) (c .magnitude .ensures) (start .fits .k .sfits)
-
-  passed : Passed (heldJob (start .args .w .job)) (noSuchFace (start .args .k) (start .args .w .job)) (onlyFace
-      (start .args .w .job))
-  passed =
-      take-out-passed (start .args .w .job) (start .args .k)
-      (sym (ap (λ (v : Verdict). v .number) (verdict-is judged)) ∙ fine .if1 .left)
-
-  there : Within 1 (start .args .w .job .faces .count) (start .args .k)
-  there = there-is (start .args .w .job) (start .args .k) (passed .second)
-
-taken-out-requires : tie.Need-taken-out-requires
-taken-out-requires c κs =
-    let j = start c .args .w .job in
-    let few = few-faces j (held-in-order j (heldJob j) refl (passed c .first)) in
-    (omega (arith, size-is c, there c .from), omega (arith, size-is c, there c .to), few .1)
-
-returns-2 : tie.Need-returns-2
-unfolding editFaces
-returns-2 c =
     let d = c .before in
-    let n = d .before in
-    let a = start n .args in
-    edit-taken (TakeOut (a .k)) (a .w) (verdict-is (judged n)) (fine n .if1 .left) (c .with .ensures)
-    (d .taken-out .ensures ∙ ap (λ (k : ℕ). takenOut k (a .w .job .faces)) (size-is n))
+    let s = d .before in
+    c .answer .ensures (TakeOut (s .args .k))
+    (said (λ (k : ℤ). editedJob (TakeOut k) (s .args .w .job)) (s .args .k) (d .take-out .ensures) (s .fits .k .sfits))
 
 pub take-out-spec : {M : Type 1} → statement M
-take-out-spec =
-    tie.close
-    (tie.spec (λ c κs. search needs) (λ c κs. search needs) returns (λ c κs. search needs) taken-out-requires
-    (λ c κs. search needs) returns-2)
+take-out-spec = tie.close (tie.spec (λ c κs. search needs) (λ c κs. search needs) returns)
