@@ -97,3 +97,5 @@ pub use Rattle.aralimogga.proofs.aral_net.Reads as aral-net
 pub use Rattle.aralimogga.proofs.aral_digits.Reads as aral-digits
 pub use Rattle.aralimogga.proofs.aral_panel.Reads as aral-panel
 pub use Rattle.aralimogga.proofs.aral_chart.Reads as aral-chart
+pub use Rattle.unkept.proofs.unkept_replace.Reads as unkept-replace
+pub use Rattle.unkept.proofs.unkept_show.Reads as unkept-show

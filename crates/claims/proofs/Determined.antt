@@ -347,3 +347,11 @@ aral-panel-determined κ a r r′ s s′ p q = same p q
 
 aral-chart-determined : OneAnswer of.aral-chart.Post
 aral-chart-determined κ a r r′ s s′ p q = same p q
+
+-- ---- unkept
+
+unkept-replace-determined : OneAnswer of.unkept-replace.Post
+unkept-replace-determined κ a r r′ s s′ p q = same p q
+
+unkept-show-determined : OneAnswerAndBuffer of.unkept-show.Post (λ κ s. now (s .1 .0))
+unkept-show-determined κ a r r′ s s′ p q = same-both p q

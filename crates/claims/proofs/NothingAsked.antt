@@ -330,3 +330,11 @@ aral-panel-asks κ a = tt
 
 aral-chart-asks : AsksNothing of.aral-chart.Asked
 aral-chart-asks κ a = tt
+
+-- ---- unkept
+
+unkept-replace-asks : AsksNothing of.unkept-replace.Asked
+unkept-replace-asks κ a = tt
+
+unkept-show-asks : AsksNothing of.unkept-show.Asked
+unkept-show-asks κ a = tt

@@ -101,3 +101,9 @@ aral-digits-unchanged : RefusedUnchanged of.aral-digits.Post (λ κ r. Refuses (
 aral-digits-unchanged κ a r s p h =
     let w = writing (decimal (a .0)) (now (a .1 .0)) in
     text-kept (decimal (a .0)) (now (a .1 .0)) (refl, p .1) (host-refused w (p .0) h)
+
+unkept-show-unchanged : RefusedUnchanged of.unkept-show.Post (λ κ r. Refuses (r .verdict)) (λ κ a. now (a .1 .0))
+    (λ κ s. now (s .1 .0))
+unkept-show-unchanged κ a r s p h =
+    let w = jobWriting reportText (judged (a .0)) (now (a .1 .0)) in
+    job-kept reportText (judged (a .0)) (now (a .1 .0)) (refl, p .1) (host-refused w (p .0) h)
