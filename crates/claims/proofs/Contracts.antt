@@ -65,6 +65,8 @@ pub use Rattle.job.proofs.judge.new_face_fault.Reads as new-face-fault
 pub use Rattle.sheet.proofs.read.read_sheet.Reads as read-sheet
 pub use Rattle.sheet_written.proofs.write_sheet.Reads as write-sheet
 pub use Rattle.worst.proofs.worst_cases.Reads as worst-cases
+pub use Rattle.worst.proofs.sums_of.Reads as sums-of
+pub use Rattle.worst.proofs.worst_stored.Reads as worst-stored
 pub use Rattle.report.proofs.write_report.Reads as write-report
 pub use Rattle.report.proofs.write_totals.Reads as write-totals
 pub use Rattle.panel.proofs.panel_of.Reads as panel-of

@@ -240,6 +240,12 @@ write-sheet-determined κ a r r′ s s′ p q = same-both p q
 worst-cases-determined : OneAnswer of.worst-cases.Post
 worst-cases-determined κ a r r′ s s′ p q = same p q
 
+sums-of-determined : OneAnswer of.sums-of.Post
+sums-of-determined κ a r r′ s s′ p q = same p q
+
+worst-stored-determined : OneAnswer of.worst-stored.Post
+worst-stored-determined κ a r r′ s s′ p q = same p q
+
 -- ---- report
 
 write-report-determined : OneAnswerAndBuffer of.write-report.Post (λ κ s. now (s .1 .0))

@@ -223,6 +223,12 @@ write-sheet-asks κ a = tt
 worst-cases-asks : AsksNothing of.worst-cases.Asked
 worst-cases-asks κ a = tt
 
+sums-of-asks : AsksNothing of.sums-of.Asked
+sums-of-asks κ a = tt
+
+worst-stored-asks : AsksNothing of.worst-stored.Asked
+worst-stored-asks κ a = tt
+
 -- ---- report
 
 write-report-asks : AsksNothing of.write-report.Asked

@@ -7,6 +7,7 @@ use lib.Dec.{eqb}
 use Rattle.job.specs.declared.Job.{Job}
 use Rattle.worst.specs.declared.Side.{Side}
 use Rattle.worst.specs.declared.Axis.{Axis}
+use Rattle.worst.specs.declared.Stored.{Stored}
 use Rattle.worst.specs.declared.tops.Top.{Top}
 use Rattle.worst.specs.Best.{short, Best, none, at, better}
 use Rattle.worst.specs.Cases.{numbers}
@@ -44,33 +45,34 @@ module _ {A : Type 0} (s : Side) (P : A → Type 0) where
       better-found (g k) (over s g (numbers (suc n) (suc k))) (f k (omega arith) (omega arith))
       (over-found g (suc n) (suc k) (omega arith) (λ x l u. f x (omega arith) (omega arith)))
 
-module _ (j : Job) (h : Ready j) (axis : Axis) (s : Side) where
+module _ (axis : Axis) (s : Side) (t : Stored) (j : Job) (h : Ready j) where
   -- a cell of one of the job's winds
   abbrev Counts : Cell → Type 0
   Counts t = (0 < t .wind) × (t .wind ≤ j .winds .count)
 
   abbrev best : Best Cell
-  best = bestUpTo axis s j (j .winds .count)
+  best = bestUpTo axis s t (j .internals .count) (j .winds .count)
 
   best-found : Found Counts best
   best-found =
-      over-found s Counts (windBest axis s j) (j .winds .count) 1 (h .someWind)
+      over-found s Counts (windBest axis s t (j .internals .count)) (j .winds .count) 1 (h .someWind)
       (λ w low high.
       over-found s Counts _ (j .internals .count) 1 (h .someInternal) (λ i l u. (omega arith, omega arith)))
 
   -- the best cell, as a top has it
-  pub record IsTop (t : Top) : Type 0 where
-    pub onJob : OnJob j t
-    pub best : at (t .total) (cell (t .wind) (t .internal)) ≡ bestUpTo axis s j (j .winds .count)
+  pub record IsTop (e : Top) : Type 0 where
+    pub onJob : OnJob j e
+    pub best : at (e .total) (cell (e .wind) (e .internal))
+        ≡ bestUpTo axis s t (j .internals .count) (j .winds .count)
 
-  pub is-top : (t : Top) → topOf t ≡ best → IsTop t
-  is-top t e = go (eqb (t .wind) 0) refl (subst (Found Counts) (sym e) best-found)
+  pub is-top : (e : Top) → topOf e ≡ best → IsTop e
+  is-top e q = go (eqb (e .wind) 0) refl (subst (Found Counts) (sym q) best-found)
     where
-      go : (z : Bool) → eqb (t .wind) 0 ≡ z → Found Counts (topOf t) → IsTop t
+      go : (z : Bool) → eqb (e .wind) 0 ≡ z → Found Counts (topOf e) → IsTop e
       go true z f = absurd (rw z at f)
       go false z f =
           let counts = rw z at f in
           record {
             onJob = record { wind = counts .0; wind≤ = counts .1 };
-            best = sym (ap (λ b. cond b none (at (t .total) (cell (t .wind) (t .internal)))) z) ∙ e;
+            best = sym (ap (λ b. cond b none (at (e .total) (cell (e .wind) (e .internal)))) z) ∙ q;
           }

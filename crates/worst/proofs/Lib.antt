@@ -11,6 +11,7 @@ pub mod Quick  -- the quick way finds the worst of all cases
 -- ---- numbers and lists as the code has them
 pub mod Lists  -- numbers in order
 pub mod Padded  -- arrays filled from their start
+pub mod StoredSums  -- stored cells
 pub mod ReadBack  -- a signed result read back
 pub mod AtHeight  -- the factor at a height, and the speed there
 pub mod Climb  -- the factor within a rising profile
@@ -23,9 +24,10 @@ pub mod OneFace  -- the best of its alternatives
 pub mod Added  -- faces added up
 pub mod CarriedFaces  -- faces without their heights
 pub mod Found  -- a job has a best cell
-pub mod AllCells  -- which is the worst of all its cases
+pub mod AllCells  -- which is what stored sums tell, and its own the worst of all its cases
 -- ---- jobs
 pub mod Demand  -- the third demand, for what a job gives
 pub mod Accepted  -- what an accepted job gives
+pub mod JobSums  -- the sums of a job
 pub mod Promises  -- the third demand, for accepted jobs
 pub mod Reckoned  -- refused, or accepted as what it carries

@@ -13,12 +13,9 @@ use lib.Seq.{getD-set-same, getD-set-other}
 use Rattle.whole.proofs.Tests.{by-test}
 use Rattle.building.specs.declared.Building.{Building}
 use Rattle.building.specs.Places.{A}
-use Rattle.entry.specs.declared.Wind.{Wind}
-use Rattle.entry.specs.declared.Face.{Face}
 use Rattle.worst.specs.declared.outside.Outside.{Outside}
 use Rattle.worst.specs.Table.{outsideAt, places, placeOf, Placed, directionAt, zoneAt, standing, Stands}
-use Rattle.worst.specs.Table.{Filled, StillStand}
-use Rattle.worst.specs.Small.{StandsFor}
+use Rattle.worst.specs.Table.{Filled}
 
 -- ---- places
 
@@ -91,26 +88,11 @@ module _ (b : Building) (asked : List Bool) (f l : List ℤ) (was : Filled b ask
       (λ q. let t = eqb-false n place q in there n t (s t))
 
   -- said of what is stored at k, which is the place
-  pub record Stored (k : ℕ) : Type 0 where
-    pub filled′ : Filled b (set asked k true) (set f k (o .first)) (set l k (o .last))
-    pub still : StillStand b f l (set f k (o .first)) (set l k (o .last))
-    pub stands : Stands b (set f k (o .first)) (set l k (o .last)) place
-
-  pub stored : (k : ℕ) → k ≡ place → Stored k
+  pub stored : (k : ℕ) → k ≡ place → Filled b (set asked k true) (set f k (o .first)) (set l k (o .last))
   stored k q =
-      subst Stored (sym q)
+      subst (λ n. Filled b (set asked n true) (set f n (o .first)) (set l n (o .last))) (sym q)
       (record {
-        filled′ =
-            record {
-              firsts = length-set f place (o .first) ∙ was .firsts;
-              lasts = length-set l place (o .last) ∙ was .lasts;
-              stand = λ n r. by-place n (λ t. was .stand n (sym (getD-set-other asked place n true false t) ∙ r));
-            };
-        still = λ n s. by-place n (λ t. s);
-        stands = here;
+        firsts = length-set f place (o .first) ∙ was .firsts;
+        lasts = length-set l place (o .last) ∙ was .lasts;
+        stand = λ n r. by-place n (λ t. was .stand n (sym (getD-set-other asked place n true false t) ∙ r));
       })
-
--- what stood for a face stands for it
-pub still-for : {b : Building} {w : Wind} {f : Face} {first last first′ last′ : List ℤ}
-    → StillStand b first last first′ last′ → StandsFor b w f first last → StandsFor b w f first′ last′
-still-for {w = w} {f = f} h s = record { stands = λ e. h (placeOf (w .direction) (f .zone)) (s .stands e) }

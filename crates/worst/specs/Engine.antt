@@ -1,9 +1,10 @@
 -- What the engine's own records say. Only contracts of private functions cite it.
+use mathlib.Core.Path.{_≡_}
 use mathlib.Core.Bool.{cond}
 use mathlib.Core.List.{List, map}
-use Prim.Native.Nat.{ℕ, _-_}
+use Prim.Native.Nat.{ℕ, _-_, _≤_, _<_}
 use lib.IntN.{ℤ, pos, _+ℤ_, _-ℤ_, _*ℤ_}
-use lib.ListN.{getD}
+use lib.ListN.{length, getD}
 use lib.Dec.{eqb}
 use Rattle.whole.specs.Lists.{firstOf}
 use Rattle.building.specs.declared.Building.{Building}
@@ -19,6 +20,9 @@ use Rattle.worst.specs.declared.Side.{Side}
 use Rattle.worst.specs.declared.Side.the-variants.{Greatest, Least}
 use Rattle.worst.specs.declared.Axis.{Axis}
 use Rattle.worst.specs.declared.Axis.the-variants.{X, Y, Z}
+use Rattle.worst.specs.declared.Span.{Span}
+use Rattle.worst.specs.declared.StoredCell.{StoredCell}
+use Rattle.worst.specs.declared.Stored.{Stored}
 use Rattle.worst.specs.declared.Extreme.{Extreme}
 use Rattle.worst.specs.declared.Extremes.{Extremes}
 use Rattle.worst.specs.declared.Six.{Six}
@@ -29,13 +33,13 @@ use Rattle.worst.specs.declared.sums.Axes.{Axes}
 use Rattle.worst.specs.declared.tops.Top.{Top}
 use Rattle.worst.specs.declared.tops.Tops.{Tops}
 use Rattle.worst.specs.declared.tops.Ends.{Ends}
-use Rattle.worst.specs.declared.chosen.Blown.{Blown}
 use Rattle.worst.specs.Best.{short, Best, none, at}
 use Rattle.worst.specs.Cases.{numbers}
 use Rattle.worst.specs.Speed.{speedAt}
 use Rattle.worst.specs.Forces.{acts, factorOf, pressure, area}
 use Rattle.worst.specs.Factors.{profileOf}
 use Rattle.worst.specs.Shown.{padded}
+use Rattle.worst.specs.Stored.{storedCells, noCell, storedAt}
 use Rattle.worst.specs.Quick.{over, sum}
 use Rattle.worst.specs.Table.{outsideAt}
 
@@ -167,28 +171,36 @@ windNumbered ws w = getD (ws .entry) (w - 1) noWind
 abbrev pub internalNumbered : Internals → ℕ → ℤ
 internalNumbered is i = getD (is .entry) (i - 1) (pos 0)
 
--- the best of one cell; of a wind's cells; and of the cells of the first n winds
-abbrev pub cellBest : Side → Sums → Internals → ℕ → ℕ → Best Cell
-cellBest s p is w i = at (cellTotal s p (internalNumbered is i)) (cell w i)
-
-abbrev pub cellsBest : Side → Sums → Internals → ℕ → Best Cell
-cellsBest s p is w = over s (cellBest s p is w) (numbers (is .count) 1)
-
 -- the sums of a job's faces under a wind
 abbrev pub axesUnder : Job → Wind → Axes
 axesUnder j w = axesOf (j .building) (profileOf j) w (facesOf (j .faces))
 
-abbrev pub windBest : Axis → Side → Job → ℕ → Best Cell
-windBest axis s j w = cellsBest s (sumsOn axis (axesUnder j (windNumbered (j .winds) w))) (j .internals) w
+-- what is stored of a cell
+abbrev pub spanWith : Sums → ℤ → Span
+spanWith p internal = record { greatest = cellTotal Greatest p internal; least = cellTotal Least p internal }
 
-abbrev pub bestUpTo : Axis → Side → Job → ℕ → Best Cell
-bestUpTo axis s j n = over s (windBest axis s j) (numbers n 1)
+abbrev pub cellWith : Axes → ℤ → StoredCell
+cellWith p internal =
+    record { x = spanWith (p .x) internal; y = spanWith (p .y) internal; z = spanWith (p .z) internal }
+
+-- n cells stand as h has them, and zeros behind them
+pub record UpTo (h : ℕ → StoredCell) (n : ℕ) (l : List StoredCell) : Type 0 where
+  pub all : length l ≡ storedCells
+  pub stand : (k : ℕ) → k < n → getD l k noCell ≡ h k
+  pub rest : (k : ℕ) → n ≤ k → getD l k noCell ≡ noCell
+
+-- the best by what is stored: of one cell; of the cells of a wind with so many internal coefficients; and of those of
+-- the first n winds
+abbrev pub storedBest : Axis → Side → Stored → ℕ → ℕ → Best Cell
+storedBest axis s t w i = at (storedAt axis s t w i) (cell w i)
+
+abbrev pub windBest : Axis → Side → Stored → ℕ → ℕ → Best Cell
+windBest axis s t internals w = over s (storedBest axis s t w) (numbers internals 1)
+
+abbrev pub bestUpTo : Axis → Side → Stored → ℕ → ℕ → Best Cell
+bestUpTo axis s t internals n = over s (windBest axis s t internals) (numbers n 1)
 
 -- ---- the cell that was found, as it is shown
-
-abbrev pub blownOn : Side → Blown → Wind
-blownOn Greatest x = x .greatest
-blownOn Least x = x .least
 
 abbrev pub alternativesOf : Axis → Side → Building → List Step → Wind → List Face → List ℕ
 alternativesOf axis s b profile w fs = padded 24 (map (λ f. pickOf s axis b w (factorOf profile f) f) fs)

@@ -1,7 +1,4 @@
 -- What the numbers of an acceptable job can come to. Only contracts of private functions cite it.
-use mathlib.Core.Path.{_≡_}
-use mathlib.Core.Bool.{true}
-use mathlib.Core.List.{List}
 use Prim.Native.Nat.{ℕ, _*_, _≤_, _<_}
 use lib.IntN.{ℤ, pos, natAbs}
 use lib.Signed.{_≤ℤ_}
@@ -17,9 +14,9 @@ use Rattle.worst.specs.declared.outside.Outside.{Outside}
 use Rattle.worst.specs.declared.sums.Sums.{Sums}
 use Rattle.worst.specs.declared.sums.Axes.{Axes}
 use Rattle.worst.specs.declared.tops.Top.{Top}
-use Rattle.worst.specs.Forces.{acts, factorOf}
+use Rattle.worst.specs.Forces.{factorOf}
 use Rattle.worst.specs.Factors.{Fraction, Profiled, profileOf}
-use Rattle.worst.specs.Table.{outsideAt, placeOf, Placed, Stands}
+use Rattle.worst.specs.Table.{outsideAt, Placed}
 
 pub record OutsideSmall (o : Outside) : Type 0 where
   pub first : natAbs (o .first) ≤ 1200
@@ -83,12 +80,3 @@ pub record Ready (j : Job) : Type 0 where
 pub record OnJob (j : Job) (t : Top) : Type 0 where
   pub wind : 0 < t .wind
   pub wind≤ : t .wind ≤ j .winds .count
-
--- ---- what stands in the table of coefficients
-
--- those of a face, where it acts
-pub record StandsFor (b : Building) (w : Wind) (f : Face) (first last : List ℤ) : Type 0 where
-  pub stands : acts f (w .direction) ≡ true → Stands b first last (placeOf (w .direction) (f .zone))
-
-abbrev pub StandForAll : Building → Wind → Faces → List ℤ → List ℤ → Type 0
-StandForAll b w fs first last = (i : ℕ) → i < fs .count → StandsFor b w (getD (fs .entry) i noFace) first last

@@ -54,7 +54,3 @@ pub record Filled (b : Building) (asked : List Bool) (first last : List ℤ) : T
   pub firsts : length first ≡ places
   pub lasts : length last ≡ places
   pub stand : (k : ℕ) → getD asked k false ≡ true → Stands b first last k
-
--- what stood before stands after
-abbrev pub StillStand : Building → List ℤ → List ℤ → List ℤ → List ℤ → Type 0
-StillStand b first last first′ last′ = (k : ℕ) → Stands b first last k → Stands b first′ last′ k

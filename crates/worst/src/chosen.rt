@@ -1,15 +1,13 @@
 // The six cases that were found, with their alternatives: under its wind each face goes as far as it can.
 ghost use mathlib.Core.Path.{_≡_};
-ghost use Prim.Native.Nat.{ℕ, _<_};
-ghost use lib.ListN.{getD};
-ghost use Rattle.job.specs.Carried.{noWind};
+ghost use Prim.Native.Nat.{_<_};
 ghost use Rattle.worst.specs.declared.Axis.{Axis};
 ghost use Rattle.worst.specs.declared.Side.{Side};
 ghost use Rattle.worst.specs.Forces.{area};
-ghost use Rattle.worst.specs.Engine.{pick, pickOf, endOf, topAt, windNumbered, blownOn};
-ghost use Rattle.worst.specs.Engine.{withAlternatives, sixOf};
+ghost use Rattle.worst.specs.Engine.{pick, pickOf, endOf, topAt, windNumbered, withAlternatives, extremesOf};
+ghost use Rattle.worst.specs.Engine.{sixOf};
 ghost use Rattle.worst.specs.Small.{OutsideSmall, Weight, Met, Ready, OnJob};
-ghost use Rattle.worst.specs.Small.{StandsFor, StandForAll};
+ghost use Rattle.worst.specs.Table.{Filled};
 ghost use Rattle.worst.specs.Factors.{profileOf, Fraction, FactorsStand, Fractions};
 use crate::Axis;
 use crate::Extreme;
@@ -17,7 +15,7 @@ use crate::Extremes;
 use crate::Side;
 use crate::Six;
 use crate::outside::Outside;
-use crate::outside::at_place;
+use crate::outside::found;
 use crate::outside::takes_part;
 use crate::speeds::Factor;
 use crate::speeds::factor_in;
@@ -62,24 +60,20 @@ fn alternative(
     w: Wind,
     factor: Factor,
     f: Face,
-    first: &[i64; 40],
-    last: &[i64; 40],
+    asked: &mut [bool; 40],
+    first: &mut [i64; 40],
+    last: &mut [i64; 40],
 ) -> u8
-    requires { ⌜ Met b w f × Fraction factor × StandsFor b w f (now first) (now last) ⌝ }
-    ensures { λ r. ⌜ r ≡ pickOf side axis b w factor f ⌝ }
+    requires { ⌜ Met b w f × Fraction factor × Filled b (now asked) (now first) (now last) ⌝ }
+    ensures { λ r. ⌜ (r ≡ pickOf side axis b w factor f)
+        × Filled b (now (asked .exit)) (now (first .exit)) (now (last .exit)) ⌝ }
 {
     if takes_part(f, w) {
-        let o = at_place(w, f, first, last);
+        let o = found(b, w, f, asked, first, last);
         let p = pressure_of(b, w, factor);
         return picked(side, o, p * area_on(axis, f));
     }
     1
-}
-
-// The winds of the two cases of an axis.
-struct Blown {
-    greatest: Wind,
-    least: Wind,
 }
 
 // The wind of a number, from 1.
@@ -89,15 +83,6 @@ fn wind_of(winds: Winds, number: u32) -> Wind
 {
     let k = (number - 1) as usize;
     winds.entry[k]
-}
-
-fn winds_of(winds: Winds, tops: Tops) -> Blown
-    requires { ⌜ ((s : Side) → (0 < endOf s tops .wind) × (endOf s tops .wind < 9)) ⌝ }
-    ensures { λ r. ⌜ ((s : Side) → blownOn s r ≡ windNumbered winds (endOf s tops .wind)) ⌝ }
-{
-    let greatest = wind_of(winds, tops.greatest.wind);
-    let least = wind_of(winds, tops.least.wind);
-    Blown { greatest, least }
 }
 
 // The two cases of an axis, with the alternatives of each.
@@ -121,49 +106,61 @@ fn extremes(tops: Tops, faces: u32, high: [u8; 24], low: [u8; 24]) -> Extremes
     Extremes { greatest, least }
 }
 
-// One pass over the faces for all six.
-pub(crate) fn shown(
+// The two cases of one axis, in one pass over the faces.
+fn extremes_on(
+    axis: Axis,
     job: Job,
-    ends: Ends,
+    tops: Tops,
     parts: &[i64; 24],
     wholes: &[i64; 24],
-    first: &[i64; 40],
-    last: &[i64; 40],
-) -> Six
+    asked: &mut [bool; 40],
+    first: &mut [i64; 40],
+    last: &mut [i64; 40],
+) -> Extremes
     requires { ⌜ Ready job × Fractions (job .faces) (now parts) (now wholes)
         × FactorsStand (profileOf job) (job .faces) (now parts) (now wholes)
-        × ((axis : Axis) (s : Side) → OnJob job (topAt axis s ends))
-        × ((k : ℕ) → k < job .winds .count
-        → StandForAll (job .building) (getD (job .winds .entry) k noWind) (job .faces) (now first) (now last)) ⌝ }
-    ensures { λ r. ⌜ r ≡ sixOf job ends ⌝ }
+        × ((s : Side) → OnJob job (endOf s tops))
+        × Filled (job .building) (now asked) (now first) (now last) ⌝ }
+    ensures { λ r. ⌜ (r ≡ extremesOf axis job tops)
+        × Filled (job .building) (now (asked .exit)) (now (first .exit)) (now (last .exit)) ⌝ }
 {
     let b = job.building;
     let winds = job.winds;
     let faces = job.faces;
     let count = faces.count as usize;
-    let x = winds_of(winds, ends.x);
-    let y = winds_of(winds, ends.y);
-    let z = winds_of(winds, ends.z);
-    let mut x_high = [0u8; 24];
-    let mut x_low = [0u8; 24];
-    let mut y_high = [0u8; 24];
-    let mut y_low = [0u8; 24];
-    let mut z_high = [0u8; 24];
-    let mut z_low = [0u8; 24];
+    let up = wind_of(winds, tops.greatest.wind);
+    let down = wind_of(winds, tops.least.wind);
+    let mut high = [0u8; 24];
+    let mut low = [0u8; 24];
     let mut i = 0;
     while i < count {
         let f = faces.entry[i];
         let k = factor_in(parts, wholes, i);
-        x_high[i] = alternative(Axis::X, Side::Greatest, b, x.greatest, k, f, first, last);
-        x_low[i] = alternative(Axis::X, Side::Least, b, x.least, k, f, first, last);
-        y_high[i] = alternative(Axis::Y, Side::Greatest, b, y.greatest, k, f, first, last);
-        y_low[i] = alternative(Axis::Y, Side::Least, b, y.least, k, f, first, last);
-        z_high[i] = alternative(Axis::Z, Side::Greatest, b, z.greatest, k, f, first, last);
-        z_low[i] = alternative(Axis::Z, Side::Least, b, z.least, k, f, first, last);
+        high[i] = alternative(axis, Side::Greatest, b, up, k, f, asked, first, last);
+        low[i] = alternative(axis, Side::Least, b, down, k, f, asked, first, last);
         i += 1;
     }
-    let x = extremes(ends.x, faces.count, x_high, x_low);
-    let y = extremes(ends.y, faces.count, y_high, y_low);
-    let z = extremes(ends.z, faces.count, z_high, z_low);
+    extremes(tops, faces.count, high, low)
+}
+
+// All six.
+pub(crate) fn shown(
+    job: Job,
+    ends: Ends,
+    parts: &[i64; 24],
+    wholes: &[i64; 24],
+    asked: &mut [bool; 40],
+    first: &mut [i64; 40],
+    last: &mut [i64; 40],
+) -> Six
+    requires { ⌜ Ready job × Fractions (job .faces) (now parts) (now wholes)
+        × FactorsStand (profileOf job) (job .faces) (now parts) (now wholes)
+        × ((axis : Axis) (s : Side) → OnJob job (topAt axis s ends))
+        × Filled (job .building) (now asked) (now first) (now last) ⌝ }
+    ensures { λ r. ⌜ r ≡ sixOf job ends ⌝ }
+{
+    let x = extremes_on(Axis::X, job, ends.x, parts, wholes, asked, first, last);
+    let y = extremes_on(Axis::Y, job, ends.y, parts, wholes, asked, first, last);
+    let z = extremes_on(Axis::Z, job, ends.z, parts, wholes, asked, first, last);
     Six { x, y, z }
 }

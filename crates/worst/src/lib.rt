@@ -1,7 +1,9 @@
 // The worst cases of a job: on each axis the greatest and the least total over every permitted case, with the first
 // case that reaches it.
 ghost use mathlib.Core.Path.{_≡_};
+ghost use Rattle.job.specs.Walk.{judged};
 ghost use Rattle.worst.specs.Worst.{worstOf};
+ghost use Rattle.worst.specs.Stored.{storedIn, reckonedBy};
 use job::Job;
 use verdict::Verdict;
 
@@ -9,9 +11,10 @@ mod speeds; // the speed of a wind at a face
 mod outside; // the outside coefficients, each looked up once
 mod sums; // the faces under a wind, added up
 mod tops; // the best cell so far
-mod cells; // every internal coefficient under a wind
+mod cells; // the sums of every internal coefficient under a wind
+mod furthest; // the furthest of all cells
 mod chosen; // the cases that were found, with their alternatives
-mod engine; // the six extremes
+mod engine; // the sums of all cells, and the six extremes that they tell
 mod reckon; // a refusal, or the six extremes
 
 pub enum Side {
@@ -48,6 +51,27 @@ pub struct Six {
     pub z: Extremes,
 }
 
+// The greatest and the least sum over the faces, on one axis.
+#[repr(C)]
+pub struct Span {
+    pub greatest: i64,
+    pub least: i64,
+}
+
+// Of one wind and one internal coefficient.
+#[repr(C)]
+pub struct StoredCell {
+    pub x: Span,
+    pub y: Span,
+    pub z: Span,
+}
+
+// Of all of them: that of a wind and an internal coefficient, both from 0, stands at 4 * wind + internal.
+#[repr(C)]
+pub struct Stored {
+    pub cell: [StoredCell; 32],
+}
+
 // A job's refusal, with zeros for extremes; or the six of one that is accepted.
 pub struct Reckoning {
     pub verdict: Verdict,
@@ -60,4 +84,20 @@ pub fn worst_cases(job: Job) -> Reckoning
 {
     let v = job::judge::judge(job);
     reckon::reckon_by(job, v)
+}
+
+// The sums of a job, reckoned from its faces: zeros where it is refused.
+pub fn sums_of(job: Job) -> Stored
+    ensures { λ r. ⌜ r ≡ storedIn (judged job) ⌝ }
+{
+    let v = job::judge::judge(job);
+    reckon::sums_by(job, v)
+}
+
+// A job's own refusal, or the six extremes that stored sums tell.
+pub fn worst_stored(job: Job, stored: Stored) -> Reckoning
+    ensures { λ r. ⌜ r ≡ reckonedBy stored (judged job) ⌝ }
+{
+    let v = job::judge::judge(job);
+    reckon::stored_by(job, stored, v)
 }

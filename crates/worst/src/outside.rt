@@ -3,8 +3,7 @@
 ghost use mathlib.Core.Path.{_≡_};
 ghost use Prim.Native.Nat.{_<_};
 ghost use Rattle.book.specs.Answer.{valuesIn};
-ghost use Rattle.worst.specs.Table.{firstAndLast, outsideAt, places, placeOf, standing, Placed, Stands, Filled};
-ghost use Rattle.worst.specs.Table.{StillStand};
+ghost use Rattle.worst.specs.Table.{firstAndLast, outsideAt, places, placeOf, Placed, Filled};
 ghost use Rattle.worst.specs.Forces.{acts};
 use book::Answer;
 use book::Values;
@@ -76,17 +75,6 @@ fn looked_up(b: Building, w: Wind, f: Face) -> Outside
     }
 }
 
-// What stands at the place of a face under a wind.
-pub(crate) fn at_place(w: Wind, f: Face, first: &[i64; 40], last: &[i64; 40]) -> Outside
-    requires { ⌜ Placed (w .direction) (f .zone) ⌝ }
-    ensures { λ r. ⌜ r ≡ standing (now (first .entry)) (now (last .entry)) (placeOf (w .direction) (f .zone)) ⌝ }
-{
-    let k = place_of(w, f);
-    let v = first[k];
-    let u = last[k];
-    Outside { first: v, last: u }
-}
-
 // The coefficients of a face under a wind, which stand in the table from then on.
 pub(crate) fn found(
     b: Building,
@@ -98,9 +86,7 @@ pub(crate) fn found(
 ) -> Outside
     requires { ⌜ Placed (w .direction) (f .zone) × Filled b (now asked) (now first) (now last) ⌝ }
     ensures { λ r. ⌜ (r ≡ outsideAt b (w .direction) (f .zone))
-        × Filled b (now (asked .exit)) (now (first .exit)) (now (last .exit))
-        × StillStand b (now (first .entry)) (now (last .entry)) (now (first .exit)) (now (last .exit))
-        × Stands b (now (first .exit)) (now (last .exit)) (placeOf (w .direction) (f .zone)) ⌝ }
+        × Filled b (now (asked .exit)) (now (first .exit)) (now (last .exit)) ⌝ }
 {
     let k = place_of(w, f);
     if asked[k] {

@@ -1,12 +1,18 @@
 // A job's own refusal, or its six extremes.
 ghost use mathlib.Core.Path.{_≡_};
+ghost use Rattle.verdict.specs.Verdict.{accepted};
 ghost use Rattle.job.specs.Walk.{Reading, verdict, judged};
 ghost use Rattle.worst.specs.Worst.{noExtreme, reckoned, worstOf};
+ghost use Rattle.worst.specs.Stored.{storedIn, reckonedBy};
 use crate::Extreme;
 use crate::Extremes;
 use crate::Reckoning;
 use crate::Six;
+use crate::Stored;
+use crate::cells::none_stored;
+use crate::engine::six_by;
 use crate::engine::six_of;
+use crate::engine::sums_of;
 use job::Job;
 use verdict::Verdict;
 
@@ -39,6 +45,15 @@ fn refused(v: Verdict) -> Reckoning
     Reckoning { verdict: v, six }
 }
 
+fn accepted(six: Six) -> Reckoning
+    ensures { λ r. ⌜ r ≡ record { verdict = accepted; six = six } ⌝ }
+{
+    Reckoning {
+        verdict: Verdict { number: 0, line: 0 },
+        six,
+    }
+}
+
 pub(crate) fn reckon_by(job: Job, v: Verdict) -> Reckoning
     requires { ⌜ v ≡ verdict (judged job) ⌝ }
     ensures { λ r. ⌜ r ≡ worstOf job ⌝ }
@@ -46,9 +61,27 @@ pub(crate) fn reckon_by(job: Job, v: Verdict) -> Reckoning
     if v.number != 0 {
         return refused(v);
     }
-    let six = six_of(job);
-    Reckoning {
-        verdict: Verdict { number: 0, line: 0 },
-        six,
+    accepted(six_of(job))
+}
+
+// The same with sums in place of extremes, zeros where there is a refusal.
+pub(crate) fn sums_by(job: Job, v: Verdict) -> Stored
+    requires { ⌜ v ≡ verdict (judged job) ⌝ }
+    ensures { λ r. ⌜ r ≡ storedIn (judged job) ⌝ }
+{
+    if v.number != 0 {
+        return none_stored();
     }
+    sums_of(job)
+}
+
+// And with the extremes that stored sums tell.
+pub(crate) fn stored_by(job: Job, stored: Stored, v: Verdict) -> Reckoning
+    requires { ⌜ v ≡ verdict (judged job) ⌝ }
+    ensures { λ r. ⌜ r ≡ reckonedBy stored (judged job) ⌝ }
+{
+    if v.number != 0 {
+        return refused(v);
+    }
+    accepted(six_by(job, stored))
 }

@@ -5,10 +5,10 @@ ghost use mathlib.Core.List.{List};
 ghost use Rattle.entry.specs.declared.Step.{Step};
 ghost use Rattle.worst.specs.Speed.{speedAt};
 ghost use Rattle.worst.specs.Forces.{pressure};
-ghost use Rattle.worst.specs.Table.{Filled, StillStand};
+ghost use Rattle.worst.specs.Table.{Filled};
 ghost use Rattle.worst.specs.Engine.{further, facesOf, withWeight, withPressure, withFace, axesOf};
 ghost use Rattle.worst.specs.Small.{OutsideSmall, FaceSmall, Pressure, Weight, SumsSmall, AxesSmall};
-ghost use Rattle.worst.specs.Small.{Dense, Slow, Met, AllMet, StandsFor, StandForAll};
+ghost use Rattle.worst.specs.Small.{Dense, Slow, Met, AllMet};
 ghost use Rattle.worst.specs.Factors.{Fraction, FactorsStand, Fractions};
 use crate::Side;
 use crate::outside::Outside;
@@ -95,9 +95,7 @@ fn with_face(
 ) -> Axes
     requires { ⌜ AxesSmall 23 sums × Met b w f × Fraction factor × Filled b (now asked) (now first) (now last) ⌝ }
     ensures { λ r. ⌜ (r ≡ withFace b w factor f sums)
-        × Filled b (now (asked .exit)) (now (first .exit)) (now (last .exit))
-        × StillStand b (now (first .entry)) (now (last .entry)) (now (first .exit)) (now (last .exit))
-        × StandsFor b w f (now (first .exit)) (now (last .exit)) ⌝ }
+        × Filled b (now (asked .exit)) (now (first .exit)) (now (last .exit)) ⌝ }
 {
     if takes_part(f, w) {
         let o = found(b, w, f, asked, first, last);
@@ -123,9 +121,7 @@ pub(crate) fn added(
     ensures { λ r. ⌜ AxesSmall 24 r
         × ((profile : List Step) → FactorsStand profile faces (now (parts .entry)) (now (wholes .entry))
         → r ≡ axesOf b profile w (facesOf faces))
-        × Filled b (now (asked .exit)) (now (first .exit)) (now (last .exit))
-        × StillStand b (now (first .entry)) (now (last .entry)) (now (first .exit)) (now (last .exit))
-        × StandForAll b w faces (now (first .exit)) (now (last .exit)) ⌝ }
+        × Filled b (now (asked .exit)) (now (first .exit)) (now (last .exit)) ⌝ }
 {
     let none = Sums {
         greatest: 0,

@@ -1,10 +1,8 @@
--- `chosen::alternative` meets its contract: a face that takes part goes by its coefficients, which stand in the
--- table, and another has weight 0.
+-- `chosen::alternative` meets its contract: a face that takes part goes by its coefficients, and another has weight 0.
 use mathlib.Core.Path.{_≡_, sym, _∙_, subst}
 use mathlib.Core.Bool.{true}
 use mir.Syntax.{w64}
 use borrow.Author.Needs.{needs}
-use denote.Ref.{now}
 use Rattle.whole.proofs.Size.{Num, back, fit, bound, _⊗_}
 use Rattle.worst.specs.Speed.{speedAt}
 use Rattle.worst.specs.Forces.{acts, pressure, area}
@@ -12,7 +10,6 @@ use Rattle.worst.specs.Table.{outsideAt}
 use Rattle.worst.specs.Engine.{pick}
 use Rattle.worst.specs.Small.{OutsideSmall}
 use Rattle.worst.proofs.ReadBack.{read-back}
-use Rattle.worst.proofs.Table.{stands-for}
 use Rattle.worst.proofs.Ranges.{pressure-small, area-small}
 use Rattle.worst.proofs.OneFace.{no-pick}
 use Rattle.worst.proofs.chosen.alternative.Statement.{statement}
@@ -23,11 +20,11 @@ module _ (c : tie.After-area-on) where
   abbrev p : tie.After-pressure-of
   p = c .before
 
-  abbrev o : tie.After-at-place
+  abbrev o : tie.After-found
   o = p .before
 
   abbrev t : tie.Then1
-  t = o .before
+  t = o .before .before .before .before
 
   abbrev a : tie.Start
   a = t .before .before
@@ -35,13 +32,8 @@ module _ (c : tie.After-area-on) where
   acting : acts (a .args .f) (a .args .w .direction) ≡ true
   acting = sym (t .before .takes-part .ensures) ∙ t .if1 .taken
 
-  coefficients : o .at-place .result ≡ outsideAt (a .args .b) (a .args .w .direction) (a .args .f .zone)
-  coefficients =
-      let first = now (a .args .first) in
-      let last = now (a .args .last) in
-      o .at-place .ensures
-      ∙ stands-for (a .args .b) first last (a .args .w .direction) (a .args .f .zone) (a .pre .0 .placed)
-      (a .pre .2 .stands acting)
+  coefficients : o .found .result ≡ outsideAt (a .args .b) (a .args .w .direction) (a .args .f .zone)
+  coefficients = o .found .ensures .0
 
   abbrev weighed : Num
   weighed =
@@ -62,15 +54,20 @@ picked-requires c κs =
 
 returns : tie.Need-returns
 returns c =
-    let d = c .before in
-    rw (acting d)
-    (c .picked .ensures ∙ (λ j. pick (a d .args .side) (coefficients d j) (back w64 (weighed d) tt .same j)))
+    let d = c .before in (
+      rw (acting d)
+          (c .picked .ensures ∙ (λ j. pick (a d .args .side) (coefficients d j) (back w64 (weighed d) tt .same j))),
+      o d .found .ensures .1,
+    )
 
 returns-2 : tie.Need-returns-2
 returns-2 c =
-    let s = c .before .before .args in
-    rw (sym (c .before .takes-part .ensures) ∙ c .if1 .left)
-    (sym (no-pick (s .side) (outsideAt (s .b) (s .w .direction) (s .f .zone))))
+    let a = c .before .before in
+    let s = a .args in (
+      rw (sym (c .before .takes-part .ensures) ∙ c .if1 .left)
+          (sym (no-pick (s .side) (outsideAt (s .b) (s .w .direction) (s .f .zone)))),
+      a .pre .2,
+    )
 
 pub alternative-spec : {M : Type 1} → statement M
 alternative-spec =

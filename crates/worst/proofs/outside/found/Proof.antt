@@ -29,8 +29,6 @@ returns c =
           ∙ ap (standing f l) place
           ∙ stands-for (a .b) f l (a .w .direction) (a .f .zone) (p .before .pre .0) stands,
       filled,
-      λ n s. s,
-      stands,
     )
 
 returns-2 : tie.Need-returns-2
@@ -45,7 +43,7 @@ returns-2 c =
     let s =
     stored (a .b) (now (a .asked)) (now (a .first)) (now (a .last)) (p .before .pre .1) (a .w .direction) (a .f .zone)
     (p .before .pre .0) _ (read ∙ o .looked-up .ensures) (p .place-of .result) (p .place-of .ensures .0) in
-    (o .looked-up .ensures, s .filled′, s .still, s .stands)
+    (o .looked-up .ensures, s)
 
 pub found-spec : {M : Type 1} → statement M
 found-spec =

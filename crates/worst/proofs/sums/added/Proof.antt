@@ -1,4 +1,4 @@
--- `sums::added` meets its contract: after i faces the sums are those of the first i, and what these asked for stands.
+-- `sums::added` meets its contract: after i faces the sums are those of the first i.
 use mathlib.Core.Path.{_≡_, refl, sym, ap, _∙_, subst}
 use mathlib.Core.List.{List}
 use Prim.Native.Nat.{ℕ, _+_, _≤_, _<_, _-_}
@@ -11,13 +11,11 @@ use Rattle.entry.specs.declared.Step.{Step}
 use Rattle.entry.specs.declared.Face.{Face}
 use Rattle.job.specs.Carried.{noFace}
 use Rattle.worst.specs.Quick.{sum}
-use Rattle.worst.specs.Table.{Filled, StillStand}
+use Rattle.worst.specs.Table.{Filled}
 use Rattle.worst.specs.Engine.{axesOf, withFace}
 use Rattle.worst.specs.Forces.{factorOf}
 use Rattle.worst.specs.Factors.{FactorsStand, Fraction}
-use Rattle.worst.specs.Small.{AxesSmall, StandsFor}
-use Rattle.worst.proofs.Lists.{below-next}
-use Rattle.worst.proofs.Table.{still-for}
+use Rattle.worst.specs.Small.{AxesSmall}
 use Rattle.worst.proofs.Added.{axes-next, axes-more, nothing-small, with-face-small}
 use Rattle.worst.proofs.sums.added.Statement.{statement}
 use Rattle.worst.proofs.sums.added.Tie as tie
@@ -28,15 +26,13 @@ Inv-loop b parts wholes w asked₀ first₀ last₀ faces count sums₀ i₀ ask
     × ((profile : List Step) → FactorsStand profile faces parts wholes
     → sums ≡ axesOf b profile w (firstOf noFace i (faces .entry)))
     × Filled b asked first last
-    × StillStand b first₀ last₀ first last
-    × ((k : ℕ) → k < i → StandsFor b w (getD (faces .entry) k noFace) first last)
 
 abbrev μ-loop : tie.MeasureT-loop
 μ-loop b parts wholes w asked₀ first₀ last₀ faces count sums₀ i₀ asked first last sums i = count - i
 
 loop-holds : tie.Need-loop-holds Inv-loop μ-loop
 unfolding sum firstOf
-loop-holds c = (search needs, nothing-small, λ profile h. refl, c .pre .2, λ k h. h, λ k h. absurd (omega arith))
+loop-holds c = (search needs, nothing-small, λ profile h. refl, c .pre .2)
 
 -- in the loop, before and after the call
 module _ (d : tie.In-loop Inv-loop μ-loop) where
@@ -93,8 +89,6 @@ loop-again c =
           ∙ (λ j. withFace (s .b) (s .w) (factor profile h j) next (inv .2 profile h j))
           ∙ axes-next (s .b) profile (s .w) (s .t2 .entry) n,
       e .1,
-      λ k h. e .2 k (inv .4 k h),
-      below-next (λ m. StandsFor (s .b) (s .w) (face (d k) m) _ _) n (λ m h. still-for (e .2) (inv .5 m h)) (e .3),
     )
 
 returns : tie.Need-returns Inv-loop μ-loop
@@ -107,8 +101,6 @@ returns c =
       λ profile h. inv .2 profile h
           ∙ ap (λ k. axesOf (s .b) profile (s .w) (firstOf noFace k (s .t2 .entry))) e,
       inv .3,
-      inv .4,
-      λ k h. inv .5 k (omega arith),
     )
 
 pub added-spec : {M : Type 1} → statement M

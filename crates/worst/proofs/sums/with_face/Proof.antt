@@ -1,7 +1,7 @@
 -- `sums::with_face` meets its contract: a face that takes part is added at its pressure number, and another leaves
 -- all as it is.
 use mathlib.Core.Path.{_≡_, sym, _∙_, subst}
-use mathlib.Core.Bool.{true, true≢false}
+use mathlib.Core.Bool.{true}
 use borrow.Author.Needs.{needs}
 use Rattle.whole.proofs.Size.{Num, bound}
 use Rattle.worst.specs.Speed.{speedAt}
@@ -50,8 +50,6 @@ returns c =
           ∙ (λ j. withPressure (s .f) (f .0 j) (pressed d .same j) (s .sums))
           ∙ face-acts (s .b) (s .w) (s .factor) (s .f) (s .sums) (acting d),
       f .1,
-      f .2,
-      record { stands = λ e. f .3 },
     )
 
 returns-2 : tie.Need-returns-2
@@ -61,8 +59,6 @@ returns-2 c =
     let aside = sym (c .before .takes-part .ensures) ∙ c .if1 .left in (
       face-aside (s .b) (s .w) (s .factor) (s .f) (s .sums) aside,
       a .pre .3,
-      λ k h. h,
-      record { stands = λ e. absurd (true≢false (sym e ∙ aside)) },
     )
 
 pub with-face-spec : {M : Type 1} → statement M

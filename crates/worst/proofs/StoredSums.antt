@@ -1,0 +1,130 @@
+-- Stored sums: what stands at a cell, cells stored one after the other, and that a job's own sums tell its six extremes.
+use mathlib.Core.Path.{_≡_, refl, sym, ap, ap₂, _∙_, subst}
+use mathlib.Core.Bool.{Bool, true, false, cond, _&&_}
+use mathlib.Core.List.{List, [], _∷_, map}
+use Prim.Native.Nat.{ℕ, zero, suc, _+_, _-_, _*_, _/_, _%_, _≤_, _<_}
+use native.Mathlib.Omega.{arith}
+use borrow.Author.Tests.{eqb-true, eqb-false, ltb-true, ltb-false, lt-ltb, le-ltb}
+use lib.Dec.{eqb, ltb}
+use lib.ListN.{length, getD, set, length-map, length-set}
+use lib.Seq.{getD-set-same, getD-set-other}
+use Rattle.whole.proofs.Tests.{by-test}
+use Rattle.whole.proofs.Lists.{getD-map}
+use Rattle.worst.specs.declared.StoredCell.{StoredCell}
+use Rattle.worst.specs.Cases.{numbers}
+use Rattle.worst.specs.Forces.{Given}
+use Rattle.worst.specs.Stored.{storedCells, noCell, cellsOf, noneStored, cellOf, sumsAt}
+use Rattle.worst.specs.Engine.{UpTo}
+
+-- ---- what stands at a cell
+
+numbers-length : (n k : ℕ) → length (numbers n k) ≡ n
+unfolding numbers
+numbers-length zero k = refl
+numbers-length (suc n) k = ap suc (numbers-length n (suc k))
+
+numbers-at : (n k i d : ℕ) → i < n → getD (numbers n k) i d ≡ k + i
+unfolding numbers
+numbers-at zero k i d h = absurd (omega arith)
+numbers-at (suc n) k zero d h = omega arith
+numbers-at (suc n) k (suc i) d h = omega (arith, numbers-at n (suc k) i d (omega arith))
+
+pub cells-at : (h : ℕ → StoredCell) (k : ℕ) → k < storedCells → getD (cellsOf h .cell) k noCell ≡ h k
+cells-at h k t =
+    let e : 0 + k ≡ k = omega arith in
+    getD-map h (numbers storedCells 0) k 0 noCell (omega (arith, numbers-length storedCells 0))
+    ∙ ap h (numbers-at storedCells 0 k 0 t ∙ e)
+
+-- a list by what stands at each of its places
+by-places : {A : Type 0} (d : A) (h : ℕ → A) (l : List A) (k : ℕ)
+    → ((i : ℕ) → i < length l → getD l i d ≡ h (k + i)) → l ≡ map h (numbers (length l) k)
+unfolding numbers
+by-places d h [] k e = refl
+by-places d h (x ∷ l) k e =
+    let first : k + 0 ≡ k = omega arith in
+    let rest : (i : ℕ) → i < length l → getD l i d ≡ h (suc k + i) =
+    λ i t. let n : k + suc i ≡ suc k + i = omega arith in e (suc i) (omega arith) ∙ ap h n in
+    ap₂ _∷_ (e 0 (omega arith) ∙ ap h first) (by-places d h l (suc k) rest)
+
+pub cells-by : (h : ℕ → StoredCell) (l : List StoredCell) → length l ≡ storedCells
+    → ((k : ℕ) → k < storedCells → getD l k noCell ≡ h k) → record { cell = l } ≡ cellsOf h
+cells-by h l e t =
+    ap (λ m. record { cell = m })
+    (by-places noCell h l 0 (λ i n. let z : i ≡ 0 + i = omega arith in t i (omega (arith, e)) ∙ ap h z)
+    ∙ ap (λ n. map h (numbers n 0)) e)
+
+pub cells-same : (h g : ℕ → StoredCell) → ((k : ℕ) → k < storedCells → h k ≡ g k) → cellsOf h ≡ cellsOf g
+cells-same h g e =
+    cells-by g (cellsOf h .cell) (length-map (numbers storedCells 0) h ∙ numbers-length storedCells 0)
+    (λ k t. cells-at h k t ∙ e k t)
+
+-- ---- cells stored one after the other
+
+none-at : {A : Type 0} (d : A) (l : List ℕ) (k : ℕ) → getD (map (λ i. d) l) k d ≡ d
+none-at d [] k = refl
+none-at d (x ∷ l) zero = refl
+none-at d (x ∷ l) (suc k) = none-at d l k
+
+module _ (h : ℕ → StoredCell) where
+  pub up-to-none : UpTo h 0 (noneStored .cell)
+  up-to-none =
+      record {
+        all = length-map (numbers storedCells 0) (λ i. noCell) ∙ numbers-length storedCells 0;
+        stand = λ k t. absurd (omega arith);
+        rest = λ k t. none-at noCell (numbers storedCells 0) k;
+      }
+
+  pub up-to-next : (n : ℕ) (l : List StoredCell) (c : StoredCell) → n < storedCells → UpTo h n l → h n ≡ c
+      → UpTo h (n + 1) (set l n c)
+  up-to-next n l c t u e =
+      record {
+        all = length-set l n c ∙ u .all;
+        stand = λ k s. by-test (eqb k n)
+            (λ q. subst (λ m. getD (set l n c) m noCell ≡ h m) (sym (eqb-true k n q))
+            (getD-set-same l n c noCell (omega (arith, u .all)) ∙ sym e))
+            (λ q. let other = eqb-false k n q in
+            getD-set-other l n k c noCell other ∙ u .stand k (omega (arith, other)));
+        rest = λ k s. getD-set-other l n k c noCell (λ q. absurd (omega (arith, q))) ∙ u .rest k (omega arith);
+      }
+
+  -- up to a later cell, where there is nothing to store
+  pub up-to-more : (n m : ℕ) (l : List StoredCell) → n ≤ m → UpTo h n l
+      → ((k : ℕ) → n ≤ k → k < m → h k ≡ noCell) → UpTo h m l
+  up-to-more n m l t u e =
+      record {
+        all = u .all;
+        stand = λ k s. by-test (ltb k n) (λ q. u .stand k (ltb-true k n q))
+            (λ q. let past = ltb-false k n q in u .rest k past ∙ sym (e k past s));
+        rest = λ k s. u .rest k (omega arith);
+      }
+
+  pub up-to-all : (l : List StoredCell) → UpTo h storedCells l → record { cell = l } ≡ cellsOf h
+  up-to-all l u = cells-by h l (u .all) (u .stand)
+
+-- ---- the cell of a wind and an internal coefficient, both from 0
+
+module _ (g : Given) where
+  -- by its numbers
+  abbrev atNumbers : ℕ → ℕ → StoredCell
+  atNumbers w i = cond (ltb w (length (g .winds)) && ltb i (length (g .internals))) (cellOf g (w + 1) (i + 1)) noCell
+
+  placed : (w i : ℕ) → i < 4 → sumsAt g (4 * w + i) ≡ atNumbers w i
+  placed w i t =
+      let wind : (4 * w + i) / 4 ≡ w = omega arith in
+      let internal : (4 * w + i) % 4 ≡ i = omega arith in
+      ap₂ atNumbers wind internal
+
+  pub sums-counted : (w i : ℕ) → i < 4 → w < length (g .winds) → i < length (g .internals)
+      → sumsAt g (4 * w + i) ≡ cellOf g (w + 1) (i + 1)
+  sums-counted w i t hw hi =
+      placed w i t ∙ rw (lt-ltb w (length (g .winds)) hw, lt-ltb i (length (g .internals)) hi)
+
+  pub internal-past : (w i : ℕ) → i < 4 → length (g .internals) ≤ i → sumsAt g (4 * w + i) ≡ noCell
+  internal-past w i t hi = placed w i t ∙ rw (le-ltb i (length (g .internals)) hi) (go (ltb w (length (g .winds))))
+    where
+      go : (b : Bool) → cond (b && false) (cellOf g (w + 1) (i + 1)) noCell ≡ noCell
+      go true = refl
+      go false = refl
+
+  pub wind-past : (k : ℕ) → 4 * length (g .winds) ≤ k → sumsAt g k ≡ noCell
+  wind-past k h = rw (le-ltb (k / 4) (length (g .winds)) (omega arith))
