@@ -68,6 +68,7 @@ pub use Rattle.worst.proofs.worst_cases.Reads as worst-cases
 pub use Rattle.worst.proofs.sums_of.Reads as sums-of
 pub use Rattle.worst.proofs.worst_stored.Reads as worst-stored
 pub use Rattle.report.proofs.write_report.Reads as write-report
+pub use Rattle.report.proofs.write_stored.Reads as write-stored
 pub use Rattle.report.proofs.write_totals.Reads as write-totals
 pub use Rattle.panel.proofs.panel_of.Reads as panel-of
 pub use Rattle.panel.proofs.chart.Reads as chart

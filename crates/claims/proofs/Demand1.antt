@@ -22,7 +22,8 @@ use Rattle.job.specs.Walk.{Accepted, verdict, judged}
 use Rattle.sheet.specs.Sheet.{reading, answer, sheetText, jobWriting}
 use Rattle.worst.specs.declared.Six.{Six}
 use Rattle.worst.specs.Worst.{noSix, sixExtremes, reckoned, worstOf}
-use Rattle.report.specs.Report.{refusedText, reportText, totalsText}
+use Rattle.worst.specs.Stored.{reckonedBy}
+use Rattle.report.specs.Report.{refusedText, reportText, storedText, totalsText}
 use Rattle.answers.specs.Answers.{noHostText, noHostExtreme, hostText, reportLine, hostLine, hostTotal}
 use Rattle.claims.specs.Contract.{Always}
 use Rattle.claims.specs.Fault.{Faulty, Faultless, GetsFault, GetsAccepted}
@@ -52,6 +53,9 @@ pub record BadGetsFirstFault : Type 0 where
       (λ κ a v. record { verdict = v; six = noSix })
   pub write-sheet : GetsFault of.write-sheet.Post (λ κ a. linesOf (carried (a .0))) (λ κ a v. written.Refused v)
   pub write-report : GetsFault of.write-report.Post (λ κ a. linesOf (carried (a .0))) (λ κ a v. written.Refused v)
+  pub worst-stored : GetsFault of.worst-stored.Post (λ κ a. linesOf (carried (a .0)))
+      (λ κ a v. record { verdict = v; six = noSix })
+  pub write-stored : GetsFault of.write-stored.Post (λ κ a. linesOf (carried (a .0))) (λ κ a v. written.Refused v)
 
 -- Where there is no fault, it is accepted: number 0, line 0. What is then written and shown is said by demands 2 and
 -- 3.
@@ -103,6 +107,9 @@ bad-gets-first-fault =
           p .0 ∙ ap (λ x. jobWriting sheetText x (now (a .1 .0))) (fault.job-faulty (a .0) f);
       write-report = λ κ a r s p v f.
           p .0 ∙ ap (λ x. jobWriting reportText x (now (a .1 .0))) (fault.job-faulty (a .0) f);
+      worst-stored = λ κ a r s p v f. p ∙ ap (reckonedBy (a .1 .0)) (fault.job-faulty (a .0) f);
+      write-stored = λ κ a r s p v f.
+          p .0 ∙ ap (λ x. jobWriting (storedText (a .1 .0)) x (now (a .1 .1 .0))) (fault.job-faulty (a .0) f);
     }
 
 pub good-is-accepted : GoodIsAccepted

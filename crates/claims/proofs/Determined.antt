@@ -251,6 +251,9 @@ worst-stored-determined κ a r r′ s s′ p q = same p q
 write-report-determined : OneAnswerAndBuffer of.write-report.Post (λ κ s. now (s .1 .0))
 write-report-determined κ a r r′ s s′ p q = same-both p q
 
+write-stored-determined : OneAnswerAndBuffer of.write-stored.Post (λ κ s. now (s .1 .1 .0))
+write-stored-determined κ a r r′ s s′ p q = same-both p q
+
 write-totals-determined : OneAnswerAndBuffer of.write-totals.Post (λ κ s. now (s .1 .0))
 write-totals-determined κ a r r′ s s′ p q = same-both p q
 

@@ -234,6 +234,9 @@ worst-stored-asks κ a = tt
 write-report-asks : AsksNothing of.write-report.Asked
 write-report-asks κ a = tt
 
+write-stored-asks : AsksNothing of.write-stored.Asked
+write-stored-asks κ a = tt
+
 write-totals-asks : AsksNothing of.write-totals.Asked
 write-totals-asks κ a = tt
 

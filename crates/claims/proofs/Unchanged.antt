@@ -17,7 +17,7 @@ use Rattle.whole.specs.Digits.{decimal}
 use Rattle.job.specs.Carried.{Carried}
 use Rattle.job.specs.Walk.{Reading, Accepted, Refused, judged}
 use Rattle.sheet.specs.Sheet.{reading, sheetText, jobWriting, jobBuffer}
-use Rattle.report.specs.Report.{reportText, totalsText}
+use Rattle.report.specs.Report.{reportText, storedText, totalsText}
 use Rattle.answers.specs.declared.Text.{Text}
 use Rattle.answers.specs.Answers.{hostText}
 
@@ -67,6 +67,10 @@ write-sheet-unchanged κ a r s p h = job-kept sheetText (judged (a .0)) (now (a 
 write-report-unchanged : RefusedUnchanged of.write-report.Post (λ κ r. IsRefused r) (λ κ a. now (a .1 .0))
     (λ κ s. now (s .1 .0))
 write-report-unchanged κ a r s p h = job-kept reportText (judged (a .0)) (now (a .1 .0)) p h
+
+write-stored-unchanged : RefusedUnchanged of.write-stored.Post (λ κ r. IsRefused r) (λ κ a. now (a .1 .1 .0))
+    (λ κ s. now (s .1 .1 .0))
+write-stored-unchanged κ a r s p h = job-kept (storedText (a .1 .0)) (judged (a .0)) (now (a .1 .1 .0)) p h
 
 write-totals-unchanged : RefusedUnchanged of.write-totals.Post (λ κ r. IsRefused r) (λ κ a. now (a .1 .0))
     (λ κ s. now (s .1 .0))

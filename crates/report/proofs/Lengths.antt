@@ -1,18 +1,19 @@
 -- How long a text can be: the line that refuses a sheet, and the report of an accepted job.
-use mathlib.Core.Path.{_≡_, refl, sym, ap, _∙_, subst}
+use mathlib.Core.Path.{_≡_, refl, sym, ap, subst}
 use mathlib.Core.Bool.{Bool, true, false, cond}
 use mathlib.Core.List.{List, [], _∷_, List·Memᴰ, List·Memᴰ·head, List·Memᴰ·tail, List·Memᴰ·cases-cons}
 use mathlib.Core.List.{List·Memᴰ·not-nil, List·Memᴰ·eq-of-singleton}
 use mathlib.Core.Logic.{⊎-elim}
 use Prim.Native.Nat.{ℕ, suc, _+_, _-_, _*_, _^_, _≤_, _<_}
 use native.Mathlib.Omega.{arith}
-use lib.IntN.{ℤ, pos, negsuc, natAbs}
+use lib.IntN.{ℤ}
 use lib.ListN.{length, length-append}
 use lib.Seq.{take-at}
 use mir.Syntax.{w32}
 use mir.Val.{Fits}
-use Rattle.whole.specs.Digits.{digits, decimal}
-use Rattle.whole.proofs.Digits.{digits-length, decimal-length}
+use Rattle.whole.specs.Digits.{digits}
+use Rattle.whole.proofs.Digits.{digits-length}
+use Rattle.whole.proofs.Size.{mag-le}
 use Rattle.verdict.specs.declared.Verdict.{Verdict}
 use Rattle.job.specs.Carried.{Carried, noWind}
 use Rattle.job.specs.InOrder.{InOrder}
@@ -20,10 +21,16 @@ use Rattle.worst.specs.declared.Axis.{Axis}
 use Rattle.worst.specs.declared.Axis.the-variants.{X, Y, Z}
 use Rattle.worst.specs.declared.Side.{Side}
 use Rattle.worst.specs.declared.Side.the-variants.{Greatest, Least}
+use Rattle.worst.specs.declared.Extreme.{Extreme}
+use Rattle.worst.specs.declared.Extremes.{Extremes}
+use Rattle.worst.specs.declared.Six.{Six}
+use Rattle.worst.specs.declared.Stored.{Stored}
+use Rattle.worst.specs.Best.{at}
 use Rattle.worst.specs.Cases.{Case, numbers, Chosen, Permitted}
 use Rattle.worst.specs.Forces.{acts, alternatives, windAt, loads}
 use Rattle.worst.specs.Shown.{padded, shown}
-use Rattle.worst.specs.Worst.{given, extreme, extremes, sixExtremes}
+use Rattle.worst.specs.Worst.{given, extreme, sixExtremes}
+use Rattle.worst.specs.Stored.{extremeBy, sixBy}
 use Rattle.whole.proofs.ByPlace.{getD-member}
 use Rattle.worst.proofs.Lists.{Between, numbers-member}
 use Rattle.worst.proofs.Members.{case-permitted}
@@ -31,10 +38,11 @@ use Rattle.worst.proofs.Meaning.{isBest-member}
 use Rattle.worst.proofs.OneFace.{OneOrTwo, alone, pair}
 use Rattle.worst.proofs.Ranges.{caseTotal-small}
 use Rattle.worst.proofs.Accepted.{given-sound, given-in-range}
-use Rattle.worst.proofs.Promises.{extreme-shows}
-use Rattle.report.specs.Lines.{spaced, caseNumbers, extremeText, axisText, x, y, z, max, min}
+use Rattle.worst.proofs.Promises.{extreme-shows, stored-shows}
+use Rattle.report.specs.Lines.{spaced, caseNumbers, extremeText, axisText, sixText, x, y, z, max, min}
 use Rattle.report.specs.Report.{reportText, refusedText}
-use Rattle.report.proofs.Lines.{spaced-none, line-parts, axis-parts, six-parts}
+use Rattle.report.specs.Short.{ShortCase, ShortTotal, Both, AllSix}
+use Rattle.report.proofs.Lines.{spaced-none, line-parts, axis-parts, six-parts, total-length}
 use Rattle.report.proofs.Reports.{refused-parts}
 
 -- ---- numbers after spaces
@@ -65,11 +73,6 @@ spaced-digits (n ∷ ns) h =
 all-cons : {A : Type 0} {P : A → Type 0} {a : A} {l : List A} → P a → AllOf P l → AllOf P (a ∷ l)
 all-cons {A} {P} {a} h k b m = ⊎-elim (λ e. subst P (sym e) h) (k b) (List·Memᴰ·cases-cons m)
 
--- no total of an accepted job takes more than a minus sign and 19 digits
-total-length : (z : ℤ) → natAbs z ≤ 7920000000000000000 → length (decimal z) ≤ 20
-total-length (pos n) h = decimal-length (pos n) (omega arith)
-total-length (negsuc n) h = decimal-length (negsuc n) (omega arith)
-
 -- ---- the numbers of a case of an accepted job
 
 -- a choice has one alternative for each face
@@ -92,13 +95,11 @@ alternative-digit : (t : Bool) (outs : List ℤ) → (t ≡ true → OneOrTwo ou
 alternative-digit true outs h k m = omega (arith, numbers-member (length outs) 1 m .high, few (h refl))
 alternative-digit false outs h k m = omega (arith, List·Memᴰ·eq-of-singleton m)
 
-module _ (axis : Axis) (s : Side) (c : Carried) (o : InOrder c) where
-  case : Case ℕ ℕ ℕ
-  case = extreme-shows axis s c o .case
-
-  permitted : Permitted (loads axis (given c)) case
-  unfolding case
-  permitted = case-permitted (loads axis (given c)) case (isBest-member s _ (extreme-shows axis s c o .best))
+-- a permitted case, at a value
+module _ (axis : Axis) (c : Carried) (o : InOrder c) (v : ℤ) (case : Case ℕ ℕ ℕ)
+    (permitted : Permitted (loads axis (given c)) case) where
+  abbrev named : Extreme
+  named = shown (length (c .faces)) (at v case)
 
   wind : Between 1 (length (c .winds)) (case .wind)
   wind = numbers-member (length (c .winds)) 1 (permitted .wind)
@@ -113,11 +114,10 @@ module _ (axis : Axis) (s : Side) (c : Carried) (o : InOrder c) where
       chosen-each OneDigit (alternatives (given c) w) (c .faces) (case .chosen)
       (λ f n. alternative-digit (acts f (w .direction)) _ (given-sound c o w f m n)) (permitted .chosen)
 
-  case-numbers : caseNumbers (extreme axis s c) ≡ case .wind ∷ case .internal ∷ case .chosen
-  unfolding case shown padded
+  case-numbers : caseNumbers named ≡ case .wind ∷ case .internal ∷ case .chosen
+  unfolding shown padded
   case-numbers =
-      ap caseNumbers (extreme-shows axis s c o .named)
-      ∙ ap (λ (ks : List ℕ). case .wind ∷ case .internal ∷ ks)
+      ap (λ (ks : List ℕ). case .wind ∷ case .internal ∷ ks)
       (take-at (case .chosen) _ (length (c .faces)) (chosen .0))
 
   case-digits : AllOf OneDigit (case .wind ∷ case .internal ∷ case .chosen)
@@ -126,8 +126,8 @@ module _ (axis : Axis) (s : Side) (c : Carried) (o : InOrder c) where
       (all-cons (omega (arith, internal .high, o .internals-counted .high)) (chosen .1))
 
   -- a space and a digit for the wind, the internal coefficient and each of 24 faces
-  case-most : length (spaced (caseNumbers (extreme axis s c))) ≤ 52
-  case-most =
+  case-short : ShortCase named
+  case-short =
       rw case-numbers
       (omega (
         arith,
@@ -137,27 +137,70 @@ module _ (axis : Axis) (s : Side) (c : Carried) (o : InOrder c) where
         o .faces-counted .high,
       ))
 
-  total-small : natAbs (extreme axis s c .total) ≤ 7920000000000000000
-  total-small =
-      let h = extreme-shows axis s c o in
-      rw (h .best .reached) at (caseTotal-small (given c) (given-in-range c o) axis (h .case))
+-- ---- what is shown of an accepted job: its extremes, and those that stored sums tell
 
-  -- the letter, the word, a total of 20 bytes at most, the numbers and the end
-  line-most : (letter : ℕ) (word : List ℕ) → length word ≡ 5
-      → length (extremeText letter word (extreme axis s c)) ≤ 79
-  line-most letter word h =
-      rw line-parts
-      (simp length-append (omega (arith, h, case-most, total-length (extreme axis s c .total) total-small)))
+-- what holds of each of six
+by-six : (P : Extreme → Type 0) (e : Axis → Side → Extreme) → ((axis : Axis) (s : Side) → P (e axis s))
+    → let pair : Axis → Extremes = λ axis. record { greatest = e axis Greatest; least = e axis Least } in
+    AllSix P (record { x = pair X; y = pair Y; z = pair Z })
+by-six P e h = ((h X Greatest, h X Least), (h Y Greatest, h Y Least), (h Z Greatest, h Z Least))
 
--- ---- the report
+module _ (c : Carried) (o : InOrder c) where
+  pub report-short : AllSix ShortCase (sixExtremes c)
+  unfolding sixExtremes
+  report-short = by-six ShortCase (λ axis s. extreme axis s c) short
+    where
+      short : (axis : Axis) (s : Side) → ShortCase (extreme axis s c)
+      short axis s =
+          let h = extreme-shows axis s c o in
+          let p = case-permitted (loads axis (given c)) (h .case) (isBest-member s _ (h .best)) in
+          subst ShortCase (sym (h .named)) (case-short axis c o (extreme axis s c .total) (h .case) p)
 
-axis-most : (axis : Axis) (letter : ℕ) (c : Carried) → InOrder c → length (axisText letter (extremes axis c)) ≤ 158
-axis-most axis letter c o =
+  pub stored-short : (t : Stored) → AllSix ShortCase (sixBy t c)
+  unfolding sixBy
+  stored-short t = by-six ShortCase (λ axis s. extremeBy axis s t c) short
+    where
+      short : (axis : Axis) (s : Side) → ShortCase (extremeBy axis s t c)
+      short axis s =
+          let h = stored-shows axis s c o t in
+          subst ShortCase (sym (h .named)) (case-short axis c o _ (h .case) (h .permitted))
+
+-- ---- six lines
+
+-- the letter, the word, a total, the numbers and the end
+line-most : (e : Extreme) → ShortCase e → ShortTotal e → (letter : ℕ) (word : List ℕ) → length word ≡ 5
+    → length (extremeText letter word e) ≤ 79
+line-most e h t letter word l = rw line-parts (simp length-append (omega (arith, l, h, t)))
+
+axis-most : (e : Extremes) → Both ShortCase e → Both ShortTotal e → (letter : ℕ) → length (axisText letter e) ≤ 158
+axis-most e h t letter =
     rw axis-parts
     (simp length-append
-    (omega (arith, line-most axis Greatest c o letter max refl, line-most axis Least c o letter min refl)))
+    (omega (
+      arith,
+      line-most (e .greatest) (h .0) (t .0) letter max refl,
+      line-most (e .least) (h .1) (t .1) letter min refl,
+    )))
 
+pub six-most : (six : Six) → AllSix ShortCase six → AllSix ShortTotal six → length (sixText six) ≤ 474
+six-most six h t =
+    rw six-parts
+    (simp length-append
+    (omega (
+      arith,
+      axis-most (six .x) (h .0) (t .0) x,
+      axis-most (six .y) (h .1) (t .1) y,
+      axis-most (six .z) (h .2) (t .2) z,
+    )))
+
+-- no total of an accepted job leaves 64 bits
 pub report-most : (c : Carried) → InOrder c → length (reportText c) ≤ 474
 unfolding reportText sixExtremes
 report-most c o =
-    rw six-parts (simp length-append (omega (arith, axis-most X x c o, axis-most Y y c o, axis-most Z z c o)))
+    six-most (sixExtremes c) (report-short c o) (by-six ShortTotal (λ axis s. extreme axis s c) short)
+  where
+    short : (axis : Axis) (s : Side) → ShortTotal (extreme axis s c)
+    short axis s =
+        let h = extreme-shows axis s c o in
+        let small = rw (h .best .reached) at (caseTotal-small (given c) (given-in-range c o) axis (h .case)) in
+        total-length (extreme axis s c .total) (omega (arith, mag-le (extreme axis s c .total), small))

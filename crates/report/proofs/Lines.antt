@@ -1,11 +1,15 @@
 -- The numbers of a case, one after the other.
 use mathlib.Core.Path.{_≡_, refl, sym, ap, _∙_}
 use mathlib.Core.List.{List, [], _∷_, _++_, append-assoc}
-use Prim.Native.Nat.{ℕ, _+_, _<_}
+use Prim.Native.Nat.{ℕ, _+_, _^_, _≤_, _<_}
 use native.Mathlib.Numerals.{add-one}
+use native.Mathlib.Omega.{arith}
+use lib.IntN.{ℤ, pos, negsuc}
+use lib.Signed.{mag}
 use lib.ListN.{length, take, getD}
 use lib.Seq.{take-suc}
 use Rattle.whole.specs.Digits.{digits, decimal}
+use Rattle.whole.proofs.Digits.{decimal-length}
 use Rattle.page.specs.Writing.{Put}
 use Rattle.page.proofs.Put.{then}
 use Rattle.worst.specs.declared.Extreme.{Extreme}
@@ -60,3 +64,8 @@ numbers-more ns i h p q =
     (ap (λ (k : ℕ). spaced (take k ns)) (add-one i) ∙ ap spaced (take-suc ns i 0 h) ∙ spaced-append (take i ns)
     (getD ns i 0 ∷ []))
     (then p q)
+
+-- no number of 64 bits takes more than a minus sign and 19 digits
+pub total-length : (z : ℤ) → mag z < 2 ^ 63 → length (decimal z) ≤ 20
+total-length (pos n) h = decimal-length (pos n) (omega arith)
+total-length (negsuc n) h = decimal-length (negsuc n) (omega arith)

@@ -1,3 +1,4 @@
 -- The text of the six lines, the report of a job, and what `totals` writes.
 pub mod Lines
 pub mod Report
+pub mod Short

@@ -1,21 +1,23 @@
 // The report: six lines, on each axis the greatest and the least total with the first case that reaches it.
 use job::Job;
 use page::Writing;
+use worst::Reckoning;
+use worst::Stored;
 ghost use mathlib.Core.Path.{_≡_};
 ghost use Rattle.page.specs.Writing.{writing, bufferAfter};
 ghost use Rattle.job.specs.Walk.{judged};
 ghost use Rattle.sheet.specs.Sheet.{reading, jobWriting, jobBuffer};
-ghost use Rattle.report.specs.Report.{reportText, totalsText};
+ghost use Rattle.report.specs.Report.{reportText, storedText, totalsText, sixWriting, sixBuffer};
+ghost use Rattle.report.specs.Short.{ShortCase, AllSix};
 
 mod refusal;
 mod six;
 
-// The report of j at the start of `buf`. None is longer than 474 bytes.
-pub fn write_report(j: Job, buf: &mut [u8]) -> Writing
-    ensures { λ r. ⌜ (r ≡ jobWriting reportText (judged j) (now (buf .entry)))
-        × (now (buf .exit) ≡ jobBuffer reportText (judged j) (now (buf .entry))) ⌝ }
+// What was reckoned of a job: its own refusal, or six lines at the start of `buf`.
+fn write_six(w: Reckoning, buf: &mut [u8]) -> Writing
+    requires { ⌜ (w .verdict .number ≡ 0 → AllSix ShortCase (w .six)) ⌝ }
+    ensures { λ r. ⌜ (r ≡ sixWriting w (now (buf .entry))) × (now (buf .exit) ≡ sixBuffer w (now (buf .entry))) ⌝ }
 {
-    let w = worst::worst_cases(j);
     let v = w.verdict;
     if v.number != 0 {
         return Writing::Refused(v);
@@ -23,6 +25,22 @@ pub fn write_report(j: Job, buf: &mut [u8]) -> Writing
     let mut text = [0u8; 474];
     let n = six::put_six(&mut text, 0, w.six);
     page::emit(&text, n, buf)
+}
+
+// The report of j at the start of `buf`. None is longer than 474 bytes.
+pub fn write_report(j: Job, buf: &mut [u8]) -> Writing
+    ensures { λ r. ⌜ (r ≡ jobWriting reportText (judged j) (now (buf .entry)))
+        × (now (buf .exit) ≡ jobBuffer reportText (judged j) (now (buf .entry))) ⌝ }
+{
+    write_six(worst::worst_cases(j), buf)
+}
+
+// The same with the six lines that stored sums tell.
+pub fn write_stored(j: Job, stored: Stored, buf: &mut [u8]) -> Writing
+    ensures { λ r. ⌜ (r ≡ jobWriting (storedText stored) (judged j) (now (buf .entry)))
+        × (now (buf .exit) ≡ jobBuffer (storedText stored) (judged j) (now (buf .entry))) ⌝ }
+{
+    write_six(worst::worst_stored(j, stored), buf)
 }
 
 // What the program `totals` writes for the sheet s: its report, or one line that refuses it.

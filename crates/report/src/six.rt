@@ -7,6 +7,7 @@ ghost use mathlib.Core.Path.{_≡_};
 ghost use mathlib.Core.List.{[], _∷_};
 ghost use Rattle.page.specs.Writing.{Put};
 ghost use Rattle.report.specs.Lines.{spaced, caseNumbers, extremeText, axisText, sixText};
+ghost use Rattle.report.specs.Short.{ShortTotal, Both, AllSix};
 
 fn wide(n: u8) -> u32
     ensures { λ r. ⌜ r ≡ n ⌝ }
@@ -60,7 +61,8 @@ fn put_case(buf: &mut [u8], at: usize, e: Extreme) -> usize
 
 // One line: the axis, the word, the total and the numbers of its case.
 fn put_line(buf: &mut [u8], at: usize, axis: u8, word: &[u8; 5], e: Extreme) -> usize
-    ensures { λ r. ⌜ Put (now (buf .entry)) at (extremeText axis (now (word .entry)) e) (now (buf .exit)) r ⌝ }
+    ensures { λ r. ⌜ Put (now (buf .entry)) at (extremeText axis (now (word .entry)) e) (now (buf .exit)) r
+        × ShortTotal e ⌝ }
 {
     let named = page::put_byte(buf, at, axis);
     let worded = page::put_bytes(buf, named, word);
@@ -70,7 +72,7 @@ fn put_line(buf: &mut [u8], at: usize, axis: u8, word: &[u8; 5], e: Extreme) -> 
 }
 
 fn put_axis(buf: &mut [u8], at: usize, axis: u8, e: Extremes) -> usize
-    ensures { λ r. ⌜ Put (now (buf .entry)) at (axisText axis e) (now (buf .exit)) r ⌝ }
+    ensures { λ r. ⌜ Put (now (buf .entry)) at (axisText axis e) (now (buf .exit)) r × Both ShortTotal e ⌝ }
 {
     let next = put_line(buf, at, axis, b" max ", e.greatest);
     put_line(buf, next, axis, b" min ", e.least)
@@ -78,7 +80,7 @@ fn put_axis(buf: &mut [u8], at: usize, axis: u8, e: Extremes) -> usize
 
 // All six.
 pub(crate) fn put_six(buf: &mut [u8], at: usize, s: Six) -> usize
-    ensures { λ r. ⌜ Put (now (buf .entry)) at (sixText s) (now (buf .exit)) r ⌝ }
+    ensures { λ r. ⌜ Put (now (buf .entry)) at (sixText s) (now (buf .exit)) r × AllSix ShortTotal s ⌝ }
 {
     let x = put_axis(buf, at, b'x', s.x);
     let y = put_axis(buf, x, b'y', s.y);

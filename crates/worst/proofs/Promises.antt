@@ -3,7 +3,7 @@
 use mathlib.Core.Path.{_≡_, refl, sym, ap, _∙_}
 use mathlib.Core.Bool.{Bool, true, false, cond}
 use mathlib.Core.List.{List, [], _∷_, List·Memᴰ, List·Memᴰ·head}
-use Prim.Native.Nat.{ℕ}
+use Prim.Native.Nat.{ℕ, _-_}
 use native.Mathlib.Omega.{arith}
 use lib.IntN.{ℤ, pos}
 use lib.ListN.{length}
@@ -16,14 +16,16 @@ use Rattle.job.specs.Carried.{Carried, noWind}
 use Rattle.job.specs.InOrder.{InOrder}
 use Rattle.worst.specs.declared.Side.{Side}
 use Rattle.worst.specs.declared.Axis.{Axis}
+use Rattle.worst.specs.declared.Stored.{Stored}
 use Rattle.worst.specs.Best.{NoFurther, Best, at, IsBest}
-use Rattle.worst.specs.Cases.{Case, numbers, cases, caseTotal, worst}
+use Rattle.worst.specs.Cases.{Case, numbers, cases, caseTotal, worst, Permitted}
 use Rattle.worst.specs.Forces.{acts, outsides, alternatives, windAt, loads}
 use Rattle.worst.specs.Shown.{shown}
 use Rattle.worst.specs.Worst.{given, extreme}
+use Rattle.worst.specs.Stored.{storedAt, extremeBy}
 use Rattle.whole.proofs.ByPlace.{getD-member}
-use Rattle.worst.proofs.Lists.{Between, member-numbers}
-use Rattle.worst.proofs.Members.{worst-found, worst-is}
+use Rattle.worst.proofs.Lists.{Between, numbers-member, member-numbers}
+use Rattle.worst.proofs.Members.{worst-found, worst-is, cell-shown}
 use Rattle.worst.proofs.OneFace.{OneOrTwo, alone, pair}
 use Rattle.worst.proofs.Demand.{SameSite, AllIn, OneFactor, Faster, given-more, given-faster}
 use Rattle.worst.proofs.Accepted.{given-sound, outside-last}
@@ -77,6 +79,34 @@ module _ (axis : Axis) (s : Side) (c : Carried) where
         best = worst-is s l (extreme axis s c .total) (r .1) f;
         named = ap (shown (length (c .faces))) f;
       }
+
+  -- and that stored sums tell: a permitted case, with what is stored for it
+  pub record StoredShows (t : Stored) : Type 0 where
+    pub case : Case ℕ ℕ ℕ
+    pub permitted : Permitted (loads axis (given c)) case
+    pub named : extremeBy axis s t c ≡ shown (length (c .faces)) (at (storedAt axis s t (case .wind) (case .internal)) case)
+
+  pub stored-shows : InOrder c → (t : Stored) → StoredShows t
+  stored-shows o t =
+      let l = loads axis (given c) in
+      let one : Between 1 (length (c .winds)) 1 =
+      record { low = omega arith; high = omega (arith, o .winds-counted .low) } in
+      let one′ : Between 1 (length (c .internals)) 1 =
+      record { low = omega arith; high = omega (arith, o .internals-counted .low) } in
+      let r =
+      cell-shown s l (λ w m. some-alternative o (windAt (given c) w) (wind-member w m))
+      (λ k. storedAt axis s t (k .wind) (k .internal)) 1 1 (member-numbers 1 (length (c .winds)) 1 one)
+      (member-numbers 1 (length (c .internals)) 1 one′) in
+      record {
+        case = r .case;
+        permitted = r .permitted;
+        named = ap (shown (length (c .faces))) (r .found);
+      }
+    where
+      wind-member : (w : ℕ) → List·Memᴰ w (numbers (length (c .winds)) 1) → List·Memᴰ (windAt (given c) w) (c .winds)
+      wind-member w m =
+          let b = numbers-member (length (c .winds)) 1 m in
+          getD-member (c .winds) (w - 1) noWind (omega (arith, b .low, b .high))
 
 -- ---- more, and faster
 

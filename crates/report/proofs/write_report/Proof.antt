@@ -1,34 +1,37 @@
--- `write_report` meets its contract: a job's own refusal, or its report, which finds room and so is handed to `emit`
--- whole.
+-- `write_report` meets its contract: the job's own refusal, or its report.
+use mathlib.Core.Path.{_≡_, refl, sym, ap, _∙_, subst}
 use denote.Ref.{now}
 use borrow.Author.Needs.{needs}
-use Rattle.page.proofs.Put.{emitted}
-use Rattle.job.specs.Carried.{carried}
-use Rattle.report.proofs.Lengths.{report-most}
-use Rattle.report.proofs.Reports.{report-refused, report-accepted}
+use Rattle.worst.specs.declared.Reckoning.{Reckoning}
+use Rattle.worst.specs.Worst.{reckoned, worstOf}
+use Rattle.report.specs.Report.{reportText, sixWriting, sixBuffer}
+use Rattle.report.specs.Short.{ShortCase, AllSix}
+use Rattle.report.proofs.Lengths.{report-short}
+use Rattle.report.proofs.Reports.{six-written, six-holds}
 use Rattle.report.proofs.write_report.Statement.{statement}
 use Rattle.report.proofs.write_report.Tie as tie
 
-returns : tie.Need-returns
-returns c =
-    let w = c .before .before .before in
+write-six-requires : tie.Need-write-six-requires
+unfolding worstOf reportText
+write-six-requires c κs =
+    let w = c .before in
     let a = w .before .before .args in
-    report-refused (a .j) (w .worst-cases .result) (w .worst-cases .ensures) (now (a .buf)) (c .if1 .taken)
+    subst (λ (v : Reckoning). v .verdict .number ≡ 0 → AllSix ShortCase (v .six)) (sym (w .worst-cases .ensures))
+    (six-holds reckoned reportText (λ v. refl) (λ d. refl) (λ d. refl) (a .j) (AllSix ShortCase)
+    (λ d o. report-short d o))
 
-returns-2 : tie.Need-returns-2
-returns-2 c =
-    let e = c .before .before in
-    let p = e .before .before .before .before in
-    let i = p .before .before in
-    let w = i .before .before .before in
+returns : tie.Need-returns
+unfolding worstOf reportText
+returns c =
+    let s = c .before .before in
+    let w = s .before .before in
     let a = w .before .before .args in
-    let k = report-accepted (a .j) (w .worst-cases .result) (w .worst-cases .ensures) (i .if1 .left) in
-    rw (k .accepted)
-    (emitted (rw (k .text) at (p .put-six .ensures)) (report-most (carried (a .j)) (k .order)) (now (a .buf))
-    (e .emit .ensures))
+    let is = six-written reckoned reportText (λ v. refl) (λ d. refl) (λ d. refl) (a .j) (now (a .buf)) in
+    let e = w .worst-cases .ensures in (
+      s .write-six .ensures .0 ∙ ap (λ (v : Reckoning). sixWriting v (now (a .buf))) e ∙ is .0,
+      s .write-six .ensures .1 ∙ ap (λ (v : Reckoning). sixBuffer v (now (a .buf))) e ∙ is .1,
+    )
 
 pub write-report-spec : {M : Type 1} → statement M
 write-report-spec =
-    tie.close
-    (tie.spec (λ c κs. search needs) returns (λ c. search needs) (λ c κs. search needs) (λ c. search needs)
-    (λ c κs. search needs) (λ c. search needs) returns-2)
+    tie.close (tie.spec (λ c κs. search needs) write-six-requires (λ c. search needs) returns)

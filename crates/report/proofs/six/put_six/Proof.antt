@@ -10,7 +10,10 @@ returns c =
     let z = c .before .before in
     let y = z .before .before .before .before in
     let x = y .before .before .before .before in
-    rw six-parts (then (then (x .put-axis .ensures) (y .put-axis2 .ensures)) (z .put-axis3 .ensures))
+    let on-x = x .put-axis .ensures in
+    let on-y = y .put-axis2 .ensures in
+    let on-z = z .put-axis3 .ensures in
+    (rw six-parts (then (then (on-x .0) (on-y .0)) (on-z .0)), (on-x .1, on-y .1, on-z .1))
 
 pub put-six-spec : {M : Type 1} → statement M
 put-six-spec =
