@@ -26,6 +26,7 @@ use Rattle.book.specs.Flat.{flatParts, flatTable}
 use Rattle.book.specs.SingleSlope.{singleSlope, singleTable}
 use Rattle.book.specs.Spot.{roofParts}
 use Rattle.book.specs.Walls.{Wall, noWall, walls}
+use Rattle.book.specs.Held.{codedRow, heldRow, codedSlope, heldSlope}
 use Rattle.book.proofs.Ways.{noStanding}
 
 -- a number of a table as the machine has it, z, is the printed one, v
@@ -107,12 +108,6 @@ pub some-rows : (k : ℕ) → k < 8 → Some-rows k
 some-rows =
     each-at Some-rows 8 (lit< tt, (lit< tt, (lit< tt, (lit< tt, (lit< tt, (lit< tt, (lit< tt, (lit< tt, tt))))))))
 
-abbrev coded-row : Standing → coded-rows.Row
-coded-row s = (s .row .number, s .at, s .row .cells)
-
-abbrev codedRow : ℕ → coded-rows.Row
-codedRow n = getD (map coded-row (joined parts)) n (coded-row noStanding)
-
 -- where the parts begin, and where the last ends
 abbrev firsts : List ℕ
 firsts = 0 ∷ 7 ∷ 14 ∷ 22 ∷ 23 ∷ 26 ∷ 29 ∷ 33 ∷ []
@@ -137,24 +132,18 @@ placed =
     three = (place 2 refl refl tt, (place 1 refl refl tt, (place 0 refl refl tt, tt)))
 
 pub row-is : (k i : ℕ) → k < 7 → i < length (part k)
-    → codedRow (getD firsts k 0 + i) ≡ coded-row (getD (part k) i noStanding)
+    → heldRow (getD firsts k 0 + i) ≡ codedRow (getD (part k) i noStanding)
 row-is k i h g =
     let held = held-among k h in
-    List·getD-map coded-row (joined parts) (getD firsts k 0 + i) noStanding
-    ∙ ap coded-row
+    List·getD-map codedRow (joined parts) (getD firsts k 0 + i) noStanding
+    ∙ ap codedRow
     (ap (λ (n : ℕ). getD (joined parts) (n + i) noStanding) (placed k h .begun)
     ∙ joined-at parts k i noStanding (subst (λ (rows : List Standing). i < length rows) held g)
     ∙ ap (λ (rows : List Standing). getD rows i noStanding) (sym held))
 
 -- the rows of single slopes, which another table holds
-abbrev coded-slope : Standing → coded-slopes.Slope
-coded-slope s = (s .at, s .row .cells)
-
-abbrev codedSlope : ℕ → coded-slopes.Slope
-codedSlope n = getD (map coded-slope singleSlope) n (coded-slope noStanding)
-
-pub slope-is : (i : ℕ) → codedSlope i ≡ coded-slope (getD singleSlope i noStanding)
-slope-is i = List·getD-map coded-slope singleSlope i noStanding
+pub slope-is : (i : ℕ) → heldSlope i ≡ codedSlope (getD singleSlope i noStanding)
+slope-is i = List·getD-map codedSlope singleSlope i noStanding
 
 pub slope-number : (i : ℕ) → i < 5 → i + 1 ≡ getD singleSlope i noStanding .row .number
 slope-number =
@@ -195,13 +184,13 @@ run-at n (suc i) (r ∷ rows) rest t h =
 module _ (before rows after rest : List Row) (runs : T (run 1 rows))
     (all-rows : map (λ (s : Standing). s .row) (joined parts) ≡ before ++ (rows ++ after)) where
   cell-is : (i col : ℕ) → 0 < i → i ≤ length rows
-      → getD (codedRow (length before + (i - 1)) .2) col (pos 0) ≡ hundredths (rowNumbered i (rows ++ rest)) col
+      → getD (heldRow (length before + (i - 1)) .2) col (pos 0) ≡ hundredths (rowNumbered i (rows ++ rest)) col
   cell-is i col from to =
       let n = length before + (i - 1) in
       let e : 1 + (i - 1) ≡ i = omega arith in
       let found : getD (before ++ (rows ++ after)) n noRow ≡ getD rows (i - 1) noRow =
       getD-append-add before (rows ++ after) (i - 1) noRow ∙ List·getD-append rows after noRow (i - 1) (omega arith) in
-      ap (λ (r : coded-rows.Row). getD (r .2) col (pos 0)) (List·getD-map coded-row (joined parts) n noStanding)
+      ap (λ (r : coded-rows.Row). getD (r .2) col (pos 0)) (List·getD-map codedRow (joined parts) n noStanding)
       ∙ ap (λ (r : Row). hundredths r col)
       (sym (List·getD-map (λ (s : Standing). s .row) (joined parts) n noStanding)
       ∙ ap (λ (l : List Row). getD l n noRow) all-rows
@@ -209,14 +198,14 @@ module _ (before rows after rest : List Row) (runs : T (run 1 rows))
       ∙ sym (rw e at (run-at 1 (i - 1) rows rest runs (omega arith))))
 
 pub gable-cell : (i col : ℕ) → 0 < i → i ≤ 22
-    → getD (codedRow (i - 1) .2) col (pos 0) ≡ hundredths (rowNumbered i gableTable) col
+    → getD (heldRow (i - 1) .2) col (pos 0) ≡ hundredths (rowNumbered i gableTable) col
 unfolding gableTable
 gable-cell i col from to =
     let e : 0 + (i - 1) ≡ i - 1 = omega arith in
     rw e at (cell-is [] (rowsOf gableParts) (rowsOf flatParts) [] tt refl i col from to)
 
 pub flat-cell : (i col : ℕ) → 0 < i → i ≤ 10
-    → getD (codedRow (i + 21) .2) col (pos 0) ≡ hundredths (rowNumbered i flatTable) col
+    → getD (heldRow (i + 21) .2) col (pos 0) ≡ hundredths (rowNumbered i flatTable) col
 unfolding flatTable
 flat-cell i col from to =
     let e : 22 + (i - 1) ≡ i + 21 = omega arith in
@@ -224,7 +213,7 @@ flat-cell i col from to =
     rw e at (cell-is (rowsOf gableParts) (take 10 rows) (drop 10 rows) (drop 10 rows) tt refl i col from to)
 
 pub single-cell : (i col : ℕ) → 0 < i → i ≤ 5
-    → getD (codedSlope (i - 1) .1) col (pos 0) ≡ hundredths (rowNumbered i singleTable) col
+    → getD (heldSlope (i - 1) .1) col (pos 0) ≡ hundredths (rowNumbered i singleTable) col
 unfolding singleTable
 single-cell i col from to =
     let n = i - 1 in

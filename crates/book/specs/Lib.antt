@@ -15,3 +15,4 @@ pub mod Answer
 pub mod Question
 pub mod Coefficient
 pub mod ByHand
+pub mod Held

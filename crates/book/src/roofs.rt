@@ -12,6 +12,7 @@ ghost use Rattle.book.specs.Gable.{gableTable, heights, blockOf};
 ghost use Rattle.book.specs.Flat.{flatTable};
 ghost use Rattle.book.specs.SingleSlope.{singleTable};
 ghost use Rattle.book.specs.Roofs.{partOf, roofTable, lastNumber, width, roofWay};
+ghost use Rattle.book.specs.Held.{heldRow, heldSlope};
 use super::line::Spot;
 use super::line::between;
 use super::line::line_at;
@@ -129,7 +130,7 @@ fn part_of(s: Sizes) -> usize
     (s.kind + 1) as usize
 }
 
-// How many rows part k has, and row i of them: its number, and the number at which it stands.
+// How many rows part k has.
 fn count_of(k: usize) -> usize
     requires { ⌜ k < 8 ⌝ }
     ensures { λ r. ⌜ r ≡ length (getD roofParts k []) ⌝ }
@@ -140,8 +141,24 @@ fn count_of(k: usize) -> usize
     FIRST[k + 1] - FIRST[k]
 }
 
+// The rows that the tables hold.
+fn printed_row(n: usize) -> Row
+    requires { ⌜ n < 33 ⌝ }
+    ensures { λ r. ⌜ r ≡ heldRow n ⌝ }
+{
+    ROWS[n]
+}
+
+fn printed_slope(n: usize) -> Slope
+    requires { ⌜ n < 5 ⌝ }
+    ensures { λ r. ⌜ r ≡ heldSlope n ⌝ }
+{
+    SLOPES[n]
+}
+
 struct Stand(u16, u16);
 
+// Row i of part k: its number, and the number at which it stands.
 fn row_of(k: usize, i: usize) -> Stand
     requires { ⌜ (k < 8) × (i < length (getD roofParts k [])) ⌝ }
     ensures { λ r. ⌜ (let part = getD roofParts k [] in
@@ -149,10 +166,10 @@ fn row_of(k: usize, i: usize) -> Stand
         × (r .1 ≡ getD (map (λ (s : Standing). s .at) part) i 0)) ⌝ }
 {
     if k == 7 {
-        let r = SLOPES[i];
+        let r = printed_slope(i);
         return Stand((i + 1) as u16, r.0);
     }
-    let r = ROWS[FIRST[k] + i];
+    let r = printed_row(FIRST[k] + i);
     Stand(r.0, r.1)
 }
 
@@ -193,7 +210,7 @@ fn gable_cell(row: u32, col: usize) -> i16
     requires { ⌜ (0 < row) × (row ≤ 22) × (col < 4) ⌝ }
     ensures { λ r. ⌜ r ≡ hundredths (rowNumbered row gableTable) col ⌝ }
 {
-    let r = ROWS[(row - 1) as usize];
+    let r = printed_row((row - 1) as usize);
     r.2[col]
 }
 
@@ -201,7 +218,7 @@ fn flat_cell(row: u32, col: usize) -> i16
     requires { ⌜ (0 < row) × (row ≤ 10) × (col < 4) ⌝ }
     ensures { λ r. ⌜ r ≡ hundredths (rowNumbered row flatTable) col ⌝ }
 {
-    let r = ROWS[(row + 21) as usize];
+    let r = printed_row((row + 21) as usize);
     r.2[col]
 }
 
@@ -209,7 +226,7 @@ fn single_cell(row: u32, col: usize) -> i16
     requires { ⌜ (0 < row) × (row ≤ 5) × (col < 10) ⌝ }
     ensures { λ r. ⌜ r ≡ hundredths (rowNumbered row singleTable) col ⌝ }
 {
-    let r = SLOPES[(row - 1) as usize];
+    let r = printed_slope((row - 1) as usize);
     r.1[col]
 }
 

@@ -1,5 +1,9 @@
 -- `roofs::gable_cell`: the code's cells are the printed table's.
+use mathlib.Core.Path.{ap, _∙_}
 use borrow.Author.Needs.{needs}
+use lib.IntN.{pos}
+use lib.ListN.{getD}
+use Rattle.book.specs.declared.roofs.Row as coded-rows
 use Rattle.book.proofs.Tables.{gable-row-small}
 use Rattle.book.proofs.Coded.{entry, gable-cell}
 use Rattle.book.proofs.roofs.gable_cell.Statement.{statement}
@@ -7,12 +11,14 @@ use Rattle.book.proofs.roofs.gable_cell.Tie as tie
 
 returns : tie.Need-returns
 returns c =
-    let s = c .before .before in
+    let d = c .before in
+    let s = d .before in
     let a = s .args in
-    entry (gable-cell (a .row) (a .col) (s .pre .0) (s .pre .1)) (gable-row-small (a .row) .at (a .col)) tt .same
+    let held = ap (λ (r : coded-rows.Row). getD (r .2) (a .col) (pos 0)) (d .printed-row .ensures) in
+    entry (held ∙ gable-cell (a .row) (a .col) (s .pre .0) (s .pre .1)) (gable-row-small (a .row) .at (a .col)) tt .same
 
 pub gable-cell-spec : {M : Type 1} → statement M
 gable-cell-spec =
     tie.close
-    (tie.spec (λ c. search needs) (λ c. search needs) (λ c. search needs) (λ c. search needs) (λ c. search needs)
-    (λ c. search needs) returns)
+    (tie.spec (λ c. search needs) (λ c. search needs) (λ c κs. search needs) (λ c. search needs) (λ c. search needs)
+    returns)

@@ -21,38 +21,30 @@ module _ (c : tie.Else1) where
   set : Placed (c .before .args .k)
   set = placed (c .before .args .k) below
 
-mul-r : tie.Need-mul-r
-mul-r c = omega (arith, few c)
+printed-slope-requires : tie.Need-printed-slope-requires
+printed-slope-requires c κs = few c
 
-array-copy-out-r : tie.Need-array-copy-out-r
-array-copy-out-r c = few c
+add-t6 : tie.Need-add-t6
+add-t6 c = omega (arith, few (c .before))
 
-add-t17 : tie.Need-add-t17
-add-t17 c = omega (arith, few (c .before))
-
-cast-t21 : tie.Need-cast-t21
-cast-t21 c = omega (arith, few (c .before))
+cast-t7 : tie.Need-cast-t7
+cast-t7 c = omega (arith, few (c .before))
 
 returns : tie.Need-returns
 returns c =
     let t = c .before in
     let i = t .before .args .i in
+    let e = c .printed-slope .ensures ∙ slope-is i in
     rw (t .if1 .taken) (
       slope-number i (few t) ∙ sym (number-in (λ r. r .row .number) refl 7 i),
-      ap (λ (r : coded-slopes.Slope). r .0) (slope-is i) ∙ sym (number-in (λ r. r .at) refl 7 i),
+      ap (λ (r : coded-slopes.Slope). r .0) e ∙ sym (number-in (λ r. r .at) refl 7 i),
     )
 
-mul-r-2 : tie.Need-mul-r-2
-mul-r-2 c = omega (arith, below c)
+add-printed-row : tie.Need-add-printed-row
+add-printed-row c = omega (arith, c .before .pre .1, set c .ended, set c .most)
 
-add-r : tie.Need-add-r
-add-r c = omega (arith, c .before .pre .1, set c .ended, set c .most)
-
-mul-r-3 : tie.Need-mul-r-3
-mul-r-3 c = omega (arith, c .before .pre .1, set c .ended, set c .most)
-
-array-copy-out-r-2 : tie.Need-array-copy-out-r-2
-array-copy-out-r-2 c = omega (arith, c .before .pre .1, set c .ended, set c .most)
+printed-row-requires : tie.Need-printed-row-requires
+printed-row-requires c κs = omega (arith, c .before .pre .1, set c .ended, set c .most)
 
 returns-2 : tie.Need-returns-2
 returns-2 c =
@@ -60,7 +52,7 @@ returns-2 c =
     let s = t .before in
     let k = s .args .k in
     let i = s .args .i in
-    let e = row-is k i (below t) (s .pre .1) in (
+    let e = c .printed-row .ensures ∙ row-is k i (below t) (s .pre .1) in (
       ap (λ (r : coded-rows.Row). r .0) e ∙ sym (number-in (λ r. r .row .number) refl k i),
       ap (λ (r : coded-rows.Row). r .1) e ∙ sym (number-in (λ r. r .at) refl k i),
     )
@@ -68,5 +60,5 @@ returns-2 c =
 pub row-of-spec : {M : Type 1} → statement M
 row-of-spec =
     tie.close
-    (tie.spec mul-r array-copy-out-r add-t17 cast-t21 returns mul-r-2 (λ c. search needs) add-r mul-r-3
-    array-copy-out-r-2 returns-2)
+    (tie.spec printed-slope-requires add-t6 cast-t7 returns (λ c. search needs) (λ c. search needs) add-printed-row
+    printed-row-requires returns-2)
