@@ -29,5 +29,6 @@ pub mod AllCells  -- which is what stored sums tell, and its own the worst of al
 pub mod Demand  -- the third demand, for what a job gives
 pub mod Accepted  -- what an accepted job gives
 pub mod JobSums  -- the sums of a job
+pub mod Parts  -- stored sums, by the parts of the faces
 pub mod Promises  -- the third demand, for accepted jobs
 pub mod Reckoned  -- refused, or accepted as what it carries

@@ -83,7 +83,7 @@ reach-small s o weight h k = go (short s (o .first *ℤ weight) (o .last *ℤ we
 
 -- ---- no total exceeds 7.92 × 10^18 in size
 
-total-small : {F A : Type 0} (force : F → A → ℤ) (k : ℕ) (fs : List F)
+pub total-small : {F A : Type 0} (force : F → A → ℤ) (k : ℕ) (fs : List F)
     → ((f : F) → List·Memᴰ f fs → (a : A) → natAbs (force f a) ≤ k) → (as′ : List A)
     → natAbs (total force fs as′) ≤ length fs * k
 unfolding total
@@ -103,7 +103,7 @@ module _ (g : Given) (r : InRange g) (axis : Axis) where
     abbrev p : ℤ
     p = pressure (g .density) (faceSpeed (g .profile) w f)
 
-    force-small : natAbs (w .speed) ≤ 1000 → natAbs i ≤ 100 → List·Memᴰ f (g .faces)
+    pub force-small : natAbs (w .speed) ≤ 1000 → natAbs i ≤ 100 → List·Memᴰ f (g .faces)
         → natAbs (force axis g w i f k) ≤ 330000000000000000
     force-small slow low m = go (acts f (w .direction))
       where
