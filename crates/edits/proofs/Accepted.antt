@@ -141,7 +141,7 @@ module _ (j : Job) (o : InOrder (carried j)) where
   counted = length-take-le (r .count) (r .entry) all-there
 
 -- a record that holds some faces carries them
-holding-carried : (j : Job) (fs rest : List Face)
+pub holding-carried : (j : Job) (fs rest : List Face)
     → carried (jobWith (holding fs rest) j) ≡ job.withFaces (map (carriedFace (hasHeights (j .year))) fs) (carried j)
 unfolding carried
 holding-carried j fs rest =

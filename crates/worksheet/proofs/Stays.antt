@@ -1,15 +1,24 @@
 -- An edit of a worksheet edits its job: an accepted one stays accepted, and a refused edit leaves all as it was.
-use mathlib.Core.Path.{_≡_, ap, _∙_}
+use mathlib.Core.Path.{_≡_, sym, ap, _∙_, subst}
 use lib.Dec.{eqb}
-use borrow.Author.Tests.{ne-eqb}
+use borrow.Author.Tests.{eqb-true, ne-eqb}
 use Rattle.whole.proofs.Tests.{by-test}
 use Rattle.verdict.specs.Verdict.{Refuses}
-use Rattle.job.specs.Carried.{Carried}
+use Rattle.building.specs.Year.{hasHeights}
+use Rattle.job.specs.declared.Job.{Job}
+use Rattle.job.specs.Carried.{Carried, carried, withFaces}
+use Rattle.job.specs.InOrder.{InOrder}
 use Rattle.job.specs.Walk.{Accepted, judged}
-use Rattle.edits.specs.Edits.{Edit, editVerdict, editedJob}
-use Rattle.edits.proofs.Accepted.{edited-stays}
+use Rattle.job.proofs.RoundTrip.{judged-carried}
+use Rattle.worst.specs.Stored.{storedOf}
+use Rattle.edits.specs.Edits.{Edit, editVerdict, editFaces, jobWith, editedJob}
+use Rattle.edits.proofs.Accepted.{fit-in-order, editCarried, carried-edited, in-order-edited, edited-stays}
 use Rattle.worksheet.specs.declared.Worksheet.{Worksheet}
+use Rattle.worksheet.specs.Kept.{leaving, coming, partOf, moved, sumsAfter}
 use Rattle.worksheet.specs.Worksheet.{edited}
+use Rattle.worksheet.proofs.Bounds.{sums-within}
+use Rattle.worksheet.proofs.OneFace.{was-in-order, placed}
+use Rattle.worksheet.proofs.Exchange.{moved-stored}
 
 module _ (e : Edit) (w : Worksheet) where
   pub job-edited : edited e w .worksheet .job ≡ editedJob e (w .job) .job
@@ -23,3 +32,41 @@ module _ (e : Edit) (w : Worksheet) where
   pub refused-stays : Refuses (edited e w .verdict) → edited e w .worksheet ≡ w
   unfolding edited
   refused-stays h = rw (ne-eqb (editVerdict e (w .job) .number) 0 h)
+
+-- ---- the sums that it stores
+
+module _ (e : Edit) (w : Worksheet) where
+  abbrev j : Job
+  j = w .job
+
+  -- those kept by an edit that is not refused are those of the job after it
+  kept-true : editVerdict e j .number ≡ 0 → w .sums ≡ storedOf (carried j)
+      → sumsAfter e w ≡ storedOf (carried (jobWith (editFaces e j) j))
+  unfolding sumsAfter
+  kept-true z held =
+      let o = was-in-order j e z in
+      let c = carried j in
+      let h = hasHeights (j .year) in
+      let p = placed j e z in
+      let fits = in-order-edited j o e z in
+      let after = fit-in-order c o (editCarried h e (c .faces)) (fits .0) (fits .1) in
+      let out = leaving e (c .faces) in
+      let new = coming h e in
+      rw held
+      (rw (sums-within c o)
+      (ap (λ l. moved (storedOf (withFaces l c)) (partOf c out) (partOf c new)) (sym (p .was))
+      ∙ moved-stored c (p .pre) out new (p .post) (subst (λ l. InOrder (withFaces l c)) (sym (p .was)) o)
+      (subst (λ l. InOrder (withFaces l c)) (sym (p .now)) after)
+      ∙ ap (λ l. storedOf (withFaces l c)) (p .now)
+      ∙ ap storedOf (sym (carried-edited j o e))))
+
+  -- whatever the edit, refused or not: sums that are those of the job stay so
+  pub sums-stay : (c d : Carried) → judged j ≡ Accepted c → w .sums ≡ storedOf c
+      → judged (edited e w .worksheet .job) ≡ Accepted d → edited e w .worksheet .sums ≡ storedOf d
+  unfolding edited
+  sums-stay c d a held =
+      by-test (eqb (editVerdict e j .number) 0)
+      (λ t. rw t (λ b.
+      kept-true (eqb-true (editVerdict e j .number) 0 t) (held ∙ ap storedOf (judged-carried j c a))
+      ∙ ap storedOf (sym (judged-carried (jobWith (editFaces e j) j) d b))))
+      (λ t. rw t (λ b. held ∙ ap storedOf (judged-carried j c a ∙ sym (judged-carried j d b))))

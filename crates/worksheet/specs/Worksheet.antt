@@ -4,18 +4,21 @@ use lib.Dec.{eqb}
 use Rattle.verdict.specs.Verdict.{accepted}
 use Rattle.job.specs.Carried.{recorded, noJob}
 use Rattle.job.specs.Walk.{Reading, Accepted, Refused}
+use Rattle.worst.specs.Stored.{storedOf, noneStored}
 use Rattle.edits.specs.Edits.{Edit, editVerdict, editFaces, jobWith}
 use Rattle.worksheet.specs.declared.Worksheet.{Worksheet}
 use Rattle.worksheet.specs.declared.Edited.{Edited}
+use Rattle.worksheet.specs.Kept.{sumsAfter}
 
--- all zero where the sheet is refused
+-- its sums reckoned from its faces; all zero where the sheet is refused
 abbrev pub opened : Reading → Edited
-opened (Accepted c) = record { verdict = accepted; worksheet = record { job = recorded c } }
-opened (Refused v) = record { verdict = v; worksheet = record { job = noJob } }
+opened (Accepted c) =
+    record { verdict = accepted; worksheet = record { job = recorded c; sums = storedOf c } }
+opened (Refused v) = record { verdict = v; worksheet = record { job = noJob; sums = noneStored } }
 
 -- after an edit that is not refused
 abbrev pub after : Edit → Worksheet → Worksheet
-after e w = record { job = jobWith (editFaces e (w .job)) (w .job) }
+after e w = record { job = jobWith (editFaces e (w .job)) (w .job); sums = sumsAfter e w }
 
 -- a refused edit leaves the worksheet the same
 unfoldable pub edited : Edit → Worksheet → Edited
