@@ -45,10 +45,8 @@ fn refused(to: EditedJob, w: Worksheet) -> Edited
     ensures { λ r. ⌜ r ≡ record { verdict = to .verdict; worksheet = w } ⌝ }
 {
     let verdict = to.verdict;
-    Edited {
-        verdict,
-        worksheet: w,
-    }
+    let worksheet = w;
+    Edited { verdict, worksheet }
 }
 
 // The answer to one that is not: the job after it, and the sums by the parts that it takes out and puts in.
@@ -103,6 +101,5 @@ pub fn take_out(w: Worksheet, k: i64) -> Edited
     if to.verdict.number != 0 {
         return refused(to, w);
     }
-    let out = parts::of_held(w.job, k);
-    taken(to, w, out, parts::none())
+    taken(to, w, parts::of_held(w.job, k), parts::none())
 }

@@ -37,13 +37,13 @@ fn cell_within(t: StoredCell) -> bool
 fn all_within(t: Stored) -> bool
     ensures { λ r. ⌜ r ≡ allWithin (t .cell) ⌝ }
 {
-    let mut k = 0;
-    while k < 32 {
-        let cell = t.cell[k];
+    let mut i = 0;
+    while i < 32 {
+        let cell = t.cell[i];
         if !cell_within(cell) {
             return false;
         }
-        k += 1;
+        i += 1;
     }
     true
 }
@@ -54,9 +54,13 @@ fn moved_span(held: Span, out: Span, new: Span) -> Span
     requires { ⌜ SpanSmall mostSum held × SpanSmall mostPart out × SpanSmall mostPart new ⌝ }
     ensures { λ r. ⌜ r ≡ movedSpan held out new ⌝ }
 {
+    let less = Span {
+        greatest: held.greatest - out.greatest,
+        least: held.least - out.least,
+    };
     Span {
-        greatest: held.greatest - out.greatest + new.greatest,
-        least: held.least - out.least + new.least,
+        greatest: less.greatest + new.greatest,
+        least: less.least + new.least,
     }
 }
 

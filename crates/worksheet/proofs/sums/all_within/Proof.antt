@@ -11,10 +11,10 @@ use Rattle.worksheet.proofs.sums.all_within.Statement.{statement}
 use Rattle.worksheet.proofs.sums.all_within.Tie as tie
 
 abbrev Inv-loop : tie.InvT-loop
-Inv-loop t k₀ k = (k ≤ 32) × (allWithin (t .cell) ≡ allWithin (drop k (t .cell)))
+Inv-loop t i₀ i = (i ≤ 32) × (allWithin (t .cell) ≡ allWithin (drop i (t .cell)))
 
 abbrev μ-loop : tie.MeasureT-loop
-μ-loop t k₀ k = 32 - k
+μ-loop t i₀ i = 32 - i
 
 loop-holds : tie.Need-loop-holds Inv-loop μ-loop
 loop-holds c = (omega arith, refl)
@@ -26,7 +26,7 @@ module _ (c : tie.After-cell-within Inv-loop μ-loop) where
   abbrev at : tie.At-loop Inv-loop μ-loop
   at = c .before .before .before
 
-  counted : at .loop .k < length (at .before .args .t1 .cell)
+  counted : at .loop .i < length (at .before .args .t1 .cell)
   counted = let t = c .before .before .loop-test .taken in omega (arith, room (at .before))
 
 returns : tie.Need-returns Inv-loop μ-loop
@@ -34,7 +34,7 @@ returns c =
     let d = c .before in
     let l = at d .loop in
     let beyond = sym (d .cell-within .ensures) ∙ not-true _ (c .if1 .taken) in
-    sym (l .inv .1 ∙ beyond-here (at d .before .args .t1 .cell) (l .k) (counted d) beyond)
+    sym (l .inv .1 ∙ beyond-here (at d .before .args .t1 .cell) (l .i) (counted d) beyond)
 
 loop-again : tie.Need-loop-again Inv-loop μ-loop
 loop-again c =
@@ -42,7 +42,7 @@ loop-again c =
     let l = at d .loop in
     let t = d .before .before .loop-test .taken in
     let within = sym (d .cell-within .ensures) ∙ not-false _ (c .if1 .left) in
-    (omega arith, l .inv .1 ∙ within-next (at d .before .args .t1 .cell) (l .k) (counted d) within)
+    (omega arith, l .inv .1 ∙ within-next (at d .before .args .t1 .cell) (l .i) (counted d) within)
 
 returns-2 : tie.Need-returns-2 Inv-loop μ-loop
 unfolding allWithin
@@ -50,7 +50,7 @@ returns-2 c =
     let l = c .before .loop in
     let s = c .before .before in
     let left = c .loop-test .left in
-    sym (l .inv .1 ∙ ap allWithin (drop-of-length-le (s .args .t1 .cell) {i = l .k} (omega (arith, room s))))
+    sym (l .inv .1 ∙ ap allWithin (drop-of-length-le (s .args .t1 .cell) {i = l .i} (omega (arith, room s))))
 
 pub all-within-spec : {M : Type 1} → statement M
 all-within-spec =

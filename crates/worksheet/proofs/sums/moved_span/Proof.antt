@@ -8,45 +8,45 @@ use Rattle.worksheet.specs.Small.{mostPart}
 use Rattle.worksheet.proofs.sums.moved_span.Statement.{statement}
 use Rattle.worksheet.proofs.sums.moved_span.Tie as tie
 
--- one number less another, and a third more
+-- one number less another, and then a third more
 abbrev less : (held out : ℤ) → natAbs held ≤ mostSum → natAbs out ≤ mostPart → Num
 less held out h k = back w64 (num≤ held h) tt ⊖ back w64 (num≤ out k) tt
-
-abbrev more : Num → (new : ℤ) → natAbs new ≤ mostPart → Num
-more n new h = n ⊕ back w64 (num≤ new h) tt
 
 module _ (a : tie.Start) where
   abbrev highLess : Num
   highLess = less (a .args .held .greatest) (a .args .out .greatest) (a .pre .0 .greatest) (a .pre .1 .greatest)
 
   abbrev high : Num
-  high = more (back w64 highLess tt) (a .args .new .greatest) (a .pre .2 .greatest)
+  high = back w64 (back w64 highLess tt) tt ⊕ back w64 (num≤ (a .args .new .greatest) (a .pre .2 .greatest)) tt
 
   abbrev lowLess : Num
   lowLess = less (a .args .held .least) (a .args .out .least) (a .pre .0 .least) (a .pre .1 .least)
 
   abbrev low : Num
-  low = more (back w64 lowLess tt) (a .args .new .least) (a .pre .2 .least)
+  low = back w64 (back w64 lowLess tt) tt ⊕ back w64 (num≤ (a .args .new .least) (a .pre .2 .least)) tt
 
-sub-t4 : tie.Need-sub-t4
-sub-t4 c = fit {w = w64} (highLess (c .before .before .before .before)) tt
+sub-t5 : tie.Need-sub-t5
+sub-t5 c = fit {w = w64} (highLess (c .before .before .before .before)) tt
 
-add-t5 : tie.Need-add-t5
-add-t5 c = fit {w = w64} (high (c .before .before .before .before .before .before)) tt
-
-abbrev start : tie.After-struct-told5 → tie.Start
-start c = c .before .before .before .before .before .before .before .before .before .before
+abbrev start : tie.After-struct-told4 → tie.Start
+start c = c .before .before .before .before .before .before .before .before
 
 sub-t6 : tie.Need-sub-t6
 sub-t6 c = fit {w = w64} (lowLess (start c)) tt
 
-add-t7 : tie.Need-add-t7
-add-t7 c = fit {w = w64} (low (start (c .before .before))) tt
+add-t5 : tie.Need-add-t5
+add-t5 c = fit {w = w64} (high (start (c .before .before .before .before))) tt
+
+abbrev start-2 : tie.After-struct-told8 → tie.Start
+start-2 c = start (c .before .before .before .before .before .before .before .before)
+
+add-t6 : tie.Need-add-t6
+add-t6 c = fit {w = w64} (low (start-2 c)) tt
 
 returns : tie.Need-returns
 returns c =
-    let a = start (c .before .before) in
+    let a = start-2 c in
     λ j. record { greatest = back w64 (high a) tt .same j; least = back w64 (low a) tt .same j }
 
 pub moved-span-spec : {M : Type 1} → statement M
-moved-span-spec = tie.close (tie.spec sub-t4 add-t5 sub-t6 add-t7 returns)
+moved-span-spec = tie.close (tie.spec sub-t5 sub-t6 add-t5 add-t6 returns)
