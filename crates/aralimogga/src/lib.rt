@@ -15,7 +15,7 @@ ghost use Rattle.panel.specs.Bracket.{panelOf};
 ghost use Rattle.panel.specs.Chart.{pointOf};
 ghost use Rattle.job.specs.Walk.{verdict, judged};
 ghost use Rattle.sheet.specs.Sheet.{reading, sheetText, jobWriting, jobBuffer};
-ghost use Rattle.report.specs.Report.{reportText};
+ghost use Rattle.report.specs.Report.{reportText, storedText};
 ghost use Rattle.edits.specs.Edits.{Add, Replace, TakeOut};
 ghost use Rattle.worksheet.specs.Worksheet.{opened, edited};
 ghost use Rattle.answers.specs.Answers.{hostText, hostCoefficient, hostDouble, hostTotal};
@@ -101,13 +101,13 @@ pub extern "C" fn aral_take_out(w: Worksheet, face: i64) -> Edited
     worksheet::take_out(w, face)
 }
 
-// Its six lines.
+// Its six lines, which its sums tell.
 #[no_mangle]
 pub extern "C" fn aral_show(w: Worksheet, out: &mut [u8]) -> answers::Text
-    ensures { λ r. ⌜ (r ≡ hostText (jobWriting reportText (judged (w .job)) (now (out .entry))))
-        × (now (out .exit) ≡ jobBuffer reportText (judged (w .job)) (now (out .entry))) ⌝ }
+    ensures { λ r. ⌜ (r ≡ hostText (jobWriting (storedText (w .sums)) (judged (w .job)) (now (out .entry))))
+        × (now (out .exit) ≡ jobBuffer (storedText (w .sums)) (judged (w .job)) (now (out .entry))) ⌝ }
 {
-    answers::text_of(report::write_report(w.job, out))
+    answers::text_of(report::write_stored(w.job, w.sums, out))
 }
 
 // Its sheet.

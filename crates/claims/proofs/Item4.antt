@@ -1,6 +1,5 @@
 -- Item 4 of paper 02: faces edited on screen.
-use mathlib.Core.Path.{_≡_, refl, sym, ap, ap₂, _∙_}
-use mathlib.Core.Logic.{_⊎_, ⊎-elim}
+use mathlib.Core.Path.{_≡_, refl, sym, ap, ap₂, _∙_, subst}
 use mathlib.Core.List.{List}
 use Prim.Native.Nat.{ℕ, _+_, _≤_, _<_}
 use denote.Ref.{now}
@@ -34,36 +33,21 @@ use Rattle.claims.specs.Contract.{Always}
 use Rattle.claims.specs.Fault.{Faultless}
 use Rattle.claims.specs.Edit.{There, faceFault, EditFault, new-face}
 use Rattle.claims.specs.Written.{Written, put, longer}
+use Rattle.claims.specs.Sums.{TrueSums}
 use Rattle.claims.proofs.Contracts as of
 use Rattle.claims.proofs.Accepted.{job-in-order}
 use Rattle.claims.proofs.Fault as fault
 use Rattle.claims.proofs.Edit as edit
+use Rattle.claims.proofs.Session.{Step, Session, none, edits, by-edit, stays-true, shows-report}
 use Rattle.claims.proofs.Again as again
 
 -- ---- the statements
 
--- one call, by whatever its contract allows: from the worksheet handed in to the one that it hands back
-abbrev pub Call : {L : Type 0} {A R S : L → Type 0} → ((κ : L) → A κ → R κ → S κ → Type 0)
-    → ((κ : L) → A κ → Worksheet) → ((κ : L) → R κ → Worksheet) → Worksheet → Worksheet → Type 0
-Call {L} {A} {R} {S} Post given back w v =
-    (κ : L) × (a : A κ) × (r : R κ) × (s : S κ) × Post κ a r s × (given κ a ≡ w) × (back κ r ≡ v)
-
--- an edit of one of the three kinds, refused or not
-abbrev pub Step : Worksheet → Worksheet → Type 0
-Step w v =
-    Call of.aral-add.Post (λ κ a. a .0) (λ κ r. r .worksheet) w v
-    ⊎ (Call of.aral-replace.Post (λ κ a. a .0) (λ κ r. r .worksheet) w v
-    ⊎ Call of.aral-take-out.Post (λ κ a. a .0) (λ κ r. r .worksheet) w v)
-
--- "any sequence of edits"
-pub data Session : Worksheet → Worksheet → Type 0 where
-  none : {w : Worksheet} → Session w w
-  edits : {w u v : Worksheet} → Step w u → Session u v → Session w v
-
 -- "After any sequence of edits from an accepted job, the report equals that of the sheet written afresh": the six lines
--- shown are those of the sheet that is written, read and reported, in the answer and in a buffer alike
+-- shown are those of the sheet that is written, read and reported, in the answer and in a buffer alike. From item 7 on
+-- a worksheet stores sums, and this is said of one whose sums are its faces', as every sheet that is opened has
 abbrev pub ReportsAfresh : Type 0
-ReportsAfresh = (w v : Worksheet) (c : Carried) → judged (w .job) ≡ Accepted c → Session w v
+ReportsAfresh = (w v : Worksheet) → TrueSums w → Session w v
     → Always of.aral-write.Post (λ κ a r s. Always of.aral-show.Post (λ κ′ b q t.
     Always of.aral-report.Post (λ κ″ d p u. (n : ℕ) → a .0 ≡ v → b .0 ≡ v
     → r ≡ hostText (written.Length n) → now (d .0) ≡ take n (now (s .1 .0)) → now (b .1 .0) ≡ now (d .1 .0)
@@ -103,7 +87,7 @@ pub record NewFaceAsInSheet : Type 0 where
 
 -- ---- the proofs
 
--- a call whose contract is that of an edit
+-- whatever is stored, the job stays an accepted one
 step-stays : {u v : Worksheet} {r : Edited} (e : Edit) (w : Worksheet) (c : Carried) → judged (u .job) ≡ Accepted c
     → r ≡ edited e w → w ≡ u → r .worksheet ≡ v → (d : Carried) × (judged (v .job) ≡ Accepted d)
 step-stays {v = v} e w c a p q s =
@@ -112,10 +96,7 @@ step-stays {v = v} e w c a p q s =
 
 one-step : (w v : Worksheet) (c : Carried) → judged (w .job) ≡ Accepted c → Step w v
     → (d : Carried) × (judged (v .job) ≡ Accepted d)
-one-step w v c a =
-    ⊎-elim (λ (κ, x, r, s, p, q, b). step-stays (Add (x .1 .0)) (x .0) c a p q b)
-    (⊎-elim (λ (κ, x, r, s, p, q, b). step-stays (Replace (x .1 .0) (x .1 .1 .0)) (x .0) c a p q b)
-    (λ (κ, x, r, s, p, q, b). step-stays (TakeOut (x .1 .0)) (x .0) c a p q b))
+one-step w v c a = by-edit (λ e x r p q b. step-stays e x c a p q b)
 
 pub stays-accepted : StaysAccepted
 stays-accepted w v c a none = (c, a)
@@ -139,17 +120,18 @@ read-afresh v d a buf p q e same =
     ap reading (same ∙ start ∙ ap sheetText mine) ∙ written-read (v .job) d a ∙ ap Accepted (sym mine) ∙ sym a
 
 pub reports-afresh : ReportsAfresh
-reports-afresh w v c a session κ x r s p κ′ b q t p′ κ″ d y u p″ n same same′ length-is text buffer =
-    let k = stays-accepted w v c a session in
+reports-afresh w v true session κ x r s p κ′ b q t p′ κ″ d y u p″ n same same′ length-is text buffer =
+    let k = stays-true w v true session in
+    let shows = shows-report (b .0) (subst TrueSums (sym same′) k) (now (b .1 .0)) in
     let j = ap (λ (z : Worksheet). judged (z .job)) same in
     let j′ = ap (λ (z : Worksheet). judged (z .job)) same′ in
     let out = now (x .1 .0) in
     let again =
-    read-afresh v (k .0) (k .1) out (p .0 ∙ ap (λ z. hostText (jobWriting sheetText z out)) j)
+    read-afresh v (k .carries) (k .accepted) out (p .0 ∙ ap (λ z. hostText (jobWriting sheetText z out)) j)
     (p .1 ∙ ap (λ z. jobBuffer sheetText z out) j) length-is text in
     let one = j′ ∙ sym again in (
-      p′ .0 ∙ (λ i. hostText (jobWriting reportText (one i) (buffer i))) ∙ sym (p″ .0),
-      p′ .1 ∙ (λ i. jobBuffer reportText (one i) (buffer i)) ∙ sym (p″ .1),
+      p′ .0 ∙ ap hostText (shows .0) ∙ (λ i. hostText (jobWriting reportText (one i) (buffer i))) ∙ sym (p″ .0),
+      p′ .1 ∙ shows .1 ∙ (λ i. jobBuffer reportText (one i) (buffer i)) ∙ sym (p″ .1),
     )
 
 -- the verdict that a contract's edit gives

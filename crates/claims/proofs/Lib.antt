@@ -10,6 +10,7 @@ pub mod Paper02
 pub mod Item1
 pub mod Item4
 pub mod Item6
+pub mod Item7
 pub mod Item12
 pub mod Printed
 pub mod RowsWorked
@@ -25,6 +26,7 @@ pub mod Accepted
 pub mod Fault
 pub mod Question
 pub mod Edit
+pub mod Session
 pub mod Total
 pub mod Written
 pub mod Decimal

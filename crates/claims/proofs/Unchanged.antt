@@ -91,8 +91,9 @@ aral-report-unchanged κ a r s p h =
 aral-show-unchanged : RefusedUnchanged of.aral-show.Post (λ κ r. Refuses (r .verdict)) (λ κ a. now (a .1 .0))
     (λ κ s. now (s .1 .0))
 aral-show-unchanged κ a r s p h =
-    let w = jobWriting reportText (judged (a .0 .job)) (now (a .1 .0)) in
-    job-kept reportText (judged (a .0 .job)) (now (a .1 .0)) (refl, p .1) (host-refused w (p .0) h)
+    let text = storedText (a .0 .sums) in
+    let w = jobWriting text (judged (a .0 .job)) (now (a .1 .0)) in
+    job-kept text (judged (a .0 .job)) (now (a .1 .0)) (refl, p .1) (host-refused w (p .0) h)
 
 aral-write-unchanged : RefusedUnchanged of.aral-write.Post (λ κ r. Refuses (r .verdict)) (λ κ a. now (a .1 .0))
     (λ κ s. now (s .1 .0))

@@ -5,6 +5,7 @@ pub mod Decimal
 pub mod Fault
 pub mod Question
 pub mod Edit
+pub mod Sums
 pub mod Total
 pub mod Shown
 pub mod Doubles

@@ -31,7 +31,8 @@ refused-parts v = rw (spaced-append (v .number ∷ []) (v .line ∷ [])) (simp a
 
 -- where what was reckoned of a job is what is reckoned of its reading, a refusal is the job's own and the six lines are
 -- the text of what it carries
-module _ (reckon : Reading → Reckoning) (text : Carried → List ℕ) (own : (v : Verdict) → reckon (Refused v) .verdict ≡ v)
+module _ (reckon : Reading → Reckoning) (text : Carried → List ℕ)
+    (own : (v : Verdict) → reckon (Refused v) .verdict ≡ v)
     (fine : (c : Carried) → reckon (Accepted c) .verdict .number ≡ 0)
     (lines : (c : Carried) → sixText (reckon (Accepted c) .six) ≡ text c) (j : Job) where
   pub six-written : (buf : List ℕ)

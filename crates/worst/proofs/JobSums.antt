@@ -1,6 +1,7 @@
 -- The sums of a job in order: each is what the engine reckons of its cell, and together they tell the job's six
 -- extremes.
 use mathlib.Core.Path.{_≡_, refl, sym, ap, ap₂, _∙_}
+use mathlib.Core.Bool.{false}
 use mathlib.Core.List.{List}
 use Prim.Native.Nat.{ℕ, _+_, _-_, _*_, _≤_, _<_}
 use native.Mathlib.Omega.{arith}
@@ -24,8 +25,8 @@ use Rattle.worst.specs.Forces.{Given, loads}
 use Rattle.worst.specs.Factors.{profileOf}
 use Rattle.worst.specs.Shown.{shown}
 use Rattle.worst.specs.Worst.{given, extreme, sixExtremes}
-use Rattle.worst.specs.Stored.{storedCells, bestChoice, valueOf, cellOf, noCell, sumsAt, storedOf, spanSide}
-use Rattle.worst.specs.Stored.{spanOn, storedAt, extremeBy, sixBy}
+use Rattle.worst.specs.Stored.{storedCells, bestChoice, valueOf, cellOf, noCell, counts, sumsAt, storedOf}
+use Rattle.worst.specs.Stored.{spanSide, spanOn, storedAt, extremeBy, sixBy}
 use Rattle.worst.specs.Engine.{facesOf, axesOf, axesUnder, cellWith, UpTo}
 use Rattle.worst.proofs.Lists.{numbers-member, member-numbers, at-number}
 use Rattle.worst.proofs.StoredSums.{cells-at, up-to-more, up-to-all, sums-counted, internal-past, wind-past}
@@ -138,3 +139,8 @@ module _ (j : Job) (o : InOrder (carried j)) where
         y = record { greatest = own-extreme Y Greatest k; least = own-extreme Y Least k };
         z = record { greatest = own-extreme Z Greatest k; least = own-extreme Z Least k };
       }
+
+  -- and past the counts nothing is stored
+  pub past-counts : (k : ℕ) → k < storedCells → counts g k ≡ false → getD (storedOf (carried j) .cell) k noCell ≡ noCell
+  unfolding storedOf
+  past-counts k t e = cells-at (sumsAt g) k t ∙ rw e

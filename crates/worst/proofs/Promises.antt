@@ -44,7 +44,7 @@ first-alternative false outs h = List·Memᴰ·head refl
 
 module _ (axis : Axis) (s : Side) (c : Carried) where
   -- each face has an alternative
-  some-alternative : InOrder c → (w : Wind) → List·Memᴰ w (c .winds) → (f : Face) → List·Memᴰ f (c .faces)
+  pub some-alternative : InOrder c → (w : Wind) → List·Memᴰ w (c .winds) → (f : Face) → List·Memᴰ f (c .faces)
       → (k : ℕ) × List·Memᴰ k (alternatives (given c) w f)
   some-alternative o w mw f mf =
       (1, first-alternative (acts f (w .direction)) (outsides (given c) w f) (given-sound c o w f mw mf))
@@ -84,7 +84,8 @@ module _ (axis : Axis) (s : Side) (c : Carried) where
   pub record StoredShows (t : Stored) : Type 0 where
     pub case : Case ℕ ℕ ℕ
     pub permitted : Permitted (loads axis (given c)) case
-    pub named : extremeBy axis s t c ≡ shown (length (c .faces)) (at (storedAt axis s t (case .wind) (case .internal)) case)
+    pub named : extremeBy axis s t c
+        ≡ shown (length (c .faces)) (at (storedAt axis s t (case .wind) (case .internal)) case)
 
   pub stored-shows : InOrder c → (t : Stored) → StoredShows t
   stored-shows o t =

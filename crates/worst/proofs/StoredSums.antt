@@ -1,4 +1,4 @@
--- Stored sums: what stands at a cell, cells stored one after the other, and that a job's own sums tell its six extremes.
+-- Stored sums: what stands at a cell, cells stored one after the other, and which cells count.
 use mathlib.Core.Path.{_≡_, refl, sym, ap, ap₂, _∙_, subst}
 use mathlib.Core.Bool.{Bool, true, false, cond, _&&_}
 use mathlib.Core.List.{List, [], _∷_, map}

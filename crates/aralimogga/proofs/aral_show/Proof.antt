@@ -1,4 +1,4 @@
--- `aral_show`: its report, as a record for C.
+-- `aral_show`: what its sums tell, as a record for C.
 use mathlib.Core.Path.{ap, _∙_}
 use borrow.Author.Needs.{needs}
 use Rattle.answers.specs.Answers.{hostText}
@@ -8,7 +8,7 @@ use Rattle.aralimogga.proofs.aral_show.Tie as tie
 returns : tie.Need-returns
 returns c =
     let w = c .before .before .before in
-    (c .text-of .ensures ∙ ap hostText (w .write-report .ensures .0), w .write-report .ensures .1)
+    (c .text-of .ensures ∙ ap hostText (w .write-stored .ensures .0), w .write-stored .ensures .1)
 
 pub aral-show-spec : {M : Type 1} → statement M
 aral-show-spec =

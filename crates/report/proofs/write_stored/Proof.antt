@@ -17,8 +17,8 @@ write-six-requires c κs =
     let w = c .before in
     let a = w .before .before .args in
     subst (λ (v : Reckoning). v .verdict .number ≡ 0 → AllSix ShortCase (v .six)) (sym (w .worst-stored .ensures))
-    (six-holds (reckonedBy (a .stored)) (storedText (a .stored)) (λ v. refl) (λ d. refl) (λ d. refl) (a .j) (AllSix ShortCase)
-    (λ d o. stored-short d o (a .stored)))
+    (six-holds (reckonedBy (a .stored)) (storedText (a .stored)) (λ v. refl) (λ d. refl) (λ d. refl) (a .j)
+    (AllSix ShortCase) (λ d o. stored-short d o (a .stored)))
 
 returns : tie.Need-returns
 unfolding storedText
@@ -26,7 +26,9 @@ returns c =
     let s = c .before .before in
     let w = s .before .before in
     let a = w .before .before .args in
-    let is = six-written (reckonedBy (a .stored)) (storedText (a .stored)) (λ v. refl) (λ d. refl) (λ d. refl) (a .j) (now (a .buf)) in
+    let is =
+    six-written (reckonedBy (a .stored)) (storedText (a .stored)) (λ v. refl) (λ d. refl) (λ d. refl) (a .j)
+    (now (a .buf)) in
     let e = w .worst-stored .ensures in (
       s .write-six .ensures .0 ∙ ap (λ (v : Reckoning). sixWriting v (now (a .buf))) e ∙ is .0,
       s .write-six .ensures .1 ∙ ap (λ (v : Reckoning). sixBuffer v (now (a .buf))) e ∙ is .1,

@@ -15,7 +15,8 @@ returns c =
     let s = d .before in
     let a = s .args in
     let held = ap (λ (r : coded-rows.Row). getD (r .2) (a .col) (pos 0)) (d .printed-row .ensures) in
-    entry (held ∙ flat-cell (a .row) (a .col) (s .pre .0) (s .pre .1)) (flat-row-small (a .row) .at (a .col)) tt .same
+    let printed = flat-cell (a .row) (a .col) (s .pre .0) (s .pre .1) in
+    entry (held ∙ printed) (flat-row-small (a .row) .at (a .col)) tt .same
 
 pub flat-cell-spec : {M : Type 1} → statement M
 flat-cell-spec =

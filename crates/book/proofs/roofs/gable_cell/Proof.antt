@@ -15,7 +15,8 @@ returns c =
     let s = d .before in
     let a = s .args in
     let held = ap (λ (r : coded-rows.Row). getD (r .2) (a .col) (pos 0)) (d .printed-row .ensures) in
-    entry (held ∙ gable-cell (a .row) (a .col) (s .pre .0) (s .pre .1)) (gable-row-small (a .row) .at (a .col)) tt .same
+    let printed = gable-cell (a .row) (a .col) (s .pre .0) (s .pre .1) in
+    entry (held ∙ printed) (gable-row-small (a .row) .at (a .col)) tt .same
 
 pub gable-cell-spec : {M : Type 1} → statement M
 gable-cell-spec =

@@ -15,7 +15,8 @@ returns c =
     let s = d .before in
     let a = s .args in
     let held = ap (λ (r : coded-slopes.Slope). getD (r .1) (a .col) (pos 0)) (d .printed-slope .ensures) in
-    entry (held ∙ single-cell (a .row) (a .col) (s .pre .0) (s .pre .1)) (single-row-small (a .row) .at (a .col)) tt .same
+    let printed = single-cell (a .row) (a .col) (s .pre .0) (s .pre .1) in
+    entry (held ∙ printed) (single-row-small (a .row) .at (a .col)) tt .same
 
 pub single-cell-spec : {M : Type 1} → statement M
 single-cell-spec =
