@@ -527,6 +527,15 @@ static void sum_case(const job *j, const worst *w, int wind, int internal, int64
 /* Report lines 0, 2 and 4 want the greatest, the others the least. */
 static int beats(int k, int64_t total, int64_t than) { return k % 2 == 0 ? total > than : total < than; }
 
+/* Takes the sums of a wind and internal where they are the first, or further out than all before. */
+static void keep_best(worst *w, const int64_t sum[6], int wind, int internal)
+{
+    for (int k = 0; k < 6; k++) {
+        best found = {sum[k], wind, internal};
+        if ((wind == 0 && internal == 0) || beats(k, found.total, w->best[k].total)) w->best[k] = found;
+    }
+}
+
 static void find_worst(const job *j, worst *w)
 {
     gather_offers(j, w);
@@ -535,10 +544,7 @@ static void find_worst(const job *j, worst *w)
         for (int internal = 0; internal < j->internals; internal++) {
             int64_t sum[6];
             sum_case(j, w, wind, internal, sum);
-            for (int k = 0; k < 6; k++) {
-                best found = {sum[k], wind, internal};
-                if ((wind == 0 && internal == 0) || beats(k, found.total, w->best[k].total)) w->best[k] = found;
-            }
+            keep_best(w, sum, wind, internal);
         }
 }
 
@@ -564,6 +570,55 @@ static void put_report(writer *out, const job *j, const worst *w)
         for (int i = 0; i < j->faces; i++) put_after_space(out, alternative(j, w, k, i));
         put(out, '\n');
     }
+}
+
+/* ---- The sums of a worksheet ---- */
+
+static int cell_of(int wind, int internal) { return INTERNALS * wind + internal; }
+
+aral_sums ENTRY(add_up)(const uint8_t *sheet, size_t n)
+{
+    aral_sums sums;
+    job j;
+    worst w;
+    memset(&sums, 0, sizeof sums);
+    if (read_job(sheet, n, &j).number) return sums;
+    gather_offers(&j, &w);
+    weigh(&j, &w);
+    for (int wind = 0; wind < j.winds; wind++)
+        for (int internal = 0; internal < j.internals; internal++) {
+            int64_t sum[6];
+            sum_case(&j, &w, wind, internal, sum);
+            sums.cell[cell_of(wind, internal)] =
+                (aral_sum_cell){{sum[0], sum[1]}, {sum[2], sum[3]}, {sum[4], sum[5]}};
+        }
+    return sums;
+}
+
+/* The six best of the stored sums. The faces are asked for their alternatives alone. */
+static void find_stored(const job *j, const aral_sums *sums, worst *w)
+{
+    gather_offers(j, w);
+    weigh(j, w);
+    for (int wind = 0; wind < j->winds; wind++)
+        for (int internal = 0; internal < j->internals; internal++) {
+            const aral_sum_cell *c = &sums->cell[cell_of(wind, internal)];
+            const int64_t sum[6] = {c->x.greatest, c->x.least, c->y.greatest, c->y.least, c->z.greatest, c->z.least};
+            keep_best(w, sum, wind, internal);
+        }
+}
+
+aral_text ENTRY(report_by)(const uint8_t *sheet, size_t n, const aral_sums *sums, uint8_t *out, size_t room)
+{
+    job j;
+    worst found;
+    aral_answer answer = read_job(sheet, n, &j);
+    if (answer.number) return (aral_text){answer.number, answer.line, 0};
+    find_stored(&j, sums, &found);
+    writer w;
+    w.length = 0;
+    put_report(&w, &j, &found);
+    return hand_over(&w, out, room);
 }
 
 /* ---- The entry points ---- */

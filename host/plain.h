@@ -30,4 +30,9 @@ aral_text plain_write(aral_worksheet w, uint8_t *out, size_t room);
 aral_double plain_panel(int64_t total);
 aral_point plain_chart(int64_t x, int64_t y, int64_t z);
 
+/* For plain_edits.c: the sums of a sheet, all zero where it is refused; and its report by stored sums, whether they are
+   those of its faces or not. */
+aral_sums ENTRY(add_up)(const uint8_t *sheet, size_t n);
+aral_text ENTRY(report_by)(const uint8_t *sheet, size_t n, const aral_sums *sums, uint8_t *out, size_t room);
+
 #endif

@@ -1,10 +1,10 @@
-/* The plain calculator's worksheets. A record is judged, shown and written as the sheet that it would be: the sheet is
-   made here, and the entry points of plain.c read it. */
+/* The plain calculator's worksheets. A record is judged, added up, shown and written as the sheet that it would be: the
+   sheet is made here, and plain.c reads it. */
 #include "plain.h"
 #include <string.h>
 
 enum { COUNT = 2, ROOM = 7, NO_FACE = 9 };
-enum { WINDS = 8, INTERNALS = 4, STEPS = 16, FACES = ARAL_FACES_MOST };
+enum { WINDS = 8, INTERNALS = 4, STEPS = 16, FACES = ARAL_FACES_MOST, CELLS = WINDS * INTERNALS };
 
 /* ---- The sheet of a record ---- */
 
@@ -178,7 +178,73 @@ aral_edited ENTRY(open)(const uint8_t *sheet, size_t n)
     opened.number = answer.number;
     opened.line = answer.line;
     if (!answer.number) read_job(&(fields){sheet}, &opened.worksheet.job);
+    opened.worksheet.sums = ENTRY(add_up)(sheet, n);
     return opened;
+}
+
+/* ---- Sums ---- */
+
+/* No sum of a job is larger: 24 faces, each of 2200 thousandths at a pressure number of 1500 x 1000 x 1000 on an area
+   of 100000. */
+#define LARGEST 7920000000000000000
+
+static aral_sums sums_of(const aral_job *j)
+{
+    page p;
+    put_job(&p, j);
+    return ENTRY(add_up)(p.text, p.length);
+}
+
+/* What a face of the job brings into each sum: what the sums of the job would be if it had this face alone. */
+static aral_sums part_of(const aral_job *j, const aral_face *f)
+{
+    aral_job alone = *j;
+    alone.faces.count = 1;
+    alone.faces.entry[0] = *f;
+    return sums_of(&alone);
+}
+
+static int allowed(aral_span s)
+{
+    return -LARGEST <= s.least && s.least <= LARGEST && -LARGEST <= s.greatest && s.greatest <= LARGEST;
+}
+
+/* Whether each of the numbers, also past the counts, is one that a sum can be. */
+static int all_allowed(const aral_sums *sums)
+{
+    for (int i = 0; i < CELLS; i++) {
+        const aral_sum_cell *c = &sums->cell[i];
+        if (!allowed(c->x) || !allowed(c->y) || !allowed(c->z)) return 0;
+    }
+    return 1;
+}
+
+static aral_span moved(aral_span s, int sign, aral_span part)
+{
+    return (aral_span){s.greatest + sign * part.greatest, s.least + sign * part.least};
+}
+
+/* The face's part added to each sum (sign 1) or taken out of it (sign -1). Past the counts it has none. */
+static void move_sums(aral_worksheet *w, int sign, const aral_face *f)
+{
+    aral_sums part = part_of(&w->job, f);
+    for (int i = 0; i < CELLS; i++) {
+        aral_sum_cell *c = &w->sums.cell[i];
+        c->x = moved(c->x, sign, part.cell[i].x);
+        c->y = moved(c->y, sign, part.cell[i].y);
+        c->z = moved(c->z, sign, part.cell[i].z);
+    }
+}
+
+/* The sums after an edit, by the face that left and the one that came, NULL where none did. */
+static void keep_sums(aral_worksheet *w, const aral_face *left, const aral_face *came)
+{
+    if (!all_allowed(&w->sums)) {
+        w->sums = sums_of(&w->job);
+        return;
+    }
+    if (left) move_sums(w, -1, left);
+    if (came) move_sums(w, 1, came);
 }
 
 /* ---- Edits ---- */
@@ -197,11 +263,15 @@ static aral_face held(const aral_worksheet *w, aral_face f)
     return f;
 }
 
-/* The worksheet with its new face, which is judged as the line of that sheet, since every other line is accepted. */
-static aral_edited edited(const aral_worksheet *before, const aral_worksheet *after)
+/* What comes of an edit of one face: which left, and which came in its place. A new face is judged as the line of the
+   sheet after the edit, since every other line is accepted. */
+static aral_edited edited(const aral_worksheet *before, aral_worksheet *after, const aral_face *left,
+                          const aral_face *came)
 {
     aral_answer fault = judge(after);
-    return answered(fault.number, fault.line, fault.number ? before : after);
+    if (fault.number) return answered(fault.number, fault.line, before);
+    keep_sums(after, left, came);
+    return answered(0, 0, after);
 }
 
 aral_edited ENTRY(add)(aral_worksheet w, aral_face f)
@@ -211,7 +281,7 @@ aral_edited ENTRY(add)(aral_worksheet w, aral_face f)
     if (w.job.faces.count == FACES) return answered(COUNT, 0, &w);
     aral_worksheet after = w;
     after.job.faces.entry[after.job.faces.count++] = held(&w, f);
-    return edited(&w, &after);
+    return edited(&w, &after, NULL, &f);
 }
 
 aral_edited ENTRY(replace)(aral_worksheet w, int64_t face, aral_face f)
@@ -221,7 +291,7 @@ aral_edited ENTRY(replace)(aral_worksheet w, int64_t face, aral_face f)
     if (!has_face(&w, face)) return answered(NO_FACE, 0, &w);
     aral_worksheet after = w;
     after.job.faces.entry[face - 1] = held(&w, f);
-    return edited(&w, &after);
+    return edited(&w, &after, &w.job.faces.entry[face - 1], &f);
 }
 
 aral_edited ENTRY(take_out)(aral_worksheet w, int64_t face)
@@ -230,11 +300,12 @@ aral_edited ENTRY(take_out)(aral_worksheet w, int64_t face)
     if (own.number) return answered(own.number, own.line, &w);
     if (!has_face(&w, face)) return answered(NO_FACE, 0, &w);
     if (w.job.faces.count == 1) return answered(COUNT, 0, &w);
-    aral_face *entry = w.job.faces.entry;
-    uint32_t last = --w.job.faces.count;
+    aral_worksheet after = w;
+    aral_face *entry = after.job.faces.entry;
+    uint32_t last = --after.job.faces.count;
     for (uint32_t i = (uint32_t)face - 1; i < last; i++) entry[i] = entry[i + 1];
     memset(&entry[last], 0, sizeof entry[last]);
-    return answered(0, 0, &w);
+    return edited(&w, &after, &w.job.faces.entry[face - 1], NULL);
 }
 
 /* ---- Texts ---- */
@@ -243,7 +314,7 @@ aral_text ENTRY(show)(aral_worksheet w, uint8_t *out, size_t room)
 {
     page p;
     put_job(&p, &w.job);
-    return ENTRY(report)(p.text, p.length, out, room);
+    return ENTRY(report_by)(p.text, p.length, &w.sums, out, room);
 }
 
 aral_text ENTRY(write)(aral_worksheet w, uint8_t *out, size_t room)

@@ -43,8 +43,8 @@ extern "C" {
 #endif
 
 /* The version of these shapes: it rises where a record or a call changes. 2: a coefficient names its rows. 3: a
-   question names its year. 4: worksheets. */
-#define ARAL_VERSION 4
+   question names its year. 4: worksheets. 5: a worksheet keeps its sums. */
+#define ARAL_VERSION 5
 
 /* The refusals by name. */
 enum {
@@ -129,10 +129,19 @@ typedef struct {
     aral_faces faces;
 } aral_job;
 
-/* A job that the host holds while its faces are edited. It may hold anything: each call judges the held job first,
-   with the number and line that its sheet would get. So a number of more than seven digits or a zone that is none of
-   A to H is 1, a count above the room of its list 2, and a year other than 1 to 3 is 3 at line 2. */
-typedef struct { aral_job job; } aral_worksheet;
+/* For each wind and internal coefficient, both counted from 0, cell[4 * wind + internal] has on each axis the greatest
+   and the least total over every choice of the faces' alternatives, in the units of aral_extreme. Cells past the counts
+   are no part of the sums. */
+typedef struct { int64_t greatest, least; } aral_span;
+typedef struct { aral_span x, y, z; } aral_sum_cell;
+typedef struct { aral_sum_cell cell[32]; } aral_sums;
+
+/* A job that the host holds while its faces are edited, and its sums, kept from edit to edit. It may hold anything:
+   each call judges the held job first, with the number and line that its sheet would get. So a number of more than
+   seven digits or a zone that is none of A to H is 1, a count above the room of its list 2, and a year other than 1 to
+   3 is 3 at line 2. No call refuses sums: from aral_open on they are those of the faces after every edit, refused or
+   not, and a host that puts others in their place is shown what it put there. */
+typedef struct { aral_job job; aral_sums sums; } aral_worksheet;
 
 /* Accepted (0, 0) with the worksheet after the edit; or the refusal, with the worksheet as it was handed in. */
 typedef struct { uint32_t number, line; aral_worksheet worksheet; } aral_edited;
@@ -176,14 +185,18 @@ aral_coefficient aral_outside(int64_t year, int64_t h, int64_t a, int64_t b, int
 aral_coefficient aral_net(int64_t year, int64_t h, int64_t a, int64_t b, int64_t density, int64_t kind, int64_t x,
                           int64_t direction, uint8_t place, int64_t internal);
 
-/* Reads a sheet into a worksheet. Refuses as aral_read does, and the worksheet is then all zero. What the sheet does
-   not carry is zero: entries past a count, and in year 1 the profile and the faces' heights. */
+/* Reads a sheet into a worksheet and adds up its sums. Refuses as aral_read does, and the worksheet is then all zero.
+   What the sheet does not carry is zero: entries and cells past a count, and in year 1 the profile and the faces'
+   heights. */
 aral_edited aral_open(const uint8_t *sheet, size_t n);
 
 /* Edits, each of which leaves all else in the worksheet as it was, also entries past the counts: a face added after
    the last one; face `face`, counted from 1, replaced; or face `face` taken out, so that later faces move up by one
    and the entry that the last one had is zero. In year 1 a new face's height is not looked at, and the worksheet has
    0 for it.
+   Each sum loses the part of the face that leaves, its greatest or least force there, and gains that of the face that
+   comes; cells past the counts stay. But where one of the 192 numbers handed in, past the counts or not, is over
+   7920000000000000000 in size, which no job's sum is, all are added up anew from the faces, with zero past the counts.
    Refuse, in this order: the held job, as its sheet would be; a face other than 1 to the count with 9, line 0; adding
    to 24 faces, or taking out the only one, with 2, line 0; the new face with 1, 3, 6 or 8 as its line of the sheet
    would be: one after the last face's where it is added, that of face `face` where it replaces it. */
@@ -192,6 +205,9 @@ aral_edited aral_replace(aral_worksheet w, int64_t face, aral_face f);
 aral_edited aral_take_out(aral_worksheet w, int64_t face);
 
 /* Write the report of the held job, as aral_report does of its sheet, and its sheet.
+   The report is made from the sums: each total is the sum that is furthest out within the counts, with the first wind
+   and internal coefficient that have it, and each face's alternative is the first that goes furthest out there. So it
+   is the report of the sheet where the sums are those of the faces. The sheet does not go by the sums.
    Refuse the held job as its sheet would be; then with 7, line 0, where the text is longer than `room`. The buffer as
    for aral_rewrite. No report is longer than ARAL_REPORT_MOST bytes, and no sheet than ARAL_SHEET_MOST. */
 aral_text aral_show(aral_worksheet w, uint8_t *out, size_t room);
