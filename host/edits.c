@@ -1,10 +1,12 @@
 /* Edits worksheets with the library and with the plain calculator side by side: edits SEED SEQUENCES. After every step
-   the answers, every field of the records, and what is shown and written must be the same; and a worksheet must show
-   what the report of its sheet has. It stops where they differ. */
+   the answers, every field of the records, and what is shown and written must be the same. From an accepted job on the
+   sums must be those of the faces, and wherever they are, a worksheet must show what the report of its sheet has. Some
+   records are handed in with other sums. It stops where they differ. */
 #include "aralimogga.h"
 #include "fence.h"
 #include "plain.h"
 #include "records.h"
+#include "walk.h"
 #include <inttypes.h>
 #include <stdio.h>
 #include <stdlib.h>
@@ -12,7 +14,7 @@
 
 enum { ADD, REPLACE, TAKE_OUT, EDITS };
 static const char *const names[EDITS] = {"added", "replaced", "taken out"};
-static struct { unsigned long opened, steps, done[EDITS][10], texts; } tally;
+static struct { unsigned long opened, walked, steps, done[EDITS][10], anew, texts, shown[2]; } tally;
 static dice die;
 
 static void show_worksheet(const aral_worksheet *w)
@@ -31,12 +33,20 @@ static void differ(const char *what, const aral_worksheet *w)
     exit(1);
 }
 
-static int same_worksheet(const aral_worksheet *p, const aral_worksheet *q)
+/* How many fields are the same before the first that is not. */
+static int same_fields(const aral_worksheet *p, const aral_worksheet *q)
 {
     int64_t mine[RECORD_FIELDS], other[RECORD_FIELDS];
+    int same = 0;
     fields_of(p, mine);
     fields_of(q, other);
-    return !memcmp(mine, other, sizeof mine);
+    while (same < RECORD_FIELDS && mine[same] == other[same]) same++;
+    return same;
+}
+
+static int same_worksheet(const aral_worksheet *p, const aral_worksheet *q)
+{
+    return same_fields(p, q) == RECORD_FIELDS;
 }
 
 /* The answers and every field of both records. */
@@ -47,7 +57,10 @@ static void compare_edited(const char *what, const aral_worksheet *w, const aral
         differ(what, w);
     }
     if (same_worksheet(&p->worksheet, &q->worksheet)) return;
-    printf("both answer %u %u; after it, of the library and of the plain calculator:\n", p->number, p->line);
+    int same = same_fields(&p->worksheet, &q->worksheet), sum = same - JOB_FIELDS;
+    printf("both answer %u %u; after it field %d differs", p->number, p->line, same);
+    if (sum >= 0) printf(", %c %s of cell %d", "xyz"[sum % 6 / 2], sum % 2 ? "least" : "greatest", sum / 6);
+    printf("; of the library and of the plain calculator:\n");
     show_worksheet(&p->worksheet);
     show_worksheet(&q->worksheet);
     differ(what, w);
@@ -90,21 +103,26 @@ static aral_text compare_rooms(const char *what, writes *ours, writes *theirs, c
     return whole;
 }
 
-/* What is written is a sheet whose report is what is shown, and which opens as the same job. */
-static void compare_texts(const aral_worksheet *w)
+/* What is written is a sheet that opens as the same job. Where the sums are those of its faces, as they must be where
+   they were kept from an accepted job on, its report is what is shown. */
+static void compare_texts(const aral_worksheet *w, int kept)
 {
     static uint8_t shown[WATCHED], written[WATCHED], report[WATCHED];
     aral_text s = compare_rooms("a worksheet shown", aral_show, plain_show, w, shown);
     aral_text t = compare_rooms("a worksheet written", aral_write, plain_write, w, written);
     if (s.number != t.number || s.line != t.line) differ("what showing and writing answer", w);
     if (s.number) return;
-    aral_text r = aral_report(written, t.length, report, sizeof report);
-    if (r.number || r.length != s.length || memcmp(report, shown, r.length))
-        differ("what is shown and the report of the sheet written afresh", w);
     aral_edited again = aral_open(written, t.length);
     aral_worksheet job = *w;
     clear_litter(&job);
-    if (again.number || !same_worksheet(&again.worksheet, &job)) differ("a worksheet and its sheet opened", w);
+    int same = same_fields(&again.worksheet, &job);
+    if (again.number || same < JOB_FIELDS) differ("a worksheet and its sheet opened", w);
+    if (kept && same < RECORD_FIELDS) differ("the sums kept and those of the faces", w);
+    tally.shown[same == RECORD_FIELDS]++;
+    if (same < RECORD_FIELDS) return;
+    aral_text r = aral_report(written, t.length, report, sizeof report);
+    if (r.number || r.length != s.length || memcmp(report, shown, r.length))
+        differ("what is shown and the report of the sheet written afresh", w);
 }
 
 /* ---- Steps ---- */
@@ -119,6 +137,26 @@ static void compare_open(const text *t, int after)
     compare_edited("a sheet opened", NULL, &p, &q);
     if (p.number != read.number || p.line != read.line) differ("a sheet opened and the same read", NULL);
     if (p.number && !same_worksheet(&p.worksheet, &nothing)) differ("a refused sheet and nothing", &p.worksheet);
+}
+
+/* A cell's sums are the furthest totals of the job that has its wind and internal alone, over every case that is then
+   left; tried where they are few. */
+static void compare_walk(const sample *s, aral_worksheet *w)
+{
+    for (int wind = 0; wind < s->winds; wind++)
+        for (int internal = 0; internal < s->internals; internal++) {
+            sample one = *s;
+            aral_extreme best[6];
+            one.winds = one.internals = 1;
+            one.direction[0] = s->direction[wind];
+            one.speed[0] = s->speed[wind];
+            one.internal[0] = s->internal[internal];
+            if (!walk(&one, 300, best)) continue;
+            tally.walked++;
+            for (int k = 0; k < 6; k++)
+                if (*sum_at(&w->sums, 6 * (4 * wind + internal) + k) != best[k].total)
+                    differ("the sums of a sheet opened and all its cases walked", w);
+        }
 }
 
 /* A face to edit with: one that the job could have, with none, one or two of its fields off. */
@@ -165,32 +203,45 @@ static int step(sample *s, aral_worksheet *w, int liked)
     call(edit, w, face, new_face(s), &p, &q);
     tally.steps++;
     tally.done[edit][p.number < 10 ? p.number : 0]++;
+    tally.anew += !p.number && too_large(&w->sums);
     compare_edited(names[edit], w, &p, &q);
     if (p.number && !same_worksheet(&p.worksheet, w)) differ("a refused edit's worksheet and the one handed in", w);
     *w = p.worksheet;
     return p.number == 0;
 }
 
-/* From an acceptable job on, as it was read, with anything where it does not look, or spoiled. */
+/* An acceptable job as it was read, and its sheet opened, damaged and opened again. */
+static void start(sample *s, aral_worksheet *w, int after)
+{
+    static text t;
+    make_sample(&die, s);
+    write_sample(s, &t);
+    record_of(s, w);
+    aral_edited opened = aral_open(t.byte, t.length);
+    w->sums = opened.worksheet.sums;
+    if (opened.number || !same_worksheet(&opened.worksheet, w)) differ("a job and its sheet opened", w);
+    compare_walk(s, w);
+    compare_open(&t, after);
+    damage(&die, &t);
+    compare_open(&t, after);
+}
+
+/* From an acceptable job on, as it was read, with anything where it does not look, spoiled, or with other sums. */
 static void sequence(unsigned long i)
 {
     static sample s;
-    static text t;
     aral_worksheet w;
-    make_sample(&die, &s);
-    write_sample(&s, &t);
-    record_of(&s, &w);
-    aral_edited opened = aral_open(t.byte, t.length);
-    if (opened.number || !same_worksheet(&opened.worksheet, &w)) differ("a job and its sheet opened", &w);
-    compare_open(&t, (int)(i % 2));
-    damage(&die, &t);
-    compare_open(&t, (int)(i % 2));
+    int spoiled = i % 4 == 3, other_sums = i % 3 == 2, kept = !spoiled && !other_sums;
+    start(&s, &w, (int)(i % 2));
     if (i % 2) litter(&die, &w);
-    for (int64_t slips = i % 4 == 3 ? pick(&die, 1, 2) : 0; slips > 0; slips--) spoil_record(&die, &w);
-    compare_texts(&w);
+    for (int64_t slips = spoiled ? pick(&die, 1, 2) : 0; slips > 0; slips--) spoil_record(&die, &w);
+    if (other_sums) spoil_sums(&die, &w);
+    compare_texts(&w, kept);
     int liked = (int)pick(&die, 0, EDITS - 1);
-    for (int64_t steps = pick(&die, 1, i % 4 == 3 ? 4 : 30); steps > 0; steps--)
-        if (step(&s, &w, liked)) compare_texts(&w);
+    for (int64_t steps = pick(&die, 1, spoiled ? 4 : 30); steps > 0; steps--) {
+        if (step(&s, &w, liked)) compare_texts(&w, kept);
+        if (other_sums && pick(&die, 0, 3) == 0) spoil_sums(&die, &w);
+    }
 }
 
 static void no_sheet(void)
@@ -217,6 +268,8 @@ int main(int argc, char **argv)
             if (number != ARAL_ROOM) printf(" %d: %lu", number, tally.done[edit][number]);
         printf("\n");
     }
+    printf("shown by the sums of the faces %lu, by others %lu; %lu edits of sums too large, %lu cells walked\n",
+           tally.shown[1], tally.shown[0], tally.anew, tally.walked);
     printf("%lu sheets opened, %lu edits, %lu texts: all the same\n", tally.opened, tally.steps, tally.texts);
     return 0;
 }

@@ -1,6 +1,10 @@
-/* Makes worksheets from the jobs of sheets.c, litters them where a job does not look, and spoils them. */
+/* Makes worksheets from the jobs of sheets.c, litters them where a job does not look, and spoils them and the sums that
+   they keep. */
 #include "records.h"
+#include "plain.h"
 #include <string.h>
+
+#define LARGEST 7920000000000000000 /* that a job's sum can be */
 
 aral_face face_at(const sample *s, int i)
 {
@@ -61,9 +65,37 @@ static void fill_rest(dice *d, aral_job *j, wanted *some)
     for (uint32_t i = 0; j->year == 1 && i < used(j->faces.count, 24); i++) j->faces.entry[i].height = some(d);
 }
 
-void litter(dice *d, aral_worksheet *w) { fill_rest(d, &w->job, anything); }
+/* A sum that a job can have. */
+static int64_t some_sum(dice *d)
+{
+    int64_t size = (int64_t)(roll(d) % (LARGEST + UINT64_C(1)));
+    return pick(d, 0, 1) ? size : -size;
+}
 
-void clear_litter(aral_worksheet *w) { fill_rest(NULL, &w->job, zero); }
+/* Whether field i of the sums is within the counts. */
+static int counted(const aral_job *j, int i)
+{
+    uint32_t wind = (uint32_t)i / 24, internal = (uint32_t)i / 6 % 4;
+    return wind < j->winds.count && internal < j->internals.count;
+}
+
+static void fill_sums_past(dice *d, aral_worksheet *w, wanted *some)
+{
+    for (int i = 0; i < SUM_FIELDS; i++)
+        if (!counted(&w->job, i)) *sum_at(&w->sums, i) = some(d);
+}
+
+void litter(dice *d, aral_worksheet *w)
+{
+    fill_rest(d, &w->job, anything);
+    fill_sums_past(d, w, some_sum);
+}
+
+void clear_litter(aral_worksheet *w)
+{
+    fill_rest(NULL, &w->job, zero);
+    fill_sums_past(NULL, w, zero);
+}
 
 /* ---- What is not allowed ---- */
 
@@ -118,7 +150,65 @@ void spoil_record(dice *d, aral_worksheet *w)
     }
 }
 
+/* ---- Other sums ---- */
+
+static int64_t any_bits(dice *d) { return (int64_t)roll(d); }
+
+static int64_t tiny(dice *d) { return pick(d, -1, 1); }
+
+static int64_t largest(dice *d) { return pick(d, 0, 1) ? LARGEST : -LARGEST; }
+
+static int64_t beside_largest(dice *d) { return largest(d) + pick(d, -1, 1); }
+
+static int64_t at_the_ends(dice *d) { return pick(d, 0, 1) ? INT64_MAX : INT64_MIN; }
+
+static void fill_sums(dice *d, aral_sums *sums, wanted *some)
+{
+    for (int i = 0; i < SUM_FIELDS; i++) *sum_at(sums, i) = some(d);
+}
+
+static aral_sums sums_of_another(dice *d)
+{
+    static sample s;
+    static text t;
+    make_sample(d, &s);
+    write_sample(&s, &t);
+    return plain_open(t.byte, t.length).worksheet.sums;
+}
+
+/* One number, beside the largest or at the ends; or, where there are any, one past the counts. */
+static void spoil_sum(dice *d, aral_worksheet *w)
+{
+    int past = (int)pick(d, 0, 1), i = (int)pick(d, 0, SUM_FIELDS - 1);
+    for (int tries = 0; past && tries < SUM_FIELDS && counted(&w->job, i); tries++) i = (i + 1) % SUM_FIELDS;
+    *sum_at(&w->sums, i) = pick(d, 0, 3) ? beside_largest(d) : at_the_ends(d);
+}
+
+void spoil_sums(dice *d, aral_worksheet *w)
+{
+    static wanted *const whole[] = {any_bits, some_sum, tiny, largest, beside_largest, at_the_ends, zero};
+    int64_t kind = pick(d, 0, 13);
+    if (kind < 7) fill_sums(d, &w->sums, whole[kind]);
+    else if (kind < 9) w->sums = sums_of_another(d);
+    else spoil_sum(d, w);
+}
+
+int too_large(const aral_sums *sums)
+{
+    aral_sums copy = *sums;
+    for (int i = 0; i < SUM_FIELDS; i++)
+        if (*sum_at(&copy, i) > LARGEST || *sum_at(&copy, i) < -LARGEST) return 1;
+    return 0;
+}
+
 /* ---- Fields ---- */
+
+int64_t *sum_at(aral_sums *sums, int i)
+{
+    aral_sum_cell *c = &sums->cell[i / 6];
+    int64_t *const number[] = {&c->x.greatest, &c->x.least, &c->y.greatest, &c->y.least, &c->z.greatest, &c->z.least};
+    return number[i % 6];
+}
 
 void fields_of(const aral_worksheet *w, int64_t field[RECORD_FIELDS])
 {
@@ -144,4 +234,6 @@ void fields_of(const aral_worksheet *w, int64_t field[RECORD_FIELDS])
         const int64_t number[] = {f->zone, f->mark, f->height, f->x, f->y, f->z};
         for (int k = 0; k < 6; k++) *field++ = number[k];
     }
+    aral_sums sums = w->sums;
+    for (int i = 0; i < SUM_FIELDS; i++) *field++ = *sum_at(&sums, i);
 }

@@ -7,14 +7,18 @@
 #include "sheets.h"
 
 aral_face face_at(const sample *s, int i);                      /* face i of a job, from 0 */
-void record_of(const sample *s, aral_worksheet *w);             /* what reading its sheet gives */
+void record_of(const sample *s, aral_worksheet *w);             /* what reading its sheet gives, but its sums are 0 */
 void litter(dice *d, aral_worksheet *w);                        /* anything where the job does not look */
 void clear_litter(aral_worksheet *w);                           /* zero there, as reading its sheet gives */
 void spoil_record(dice *d, aral_worksheet *w);                  /* one field, mostly not allowed */
 void spoil_face(dice *d, aral_face *f);
+void spoil_sums(dice *d, aral_worksheet *w);                    /* other sums than those of the faces */
+int too_large(const aral_sums *sums);                           /* whether one is larger than a job's can be */
 
-/* Every field of a worksheet, in order: a record's padding is no part of it. */
-enum { RECORD_FIELDS = 1 + 6 + (1 + 8 * 2) + (1 + 4) + (1 + 16 * 2) + (1 + 24 * 6) };
+/* Every field of a worksheet, in order, those of its sums last: a record's padding is no part of it. */
+enum { JOB_FIELDS = 1 + 6 + (1 + 8 * 2) + (1 + 4) + (1 + 16 * 2) + (1 + 24 * 6), SUM_FIELDS = 32 * 3 * 2 };
+enum { RECORD_FIELDS = JOB_FIELDS + SUM_FIELDS };
 void fields_of(const aral_worksheet *w, int64_t field[RECORD_FIELDS]);
+int64_t *sum_at(aral_sums *sums, int i);                        /* field i of the sums, from 0 */
 
 #endif
