@@ -1,4 +1,4 @@
-/* Worked edits, typed in by hand: sequences of them on worksheets of years 1 and 2, and refused worksheets. */
+/* Worked edits, typed in by hand: sequences of them on worksheets of years 1 and 2, refused worksheets, and sums. */
 #include "worked.h"
 #include <stdio.h>
 #include <string.h>
@@ -78,6 +78,55 @@ static const move full[] = {
     {"a good one", ADD, 0, {'A', 0, 0, 1000, 0, 0}, 0, 0, 24, NULL},
 };
 
+/* A cell's sums by hand, as x greatest, x least, y greatest, .. z least: nets in thousandths times areas in thousands
+   of dm2 under a wind of 400. One is 200,000,000,000 units. */
+typedef struct { int number[6]; } worked_cell;
+
+/* The sample's two cells, of 0.2 and of -0.3. Zone F has 200 and -200, so its nets are 0 or -400, and 500 or 100. */
+typedef struct {
+    const char *what;
+    int edit;
+    int64_t face;
+    aral_face new;
+    uint32_t number;
+    worked_cell cell[2];
+} sums_move;
+static const worked_cell sample_cells[2] = {
+    {{900, 900, 0, 0, 800, 0}},       /* 500 + 400; F on -2: 0 or 800 */
+    {{900, 900, 0, 0, -200, -1000}}}; /* 1000 - 100; F on -2: -1000 or -200 */
+static const sums_move sample_sums[] = {
+    {"sums: A added: 500, 1000", ADD, 0, {'A', 0, 0, 1000, 0, 0}, 0,
+     {{{1400, 1400, 0, 0, 800, 0}}, {{1900, 1900, 0, 0, -200, -1000}}}},
+    {"sums: zone G refused", REPLACE, 3, {'G', 0, 0, 1000, 0, 0}, 6,
+     {{{1400, 1400, 0, 0, 800, 0}}, {{1900, 1900, 0, 0, -200, -1000}}}},
+    {"sums: F turned over, on 1: 0 or -400, 500 or 100", REPLACE, 3, {'F', 0, 0, 0, 0, 1000}, 0,
+     {{{1400, 1400, 0, 0, 0, -400}}, {{1900, 1900, 0, 0, 500, 100}}}},
+    {"sums: F taken out", TAKE_OUT, 3, {0}, 0, {{{1400, 1400, 0, 0, 0, 0}}, {{1900, 1900, 0, 0, 0, 0}}}},
+    {"sums: F for the first A: 900 and 0 or -400, 900 and 500 or 100", REPLACE, 1, {'F', ARAL_BOTH, 0, 1000, 0, 0}, 0,
+     {{{900, 500, 0, 0, 0, 0}}, {{1400, 1000, 0, 0, 0, 0}}}},
+    {"sums: B added on y: -400, 100", ADD, 0, {'B', 0, 0, 0, 1000, 0}, 0,
+     {{{900, 500, -400, -400, 0, 0}}, {{1400, 1000, 100, 100, 0, 0}}}},
+    {"sums: a face of wind 90 adds nothing", ADD, 0, {'F', 90, 0, 1000, 1000, 1000}, 0,
+     {{{900, 500, -400, -400, 0, 0}}, {{1400, 1000, 100, 100, 0, 0}}}},
+    {"sums: nor does it take anything with it", TAKE_OUT, 5, {0}, 0,
+     {{{900, 500, -400, -400, 0, 0}}, {{1400, 1000, 100, 100, 0, 0}}}},
+    {"sums: no face 5", TAKE_OUT, 5, {0}, 9, {{{900, 500, -400, -400, 0, 0}}, {{1400, 1000, 100, 100, 0, 0}}}},
+};
+
+/* Two winds, 90 at 400 and 0 at 200, whose pressure is a quarter; 0.2 inside. Their cells are 0 and 4. Under 90 A and B
+   have -500, so a net of -700; under 0 A has 500 and B -400. */
+#define TURNING "B 1\n500 1200 1000 1250 2 0\nW 2\n90 400\n0 200\nI 1\n20\nF 2\nA 0 1000 0 0\nB - 0 1000 0\n"
+static const worked_cell turning_cells[2] = {
+    {{0, 0, -700, -700, 0, 0}},       /* A is marked for the other wind */
+    {{125, 125, -100, -100, 0, 0}}};  /* 500 / 4; -400 / 4 */
+static const sums_move turning_sums[] = {
+    {"sums: A marked 90", REPLACE, 1, {'A', 90, 0, 1000, 0, 0}, 0,
+     {{{-700, -700, -700, -700, 0, 0}}, {{0, 0, -100, -100, 0, 0}}}},
+    {"sums: F in both winds: 0 or -400, 0 or -100", ADD, 0, {'F', ARAL_BOTH, 0, 0, 0, 1000}, 0,
+     {{{-700, -700, -700, -700, 0, -400}}, {{0, 0, -100, -100, 0, -100}}}},
+    {"sums: B taken out", TAKE_OUT, 2, {0}, 0, {{{-700, -700, 0, 0, 0, -400}}, {{0, 0, 0, 0, 0, -100}}}},
+};
+
 static int zero_face(const aral_face *f)
 {
     return !f->zone && !f->mark && !f->height && !f->x && !f->y && !f->z;
@@ -96,6 +145,15 @@ static int shows(const calculator *c, const aral_worksheet *w, const char *line)
     return t.number == 0 && strstr(out, line);
 }
 
+/* That the report of the sheet written has the line: what is shown goes by the sums, and this by the faces. */
+static int reports(const calculator *c, const aral_worksheet *w, const char *line)
+{
+    uint8_t sheet[ARAL_SHEET_MOST];
+    char out[ARAL_REPORT_MOST + 1] = "";
+    aral_text t = c->write(*w, sheet, sizeof sheet);
+    return c->report(sheet, t.length, (uint8_t *)out, ARAL_REPORT_MOST).number == 0 && strstr(out, line);
+}
+
 static void check_moves(const calculator *c, aral_worksheet w, const move *m, size_t count)
 {
     for (const move *end = m + count; m < end; m++) {
@@ -104,7 +162,7 @@ static void check_moves(const calculator *c, aral_worksheet w, const move *m, si
         expect(c, m->what, e.number == m->number && e.line == m->line && faces == m->faces);
         if (m->edit == TAKE_OUT && !e.number)
             expect(c, "the vacated entry is zero", zero_face(&e.worksheet.job.faces.entry[faces]));
-        if (m->shown) expect(c, m->what, shows(c, &e.worksheet, m->shown));
+        if (m->shown) expect(c, m->what, shows(c, &e.worksheet, m->shown) && reports(c, &e.worksheet, m->shown));
         w = e.worksheet;
     }
 }
@@ -227,6 +285,92 @@ static void check_not_carried(const calculator *c)
     expect(c, "it is shown", shows(c, &e.worksheet, "x max 380000000000000 1 2 1 1 1 1\n"));
 }
 
+/* ---- Sums ---- */
+
+static int same_cell(const aral_sum_cell *c, const worked_cell *worked)
+{
+    const int64_t number[] = {c->x.greatest, c->x.least, c->y.greatest, c->y.least, c->z.greatest, c->z.least};
+    for (int k = 0; k < 6; k++)
+        if (number[k] != worked->number[k] * INT64_C(200000000000)) return 0;
+    return 1;
+}
+
+/* The first cell and cell `second` hold these sums, and all others zero. */
+static int same_sums(const aral_sums *sums, const worked_cell cell[2], int second)
+{
+    static const worked_cell nothing;
+    for (int i = 0; i < 32; i++)
+        if (!same_cell(&sums->cell[i], i == 0 ? &cell[0] : i == second ? &cell[1] : &nothing)) return 0;
+    return 1;
+}
+
+static void check_sums_moves(const calculator *c, aral_worksheet w, int second, const sums_move *m, size_t count)
+{
+    for (const sums_move *end = m + count; m < end; m++) {
+        move edit = {.edit = m->edit, .face = m->face, .new = m->new};
+        aral_edited e = made(c, &w, &edit);
+        expect(c, m->what, e.number == m->number && same_sums(&e.worksheet.sums, m->cell, second));
+        w = e.worksheet;
+    }
+}
+
+static void check_sums(const calculator *c)
+{
+    static const worked_cell nothing[2];
+    aral_worksheet w = opened(c, SAMPLE);
+    expect(c, "sums: the sample opened", same_sums(&w.sums, sample_cells, 1));
+    expect(c, "sums: 9000 N", w.sums.cell[0].x.greatest == 180000000000000);
+    check_sums_moves(c, w, 1, sample_sums, sizeof sample_sums / sizeof *sample_sums);
+    w = opened(c, TURNING);
+    expect(c, "sums: two winds opened", same_sums(&w.sums, turning_cells, 4));
+    check_sums_moves(c, w, 4, turning_sums, sizeof turning_sums / sizeof *turning_sums);
+    aral_edited e = c->open((const uint8_t *)SAMPLE "A", strlen(SAMPLE "A"));
+    expect(c, "sums: a refused sheet has none", e.number == 1 && same_sums(&e.worksheet.sums, nothing, 1));
+}
+
+/* Other sums than those of the faces are shown as they are, with the alternatives of the cell that they stand in. */
+static void check_other_sums(const calculator *c)
+{
+    aral_worksheet w = opened(c, SAMPLE);
+    memset(&w.sums, 0, sizeof w.sums);
+    expect(c, "sums of 0 are shown", shows(c, &w, "x max 0 1 1 1 1 1\nx min 0 1 1 1 1 1\n"));
+    expect(c, "the alternatives of 0.2", shows(c, &w, "z max 0 1 1 1 1 2\nz min 0 1 1 1 1 1\n"));
+    aral_edited e = c->add(w, (aral_face){'A', 0, 0, 1000, 0, 0});
+    expect(c, "A added to sums of 0: 500, 1000",
+           shows(c, &e.worksheet, "x max 200000000000000 1 2 1 1 1 1\nx min 100000000000000 1 1 1 1 1 1\n"));
+    w.sums.cell[0].z = (aral_span){-1, 7};
+    w.sums.cell[1].z = (aral_span){5, 7};
+    w.sums.cell[2].z = w.sums.cell[4].z = (aral_span){INT64_MAX, INT64_MIN};
+    expect(c, "the second cell's sum, and the first of two", shows(c, &w, "z max 5 1 2 1 1 2\nz min 7 1 1 1 1 1\n"));
+    w.sums.cell[1].z = (aral_span){INT64_MAX, INT64_MIN};
+    expect(c, "the ends", shows(c, &w, "z max 9223372036854775807 1 2 1 1 2\nz min -9223372036854775808 1 2 1 1 1\n"));
+    e = c->replace(w, 3, (aral_face){'G', 0, 0, 0, 0, 0});
+    expect(c, "a refused edit keeps them", e.number == 6 && !memcmp(&e.worksheet.sums, &w.sums, sizeof w.sums));
+}
+
+/* A sum up to 7.92 x 10^18 in size is kept, and moved on; a larger one lets all be added up anew. Here x of 0.2 is one
+   unit off, and the number stands on y of a cell, in the counts or past them, where the new face brings nothing. */
+static void check_large_sum(const calculator *c, int64_t number, int cell, int kept)
+{
+    aral_worksheet w = opened(c, SAMPLE);
+    w.sums.cell[0].x.greatest++;
+    w.sums.cell[cell].y = (aral_span){cell % 2 ? number : 0, cell % 2 ? 0 : number};
+    aral_edited e = c->add(w, (aral_face){'A', 0, 0, 1000, 0, 0});
+    const aral_span *x = &e.worksheet.sums.cell[0].x, *y = &e.worksheet.sums.cell[cell].y;
+    expect(c, "x beside a large sum", x->greatest == 280000000000000 + kept && x->least == 280000000000000);
+    expect(c, "a large sum, kept or 0", y->greatest + y->least == (kept ? number : 0));
+}
+
+static void check_large_sums(const calculator *c)
+{
+    static const struct { int64_t number; int kept; } large[] = {
+        {7920000000000000000, 1}, {-7920000000000000000, 1}, {7920000000000000001, 0}, {-7920000000000000001, 0},
+        {INT64_MAX, 0},           {INT64_MIN, 0}};
+    static const int cell[] = {0, 1, 2, 4, 31};
+    for (int i = 0; i < 6; i++)
+        for (int k = 0; k < 5; k++) check_large_sum(c, large[i].number, cell[k], large[i].kept);
+}
+
 /* What is written is the sheet; one short of it is refused, and nothing is written. */
 static void check_written(const calculator *c)
 {
@@ -251,4 +395,7 @@ void check_edits(const calculator *c)
     check_fields(c);
     check_not_carried(c);
     check_written(c);
+    check_sums(c);
+    check_other_sums(c);
+    check_large_sums(c);
 }
