@@ -507,8 +507,9 @@ static void weigh(const job *j, worst *w)
     }
 }
 
-/* The greatest and the least total on each axis under one wind and internal: each face chooses by itself. */
-static void sum_case(const job *j, const worst *w, int wind, int internal, int64_t sum[6])
+/* The greatest and the least total on each axis under one wind and internal: each face chooses by itself. Inline, so
+   that a report, which the benchmark measures, is not slowed by the sums, which it does not need. */
+static inline void sum_case(const job *j, const worst *w, int wind, int internal, int64_t sum[6])
 {
     int turn = turn_of(j->direction[wind]), inside = 10 * j->internal[internal];
     memset(sum, 0, 6 * sizeof *sum);
