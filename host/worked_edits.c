@@ -371,6 +371,18 @@ static void check_large_sums(const calculator *c)
         for (int k = 0; k < 5; k++) check_large_sum(c, large[i].number, cell[k], large[i].kept);
 }
 
+/* An edit may carry a sum past the largest. The next adds up anew: 900 + 500 + 500. */
+static void check_carried_past(const calculator *c)
+{
+    static const aral_face a = {'A', 0, 0, 1000, 0, 0};
+    aral_worksheet w = opened(c, SAMPLE);
+    w.sums.cell[0].x.greatest = 7920000000000000000;
+    aral_edited e = c->add(w, a);
+    expect(c, "a sum carried past the largest", e.worksheet.sums.cell[0].x.greatest == 7920100000000000000);
+    e = c->add(e.worksheet, a);
+    expect(c, "and added up anew", e.worksheet.sums.cell[0].x.greatest == 380000000000000);
+}
+
 /* What is written is the sheet; one short of it is refused, and nothing is written. */
 static void check_written(const calculator *c)
 {
@@ -398,4 +410,5 @@ void check_edits(const calculator *c)
     check_sums(c);
     check_other_sums(c);
     check_large_sums(c);
+    check_carried_past(c);
 }
