@@ -108,7 +108,11 @@ static uint64_t edit_over_and_over(void)
     for (unsigned long i = 0; i < wanted.edits; i++) {
         unsigned long round = i / SHEETS;
         held *w = &worksheet[i % SHEETS];
-        if (replace(w, (int64_t)(round % (unsigned)wanted.faces) + 1, spare[i % SHEETS][round % SPARES])) exit(1);
+        int64_t face = 1 + (int64_t)(round % (unsigned)wanted.faces);
+        if (replace(w, face, spare[i % SHEETS][round % SPARES])) {
+            fprintf(stderr, "an edit was refused\n");
+            exit(1);
+        }
         if (!wanted.shown) continue;
         aral_text r = show(w, out, sizeof out);
         sum = sum * 31 + r.length + out[i % r.length];
