@@ -71,7 +71,7 @@ none-small n =
 
 pub none-all-small : (n : ℕ) → AllSmall n noneStored
 none-all-small n k =
-    subst (CellSmall n) (sym (up-to-none (λ i. noCell) .rest k (omega arith))) (none-small n)
+    subst (CellSmall n) (sym (up-to-none 32 (λ i. noCell) .rest k (omega arith))) (none-small n)
 
 pub within-small : (l : List StoredCell) → allWithin l ≡ true → (k : ℕ) → CellSmall mostSum (getD l k noCell)
 unfolding allWithin

@@ -86,12 +86,12 @@ module _ (j : Job) (o : InOrder (carried j)) where
       }
 
   -- and so all are stored, once every wind has been gone through
-  pub all-stored : (l : List StoredCell) → UpTo (sumsAt g) (4 * j .winds .count) l
+  pub all-stored : (l : List StoredCell) → UpTo storedCells (sumsAt g) (4 * j .winds .count) l
       → record { cell = l } ≡ storedOf (carried j)
   unfolding storedOf
   all-stored l u =
       up-to-all (sumsAt g) l
-      (up-to-more (sumsAt g) (4 * j .winds .count) storedCells l (omega (arith, winds, few-winds)) u
+      (up-to-more storedCells (sumsAt g) (4 * j .winds .count) storedCells l (omega (arith, winds, few-winds)) u
       (λ k past t. wind-past g k (omega (arith, winds))))
 
   -- ---- they tell the six extremes

@@ -57,6 +57,11 @@ module _ (s : Side) where
   unfolding further
   no-reach o = rw (*ℤ-zero (o .first), *ℤ-zero (o .last)) (rw (short-self (pos 0)))
 
+  -- and so they are where both coefficients are one
+  pub one-pick : (o : Outside) (weight : ℤ) → o .first ≡ o .last → pick s o weight ≡ 1
+  unfolding which
+  one-pick o weight e = rw e (rw (short-self (o .last *ℤ weight)))
+
   pub no-pick : (o : Outside) → pick s o (pos 0) ≡ 1
   unfolding which
   no-pick o = rw (*ℤ-zero (o .first), *ℤ-zero (o .last)) (rw (short-self (pos 0)))

@@ -13,7 +13,7 @@ use Rattle.whole.proofs.Lists.{getD-map}
 use Rattle.worst.specs.declared.StoredCell.{StoredCell}
 use Rattle.worst.specs.Cases.{numbers}
 use Rattle.worst.specs.Forces.{Given}
-use Rattle.worst.specs.Stored.{storedCells, noCell, cellsOf, noneStored, cellOf, sumsAt}
+use Rattle.worst.specs.Stored.{storedCells, noCell, cellsOf, cellOf, sumsAt}
 use Rattle.worst.specs.Engine.{UpTo}
 
 -- ---- what stands at a cell
@@ -65,17 +65,17 @@ none-at d [] k = refl
 none-at d (x ∷ l) zero = refl
 none-at d (x ∷ l) (suc k) = none-at d l k
 
-module _ (h : ℕ → StoredCell) where
-  pub up-to-none : UpTo h 0 (noneStored .cell)
+module _ (size : ℕ) (h : ℕ → StoredCell) where
+  pub up-to-none : UpTo size h 0 (map (λ k. noCell) (numbers size 0))
   up-to-none =
       record {
-        all = length-map (numbers storedCells 0) (λ i. noCell) ∙ numbers-length storedCells 0;
+        all = length-map (numbers size 0) (λ i. noCell) ∙ numbers-length size 0;
         stand = λ k t. absurd (omega arith);
-        rest = λ k t. none-at noCell (numbers storedCells 0) k;
+        rest = λ k t. none-at noCell (numbers size 0) k;
       }
 
-  pub up-to-next : (n : ℕ) (l : List StoredCell) (c : StoredCell) → n < storedCells → UpTo h n l → h n ≡ c
-      → UpTo h (n + 1) (set l n c)
+  pub up-to-next : (n : ℕ) (l : List StoredCell) (c : StoredCell) → n < size → UpTo size h n l → h n ≡ c
+      → UpTo size h (n + 1) (set l n c)
   up-to-next n l c t u e =
       record {
         all = length-set l n c ∙ u .all;
@@ -88,8 +88,8 @@ module _ (h : ℕ → StoredCell) where
       }
 
   -- up to a later cell, where there is nothing to store
-  pub up-to-more : (n m : ℕ) (l : List StoredCell) → n ≤ m → UpTo h n l
-      → ((k : ℕ) → n ≤ k → k < m → h k ≡ noCell) → UpTo h m l
+  pub up-to-more : (n m : ℕ) (l : List StoredCell) → n ≤ m → UpTo size h n l
+      → ((k : ℕ) → n ≤ k → k < m → h k ≡ noCell) → UpTo size h m l
   up-to-more n m l t u e =
       record {
         all = u .all;
@@ -98,8 +98,28 @@ module _ (h : ℕ → StoredCell) where
         rest = λ k s. u .rest k (omega arith);
       }
 
-  pub up-to-all : (l : List StoredCell) → UpTo h storedCells l → record { cell = l } ≡ cellsOf h
-  up-to-all l u = cells-by h l (u .all) (u .stand)
+  -- four more at once
+  pub up-to-four : (n m : ℕ) → n + 4 ≡ m → (l : List StoredCell) (c : ℕ → StoredCell) → n + 3 < size
+      → UpTo size h n l → ((i : ℕ) → i < 4 → h (n + i) ≡ c i)
+      → UpTo size h m (set (set (set (set l n (c 0)) (n + 1) (c 1)) (n + 2) (c 2)) (n + 3) (c 3))
+  up-to-four n m q l c t u e =
+      let zeroth : n ≡ n + 0 = omega arith in
+      let one = set l n (c 0) in
+      let two = set one (n + 1) (c 1) in
+      let three = set two (n + 2) (c 2) in
+      subst (λ x. UpTo size h x (set three (n + 3) (c 3))) q
+      (next 3 three (omega arith) (next 2 two (omega arith) (next 1 one (omega arith)
+      (up-to-next n l (c 0) (omega arith) u (ap h zeroth ∙ e 0 (omega arith))))))
+    where
+      next : (i : ℕ) (k : List StoredCell) → i < 4 → UpTo size h (n + i) k
+          → UpTo size h (n + (i + 1)) (set k (n + i) (c i))
+      next i k b v =
+          let m : n + i + 1 ≡ n + (i + 1) = omega arith in
+          subst (λ x. UpTo size h x (set k (n + i) (c i))) m (up-to-next (n + i) k (c i) (omega arith) v (e i b))
+
+pub up-to-all : (h : ℕ → StoredCell) (l : List StoredCell) → UpTo storedCells h storedCells l
+    → record { cell = l } ≡ cellsOf h
+up-to-all h l u = cells-by h l (u .all) (u .stand)
 
 -- ---- the cell of a wind and an internal coefficient, both from 0
 

@@ -39,7 +39,7 @@ use Rattle.worst.specs.Speed.{speedAt}
 use Rattle.worst.specs.Forces.{acts, factorOf, pressure, area}
 use Rattle.worst.specs.Factors.{profileOf}
 use Rattle.worst.specs.Shown.{padded}
-use Rattle.worst.specs.Stored.{storedCells, noCell, storedAt}
+use Rattle.worst.specs.Stored.{noCell, storedAt}
 use Rattle.worst.specs.Quick.{over, sum}
 use Rattle.worst.specs.Table.{outsideAt}
 
@@ -183,9 +183,9 @@ abbrev pub cellWith : Axes → ℤ → StoredCell
 cellWith p internal =
     record { x = spanWith (p .x) internal; y = spanWith (p .y) internal; z = spanWith (p .z) internal }
 
--- n cells stand as h has them, and zeros behind them
-pub record UpTo (h : ℕ → StoredCell) (n : ℕ) (l : List StoredCell) : Type 0 where
-  pub all : length l ≡ storedCells
+-- of so many cells n stand as h has them, and zeros behind them
+pub record UpTo (size : ℕ) (h : ℕ → StoredCell) (n : ℕ) (l : List StoredCell) : Type 0 where
+  pub all : length l ≡ size
   pub stand : (k : ℕ) → k < n → getD l k noCell ≡ h k
   pub rest : (k : ℕ) → n ≤ k → getD l k noCell ≡ noCell
 

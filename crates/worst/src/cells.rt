@@ -1,11 +1,11 @@
 // The sums of each cell of one wind. The sum at an internal coefficient is that of outside coefficient × weight, less
 // the internal coefficient × the sum of the weights.
 ghost use mathlib.Core.Path.{_≡_};
-ghost use Prim.Native.Nat.{ℕ, _+_, _*_, _≤_, _<_};
+ghost use Prim.Native.Nat.{ℕ, _≤_, _<_};
 ghost use lib.IntN.{pos, natAbs};
 ghost use lib.ListN.{getD};
 ghost use Rattle.worst.specs.declared.StoredCell.{StoredCell};
-ghost use Rattle.worst.specs.Stored.{noneStored};
+ghost use Rattle.worst.specs.Stored.{noCell, noneStored};
 ghost use Rattle.worst.specs.Engine.{spanWith, cellWith, UpTo};
 ghost use Rattle.worst.specs.Small.{SumsSmall, AxesSmall, LowInternals};
 use crate::Span;
@@ -15,19 +15,30 @@ use crate::sums::Axes;
 use crate::sums::Sums;
 use job::Internals;
 
-// Zeros.
-pub(crate) fn none_stored() -> Stored
-    ensures { λ r. ⌜ r ≡ noneStored ⌝ }
+// The cells of one wind, one for each internal coefficient.
+pub(crate) struct WindCells {
+    pub(crate) cell: [StoredCell; 4],
+}
+
+// Zeros: a cell, and all of them.
+fn no_cell() -> StoredCell
+    ensures { λ r. ⌜ r ≡ noCell ⌝ }
 {
     let none = Span {
         greatest: 0,
         least: 0,
     };
-    let empty = StoredCell {
+    StoredCell {
         x: none,
         y: none,
         z: none,
-    };
+    }
+}
+
+pub(crate) fn none_stored() -> Stored
+    ensures { λ r. ⌜ r ≡ noneStored ⌝ }
+{
+    let empty = no_cell();
     let cell = [empty; 32];
     Stored { cell }
 }
@@ -54,21 +65,23 @@ fn cell_of(sums: Axes, internal: i64) -> StoredCell
     StoredCell { x, y, z }
 }
 
-// The cells of one wind, from 0, after those of the winds before it.
-pub(crate) fn with_wind(stored: Stored, sums: Axes, internals: Internals, wind: usize) -> Stored
-    requires { ⌜ AxesSmall 24 sums × LowInternals internals × (wind < 8) ⌝ }
-    ensures { λ r. ⌜ ((h : ℕ → StoredCell) → UpTo h (4 * wind) (stored .cell)
-        → ((i : ℕ) → i < internals .count → h (4 * wind + i) ≡ cellWith sums (getD (internals .entry) i (pos 0)))
-        → UpTo h (4 * wind + internals .count) (r .cell)) ⌝ }
+// The cells of a wind, with zeros past the internal coefficients.
+pub(crate) fn of_wind(sums: Axes, internals: Internals) -> WindCells
+    requires { ⌜ AxesSmall 24 sums × LowInternals internals ⌝ }
+    ensures { λ r. ⌜ ((h : ℕ → StoredCell)
+        → ((i : ℕ) → i < internals .count → h i ≡ cellWith sums (getD (internals .entry) i (pos 0)))
+        → UpTo 4 h (internals .count) (r .cell)) ⌝ }
 {
     let count = internals.count as usize;
-    let mut all = stored;
+    let empty = no_cell();
+    let cell = [empty; 4];
+    let mut four = WindCells { cell };
     let mut i = 0;
     while i < count {
         let internal = internals.entry[i];
         let cell = cell_of(sums, internal);
-        all.cell[4 * wind + i] = cell;
+        four.cell[i] = cell;
         i += 1;
     }
-    all
+    four
 }

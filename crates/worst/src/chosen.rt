@@ -70,6 +70,9 @@ fn alternative(
 {
     if takes_part(f, w) {
         let o = found(b, w, f, asked, first, last);
+        if o.first == o.last {
+            return 1;
+        }
         let p = pressure_of(b, w, factor);
         return picked(side, o, p * area_on(axis, f));
     }

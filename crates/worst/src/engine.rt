@@ -11,7 +11,7 @@ ghost use Rattle.worst.specs.Factors.{profileOf, FactorsStand};
 use crate::Six;
 use crate::Stored;
 use crate::cells::none_stored;
-use crate::cells::with_wind;
+use crate::cells::of_wind;
 use crate::chosen::shown;
 use crate::furthest::over_winds;
 use crate::speeds::fill;
@@ -42,7 +42,16 @@ fn all_cells(
     while w < count {
         let wind = winds.entry[w];
         let sums = added(b, faces, parts, wholes, wind, asked, first, last);
-        stored = with_wind(stored, sums, internals, w);
+        let four = of_wind(sums, internals);
+        let one = four.cell[0];
+        let two = four.cell[1];
+        let three = four.cell[2];
+        let last_one = four.cell[3];
+        let at = 4 * w;
+        stored.cell[at] = one;
+        stored.cell[at + 1] = two;
+        stored.cell[at + 2] = three;
+        stored.cell[at + 3] = last_one;
         w += 1;
     }
     stored

@@ -13,11 +13,11 @@ use Rattle.job.specs.Carried.{carried, noWind}
 use Rattle.worst.specs.declared.StoredCell.{StoredCell}
 use Rattle.worst.specs.Table.{Filled}
 use Rattle.worst.specs.Worst.{given}
-use Rattle.worst.specs.Stored.{sumsAt}
+use Rattle.worst.specs.Stored.{storedCells, sumsAt, noCell}
 use Rattle.worst.specs.Engine.{cellWith, UpTo}
 use Rattle.worst.specs.Factors.{profileOf, Fraction, FactorsStand, Fractions}
 use Rattle.worst.specs.Small.{AllMet, Ready}
-use Rattle.worst.proofs.StoredSums.{up-to-none, up-to-more}
+use Rattle.worst.proofs.StoredSums.{up-to-none, up-to-more, up-to-four}
 use Rattle.worst.proofs.Accepted.{job-ready}
 use Rattle.worst.proofs.JobSums.{CellsReckoned, job-reckoned, all-stored}
 use Rattle.worst.proofs.engine.all_cells.Statement.{statement}
@@ -27,7 +27,7 @@ abbrev Inv-loop : tie.InvT-loop
 Inv-loop parts wholes asked₀ first₀ last₀ b winds internals faces count stored₀ w₀ asked first last stored w =
     (w ≤ count) × Filled b asked first last
     × ((profile : List Step) → FactorsStand profile faces parts wholes → (h : ℕ → StoredCell)
-    → CellsReckoned b profile winds internals faces h → UpTo h (4 * w) (stored .cell))
+    → CellsReckoned b profile winds internals faces h → UpTo storedCells h (4 * w) (stored .cell))
 
 abbrev μ-loop : tie.MeasureT-loop
 μ-loop parts wholes asked₀ first₀ last₀ b winds internals faces count stored₀ w₀ asked first last stored w = count - w
@@ -37,8 +37,11 @@ from-none c = c .before .before .before .before .before
 
 loop-holds : tie.Need-loop-holds Inv-loop μ-loop
 loop-holds c =
-    let e = ap (λ t. t .cell) (c .none-stored .ensures) in
-    (search needs, from-none c .pre .2, λ profile s h r. subst (UpTo h 0) (sym e) (up-to-none h))
+    let e = ap (λ t. t .cell) (c .none-stored .ensures) in (
+      search needs,
+      from-none c .pre .2,
+      λ profile s h r. subst (UpTo storedCells h 0) (sym e) (up-to-none storedCells h),
+    )
 
 -- a wind that counts
 module _ (d : tie.In-loop Inv-loop μ-loop) where
@@ -74,26 +77,50 @@ added-requires c κs =
     let d = c .before .before .before .before in
     (met d, fractions d, d .before .loop .inv .1)
 
-with-wind-requires : tie.Need-with-wind-requires Inv-loop μ-loop
-with-wind-requires c κs = let d = in-loop c in (c .added .ensures .0, ready d .internals, below d)
+of-wind-requires : tie.Need-of-wind-requires Inv-loop μ-loop
+of-wind-requires c κs = let d = in-loop c in (c .added .ensures .0, ready d .internals)
+
+-- the four cells of the wind
+module _ (c : tie.After-last-one Inv-loop μ-loop) where
+  abbrev called : tie.After-of-wind Inv-loop μ-loop
+  called = c .before .before .before .before
+
+  abbrev d : tie.In-loop Inv-loop μ-loop
+  d = in-loop (called .before)
+
+  room : 4 * w d + 3 < 32
+  room = omega (arith, below d)
+
+  abbrev cell : ℕ → StoredCell
+  cell i = getD (called .of-wind .result .cell) i noCell
+
+  four-are : (profile : List Step)
+      → FactorsStand profile (job d .faces) (now (a d .args .parts)) (now (a d .args .wholes))
+      → (h : ℕ → StoredCell)
+      → CellsReckoned (job d .building) profile (job d .winds) (job d .internals) (job d .faces) h
+      → (i : ℕ) → i < 4 → h (4 * w d + i) ≡ cell i
+  four-are profile s h r i t =
+      let j = job d in
+      let e = called .before .added .ensures .1 profile s in
+      let mine : ℕ → StoredCell = λ k. h (4 * w d + k) in
+      let n = j .internals .count in
+      let stand =
+      called .of-wind .ensures mine (λ k q. r .each (w d) k (counted d) q
+      ∙ ap (λ p. cellWith p (getD (j .internals .entry) k (pos 0))) (sym e)) in
+      let all =
+      up-to-more 4 mine n 4 (called .of-wind .result .cell) (ready d .internals .0) stand
+      (λ k low high. r .past (w d) k high low) in
+      sym (all .stand i t)
 
 loop-again : tie.Need-loop-again Inv-loop μ-loop
 loop-again c =
-    let k = c .before in
-    let d = in-loop k in
-    let t = counted d in
-    let j = job d in
-    let e = k .added .ensures in
-    let next : 4 * w d + j .internals .count ≤ 4 * (w d + 1) = omega (arith, ready d .internals .0) in (
+    let k = d c in
+    let t = counted k in
+    let next : 4 * w k + 4 ≡ 4 * (w k + 1) = omega arith in (
       omega arith,
-      e .2,
-      λ profile s h r. up-to-more h (4 * w d + j .internals .count) (4 * (w d + 1)) (c .with-wind .result .cell) next
-          (c .with-wind .ensures h (d .before .loop .inv .2 profile s h r)
-          (λ i q. r .each (w d) i t q
-          ∙ ap (λ p. cellWith p (getD (j .internals .entry) i (pos 0))) (sym (e .1 profile s))))
-          (λ n low high.
-          let i : n ≡ 4 * w d + (n - 4 * w d) = omega arith in
-          ap h i ∙ r .past (w d) (n - 4 * w d) (omega arith) (omega arith)),
+      called c .before .added .ensures .2,
+      λ profile s h r. up-to-four storedCells h (4 * w k) (4 * (w k + 1)) next (k .before .loop .stored .cell) (cell c)
+          (room c) (k .before .loop .inv .2 profile s h r) (four-are c profile s h r),
     )
 
 returns : tie.Need-returns Inv-loop μ-loop
@@ -105,7 +132,7 @@ returns c =
     let all : l .w ≡ j .winds .count = omega (arith, l .inv .0) in
     let h = sumsAt (given (carried j)) in (
       all-stored j (a .pre .0) (l .stored .cell)
-          (subst (λ n. UpTo h (4 * n) (l .stored .cell)) all
+          (subst (λ n. UpTo storedCells h (4 * n) (l .stored .cell)) all
           (l .inv .2 (profileOf j) (a .pre .1) h (job-reckoned j (a .pre .0)))),
       l .inv .1,
     )
@@ -114,6 +141,13 @@ pub all-cells-spec : {M : Type 1} → statement M
 all-cells-spec =
     tie.close
     (tie.spec Inv-loop μ-loop (λ c. search needs) (λ c κs. search needs) loop-holds
-    (λ c. record { fits = omega (arith, below c) }) (λ c. omega (arith, below c)) added-requires with-wind-requires
-    (λ c. record { fits = omega (arith, below (in-loop (c .before))) })
-    (λ c. let t = counted (in-loop (c .before)) in omega arith) loop-again returns)
+    (λ c. record { fits = omega (arith, below c) }) (λ c. omega (arith, below c)) added-requires of-wind-requires
+    (λ c. search needs) (λ c. search needs) (λ c. search needs) (λ c. search needs)
+    (λ c. record { fits = omega (arith, room c) }) (λ c. record { fits = omega (arith, room c) })
+    (λ c. omega (arith, room c)) (λ c. record { fits = omega (arith, room c) })
+    (λ c. record { fits = omega (arith, room c) }) (λ c. omega (arith, room c))
+    (λ c. record { fits = omega (arith, room c) }) (λ c. record { fits = omega (arith, room c) })
+    (λ c. omega (arith, room c)) (λ c. record { fits = omega (arith, room c) })
+    (λ c. record { fits = omega (arith, room c) }) (λ c. omega (arith, room c))
+    (λ c. record { fits = omega (arith, below (d c)) }) (λ c. let t = counted (d c) in omega arith) loop-again
+    returns)
