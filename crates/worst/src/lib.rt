@@ -4,6 +4,7 @@ ghost use mathlib.Core.Path.{_≡_};
 ghost use Rattle.job.specs.Walk.{judged};
 ghost use Rattle.worst.specs.Worst.{worstOf};
 ghost use Rattle.worst.specs.Stored.{storedIn, reckonedBy};
+ghost use Rattle.worst.specs.PerFace.{forcesIn};
 use job::Job;
 use verdict::Verdict;
 
@@ -16,6 +17,7 @@ mod furthest; // the furthest of all cells
 mod chosen; // the cases that were found, with their alternatives
 mod engine; // the sums of all cells, and the six extremes that they tell
 mod reckon; // a refusal, or the six extremes
+mod forces; // the force of each face, for whoever adds up cases one by one
 
 pub enum Side {
     Greatest,
@@ -78,6 +80,25 @@ pub struct Reckoning {
     pub six: Six,
 }
 
+// The force of a face in one case.
+pub struct Force {
+    pub x: i64,
+    pub y: i64,
+    pub z: i64,
+}
+
+// Of one face: how many alternatives it has, and its forces at the first and at the last.
+pub struct FaceForces {
+    pub count: u32,
+    pub first: Force,
+    pub last: Force,
+}
+
+// Of all faces in order, under one wind and one internal coefficient, with zeros past the last.
+pub struct CellForces {
+    pub face: [FaceForces; 24],
+}
+
 // A job's own refusal, or its six extremes.
 pub fn worst_cases(job: Job) -> Reckoning
     ensures { λ r. ⌜ r ≡ worstOf job ⌝ }
@@ -100,4 +121,13 @@ pub fn worst_stored(job: Job, stored: Stored) -> Reckoning
 {
     let v = job::judge::judge(job);
     reckon::stored_by(job, stored, v)
+}
+
+// The forces of a job's faces under the wind and the internal coefficient of these numbers, from 1: zeros where there
+// is no such wind or coefficient, or where the job is refused.
+pub fn forces_of(job: Job, wind: u32, internal: u32) -> CellForces
+    ensures { λ r. ⌜ r ≡ forcesIn wind internal (judged job) ⌝ }
+{
+    let v = job::judge::judge(job);
+    forces::forces_by(job, wind, internal, v)
 }
