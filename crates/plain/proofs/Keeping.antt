@@ -1,0 +1,49 @@
+-- What is kept of an earlier case and a later one: the later only where there is no earlier one, or where it goes
+-- further.
+use mathlib.Core.Path.{_≡_, sym, ap, _∙_}
+use mathlib.Core.Bool.{true, false}
+use mathlib.Core.List.{List}
+use Prim.Native.Nat.{ℕ, _<_}
+use native.Mathlib.Omega.{arith}
+use lib.IntN.{ℤ}
+use Rattle.worst.specs.declared.Side.{Side}
+use Rattle.worst.specs.declared.Extreme.{Extreme}
+use Rattle.worst.specs.Best.{short, Best, none, at, better}
+use Rattle.worst.specs.Cases.{Case}
+use Rattle.worst.specs.Shown.{padded, shown}
+use Rattle.plain.specs.Walked.{caseOf, Keeps}
+
+-- the later case as the code makes it
+abbrev pub later : ℤ → ℕ → ℕ → ℕ → List ℕ → Extreme
+later v w i n chosen = record { total = v; wind = w; internal = i; faces = n; alternative = chosen }
+
+module _ (s : Side) (n : ℕ) (e : Extreme) (v : ℤ) (w i : ℕ) (ks choice : List ℕ) (some : 0 < w)
+    (chosen : choice ≡ padded 24 ks) where
+  abbrev next : Best (Case ℕ ℕ ℕ)
+  next = at v (caseOf w i ks)
+
+  later-kept : e .faces ≡ n → Keeps n (later v w i (e .faces) choice) next
+  unfolding shown
+  later-kept f = record { is = λ j. later v w i (f j) (chosen j); wind = some }
+
+  pub kept-first : e .wind ≡ 0 → (b : Best (Case ℕ ℕ ℕ)) → Keeps n e b
+      → Keeps n (later v w i (e .faces) choice) (better s b next)
+  unfolding better shown
+  kept-first z none h = later-kept (ap (λ (x : Extreme). x .faces) (h .is))
+  kept-first z (at u c) h = absurd (omega (arith, z, ap (λ (x : Extreme). x .wind) (h .is), h .wind))
+
+  pub kept-later : (e .wind ≡ 0 → ⊥) → short s (e .total) v ≡ true → (b : Best (Case ℕ ℕ ℕ)) → Keeps n e b
+      → Keeps n (later v w i (e .faces) choice) (better s b next)
+  unfolding better shown
+  kept-later z t none h = absurd (z (ap (λ (x : Extreme). x .wind) (h .is)))
+  kept-later z t (at u c) h =
+      let same = ap (λ (x : Extreme). x .total) (h .is) in
+      rw (ap (λ x. short s x v) (sym same) ∙ t) (later-kept (ap (λ (x : Extreme). x .faces) (h .is)))
+
+  pub kept-earlier : (e .wind ≡ 0 → ⊥) → short s (e .total) v ≡ false → (b : Best (Case ℕ ℕ ℕ)) → Keeps n e b
+      → Keeps n e (better s b next)
+  unfolding better shown
+  kept-earlier z t none h = absurd (z (ap (λ (x : Extreme). x .wind) (h .is)))
+  kept-earlier z t (at u c) h =
+      let same = ap (λ (x : Extreme). x .total) (h .is) in
+      rw (ap (λ x. short s x v) (sym same) ∙ t) h

@@ -1,0 +1,110 @@
+-- `cells::every_internal` meets its contract: after i internal coefficients the best of their choices is kept.
+use mathlib.Core.Path.{_≡_, refl, sym, ap, _∙_, subst}
+use mathlib.Core.List.{[]}
+use Prim.Native.Nat.{ℕ, _+_, _-_, _≤_, _<_}
+use native.Mathlib.Omega.{arith}
+use borrow.Author.Needs.{needs}
+use Rattle.job.specs.declared.Job.{Job}
+use Rattle.job.specs.Carried.{carried}
+use Rattle.worst.specs.declared.Axis.{Axis}
+use Rattle.worst.specs.declared.Side.{Side}
+use Rattle.worst.specs.Best.{Best, better}
+use Rattle.worst.specs.Cases.{Case, numbers}
+use Rattle.worst.specs.Quick.{over}
+use Rattle.worst.specs.Forces.{loads}
+use Rattle.worst.specs.Worst.{given}
+use Rattle.worst.specs.Shown.{padded}
+use Rattle.worst.proofs.Better.{better-none, over-after}
+use Rattle.plain.specs.Walked.{extremeAt, Keeps, RowsSmall, cellWalked}
+use Rattle.plain.proofs.Rows.{ready, internals-counted, cell-is, cell-small}
+use Rattle.plain.proofs.EveryCase.{walked-here}
+use Rattle.plain.proofs.cells.every_internal.Statement.{statement}
+use Rattle.plain.proofs.cells.every_internal.Tie as tie
+
+-- the best of the first i internal coefficients under a wind
+abbrev first : Axis → Side → Job → ℕ → ℕ → Best (Case ℕ ℕ ℕ)
+first axis s j w i = over s (cellWalked s (loads axis (given (carried j))) w) (numbers i 1)
+
+abbrev Inv-loop : tie.InvT-loop
+Inv-loop job wind faces count all₀ i₀ all i =
+    (i ≤ count)
+    × ((axis : Axis) (s : Side) (b : Best (Case ℕ ℕ ℕ)) → Keeps faces (extremeAt axis s all₀) b
+    → Keeps faces (extremeAt axis s all) (better s b (first axis s job wind i)))
+
+abbrev μ-loop : tie.MeasureT-loop
+μ-loop job wind faces count all₀ i₀ all i = count - i
+
+loop-holds : tie.Need-loop-holds Inv-loop μ-loop
+unfolding numbers over
+loop-holds c = (search needs, λ axis s b h. subst (Keeps _ _) (sym (better-none s b)) h)
+
+-- an internal coefficient that counts
+module _ (d : tie.In-loop Inv-loop μ-loop) where
+  abbrev a : tie.Start Inv-loop μ-loop
+  a = d .before .before .before
+
+  abbrev j : Job
+  j = a .args .job
+
+  abbrev i : ℕ
+  i = d .before .loop .i
+
+  counted : i < j .internals .count
+  counted = d .loop-test .taken
+
+  below : i < 4
+  below = let t = counted in omega (arith, ready j (a .pre .0) .internals .0)
+
+walk-requires : tie.Need-walk-requires Inv-loop μ-loop
+walk-requires c κs =
+    let d = c .before in
+    let t = a d .pre .0 in
+    let w = a d .args .wind in
+    let from : 1 ≤ i d + 1 = omega arith in
+    let to : i d + 1 ≤ j d .internals .count = omega (arith, counted d) in
+    record {
+      few = ready (j d) t .profiled .few;
+      left≤ = omega arith;
+      some = a d .pre .1;
+      small = subst (RowsSmall (j d .faces .count))
+          (sym (c .forces-of .ensures ∙ cell-is (j d) t w (i d + 1) (a d .pre .1) (a d .pre .2) from to))
+          (cell-small (j d) t w (i d + 1) (a d .pre .1) (a d .pre .2) from to);
+    }
+
+loop-again : tie.Need-loop-again Inv-loop μ-loop
+unfolding padded
+loop-again c =
+    let k = c .before in
+    let d = k .before in
+    let t = a d .pre .0 in
+    let w = a d .args .wind in
+    let n = j d .faces .count in
+    let from : 1 ≤ i d + 1 = omega arith in
+    let to : i d + 1 ≤ j d .internals .count = omega (arith, counted d) in (
+      to,
+      λ axis s b h.
+          subst (Keeps n (extremeAt axis s (c .walk .result)))
+          (ap (better s (better s b (first axis s (j d) w (i d))))
+          (walked-here (j d) t axis s w (i d + 1) (a d .pre .1) (a d .pre .2) from to (k .forces-of .result)
+          (k .forces-of .ensures))
+          ∙ over-after s (cellWalked s (loads axis (given (carried (j d)))) w) b (i d))
+          (c .walk .ensures axis s [] (better s b (first axis s (j d) w (i d))) refl (omega arith)
+          (d .before .loop .inv .1 axis s b h)),
+    )
+
+returns : tie.Need-returns Inv-loop μ-loop
+returns c =
+    let l = c .before .loop in
+    let a = c .before .before .before in
+    let j = a .args .job in
+    let left = c .loop-test .left in
+    let e : l .i ≡ j .internals .count = omega (arith, l .inv .0) in
+    λ axis s b h.
+    subst (λ n. Keeps (j .faces .count) (extremeAt axis s (l .all)) (better s b (first axis s j (a .args .wind) n)))
+    (e ∙ sym (internals-counted j (a .pre .0))) (l .inv .1 axis s b h)
+
+pub every-internal-spec : {M : Type 1} → statement M
+every-internal-spec =
+    tie.close
+    (tie.spec Inv-loop μ-loop (λ c. search needs) loop-holds (λ c. omega (arith, below c)) (λ c κs. search needs)
+    walk-requires (λ c. let t = counted (c .before .before) in omega arith) loop-again returns)

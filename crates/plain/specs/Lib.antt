@@ -1,0 +1,3 @@
+-- The plain reckoning. `Walked` serves private contracts alone.
+pub mod Plain
+pub mod Walked

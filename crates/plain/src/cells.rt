@@ -1,0 +1,49 @@
+// Every wind in order, and under each every internal coefficient.
+ghost use mathlib.Core.Path.{_≡_};
+ghost use Prim.Native.Nat.{ℕ, _≤_, _<_};
+ghost use Rattle.job.specs.Carried.{carried};
+ghost use Rattle.worst.specs.declared.Side.{Side};
+ghost use Rattle.worst.specs.declared.Axis.{Axis};
+ghost use Rattle.worst.specs.Best.{Best, better};
+ghost use Rattle.worst.specs.Cases.{Case};
+ghost use Rattle.worst.specs.Worst.{sixExtremes};
+ghost use Rattle.plain.specs.Walked.{extremeAt, Keeps, Taken, windWalked};
+use crate::keep::nothing_yet;
+use crate::walk::walk;
+use job::Job;
+use worst::Six;
+
+// The cases of one wind, after those of the winds before it.
+fn every_internal(six: Six, job: Job, wind: u32) -> Six
+    requires { ⌜ Taken job × (0 < wind) × (wind ≤ job .winds .count) ⌝ }
+    ensures { λ r. ⌜ ((axis : Axis) (s : Side) (b : Best (Case ℕ ℕ ℕ))
+        → Keeps (job .faces .count) (extremeAt axis s six) b
+        → Keeps (job .faces .count) (extremeAt axis s r) (better s b (windWalked axis s (carried job) wind))) ⌝ }
+{
+    let faces = job.faces.count as usize;
+    let count = job.internals.count;
+    let mut all = six;
+    let mut i = 0;
+    while i < count {
+        i += 1;
+        let forces = worst::forces_of(job, wind, i);
+        let none = [0u8; 24];
+        all = walk(all, forces, faces, faces, none, wind, i);
+    }
+    all
+}
+
+// All cases of a job that is taken.
+pub(crate) fn every_wind(job: Job) -> Six
+    requires { ⌜ Taken job ⌝ }
+    ensures { λ r. ⌜ r ≡ sixExtremes (carried job) ⌝ }
+{
+    let winds = job.winds.count;
+    let mut six = nothing_yet(job.faces.count);
+    let mut w = 0;
+    while w < winds {
+        w += 1;
+        six = every_internal(six, job, w);
+    }
+    six
+}

@@ -1,0 +1,106 @@
+// The case that goes furthest so far, on each axis and side: a later one takes its place only where it goes further.
+ghost use mathlib.Core.Path.{_≡_};
+ghost use mathlib.Core.List.{List};
+ghost use Prim.Native.Nat.{ℕ, _≤_, _<_};
+ghost use Rattle.whole.specs.Lists.{firstOf};
+ghost use Rattle.worst.specs.declared.Side.{Side};
+ghost use Rattle.worst.specs.declared.Axis.{Axis};
+ghost use Rattle.worst.specs.Best.{short, Best, none, at, better};
+ghost use Rattle.worst.specs.Cases.{Case, total};
+ghost use Rattle.worst.specs.Shown.{padded, shown};
+ghost use Rattle.plain.specs.Walked.{rows, forceIn, caseOf, sideOf, extremeAt, Keeps, RowsSmall};
+use crate::add;
+use worst::CellForces;
+use worst::Extreme;
+use worst::Extremes;
+use worst::Side;
+use worst::Six;
+
+// No case yet, for a job with so many faces: the number of the wind is 0.
+pub(crate) fn nothing_yet(faces: u32) -> Six
+    ensures { λ r. ⌜ ((axis : Axis) (s : Side) → extremeAt axis s r ≡ shown faces none) ⌝ }
+{
+    let alternative = [0u8; 24];
+    let none = Extreme {
+        total: 0,
+        wind: 0,
+        internal: 0,
+        faces,
+        alternative,
+    };
+    let pair = Extremes {
+        greatest: none,
+        least: none,
+    };
+    Six {
+        x: pair,
+        y: pair,
+        z: pair,
+    }
+}
+
+// Whether a later total is strictly further out.
+fn further(side: Side, earlier: i64, later: i64) -> bool
+    ensures { λ r. ⌜ r ≡ short side earlier later ⌝ }
+{
+    match side {
+        Side::Greatest => earlier < later,
+        Side::Least => later < earlier,
+    }
+}
+
+// On one side of one axis.
+fn kept(side: Side, e: Extreme, total: i64, choice: [u8; 24], wind: u32, internal: u32) -> Extreme
+    requires { ⌜ 0 < wind ⌝ }
+    ensures { λ r. ⌜ ((n : ℕ) (ks : List ℕ) (b : Best (Case ℕ ℕ ℕ)) → choice ≡ padded 24 ks → Keeps n e b
+        → Keeps n r (better side b (at total (caseOf wind internal ks)))) ⌝ }
+{
+    let later = Extreme {
+        total,
+        wind,
+        internal,
+        faces: e.faces,
+        alternative: choice,
+    };
+    if e.wind == 0 {
+        return later;
+    }
+    if further(side, e.total, total) {
+        return later;
+    }
+    e
+}
+
+// On both sides of it.
+fn both_kept(e: Extremes, total: i64, choice: [u8; 24], wind: u32, internal: u32) -> Extremes
+    requires { ⌜ 0 < wind ⌝ }
+    ensures { λ r. ⌜ ((s : Side) (n : ℕ) (ks : List ℕ) (b : Best (Case ℕ ℕ ℕ)) → choice ≡ padded 24 ks
+        → Keeps n (sideOf s e) b → Keeps n (sideOf s r) (better s b (at total (caseOf wind internal ks)))) ⌝ }
+{
+    let greatest = kept(Side::Greatest, e.greatest, total, choice, wind, internal);
+    let least = kept(Side::Least, e.least, total, choice, wind, internal);
+    Extremes { greatest, least }
+}
+
+// One case more on every axis.
+pub(crate) fn with_case(
+    six: Six,
+    forces: CellForces,
+    faces: usize,
+    choice: [u8; 24],
+    wind: u32,
+    internal: u32,
+) -> Six
+    requires { ⌜ (faces ≤ 24) × (0 < wind) × RowsSmall faces forces ⌝ }
+    ensures { λ r. ⌜ ((axis : Axis) (s : Side) (n : ℕ) (ks : List ℕ) (b : Best (Case ℕ ℕ ℕ)) → choice ≡ padded 24 ks
+        → Keeps n (extremeAt axis s six) b
+        → Keeps n (extremeAt axis s r)
+        (better s b (at (total (forceIn axis) (rows faces forces) (firstOf 0 faces choice))
+        (caseOf wind internal ks)))) ⌝ }
+{
+    let t = add::total(forces, faces, choice);
+    let x = both_kept(six.x, t.x, choice, wind, internal);
+    let y = both_kept(six.y, t.y, choice, wind, internal);
+    let z = both_kept(six.z, t.z, choice, wind, internal);
+    Six { x, y, z }
+}
