@@ -67,6 +67,8 @@ pub use Rattle.sheet_written.proofs.write_sheet.Reads as write-sheet
 pub use Rattle.worst.proofs.worst_cases.Reads as worst-cases
 pub use Rattle.worst.proofs.sums_of.Reads as sums-of
 pub use Rattle.worst.proofs.worst_stored.Reads as worst-stored
+pub use Rattle.worst.proofs.forces_of.Reads as forces-of
+pub use Rattle.plain.proofs.plain_cases.Reads as plain-cases
 pub use Rattle.report.proofs.write_report.Reads as write-report
 pub use Rattle.report.proofs.write_stored.Reads as write-stored
 pub use Rattle.report.proofs.write_totals.Reads as write-totals

@@ -246,6 +246,14 @@ sums-of-determined κ a r r′ s s′ p q = same p q
 worst-stored-determined : OneAnswer of.worst-stored.Post
 worst-stored-determined κ a r r′ s s′ p q = same p q
 
+forces-of-determined : OneAnswer of.forces-of.Post
+forces-of-determined κ a r r′ s s′ p q = same p q
+
+-- ---- plain
+
+plain-cases-determined : OneAnswer of.plain-cases.Post
+plain-cases-determined κ a r r′ s s′ p q = same p q
+
 -- ---- report
 
 write-report-determined : OneAnswerAndBuffer of.write-report.Post (λ κ s. now (s .1 .0))

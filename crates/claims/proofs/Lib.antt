@@ -11,6 +11,7 @@ pub mod Item1
 pub mod Item4
 pub mod Item6
 pub mod Item7
+pub mod Item8
 pub mod Item12
 pub mod Printed
 pub mod RowsWorked

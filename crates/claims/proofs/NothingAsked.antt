@@ -229,6 +229,14 @@ sums-of-asks κ a = tt
 worst-stored-asks : AsksNothing of.worst-stored.Asked
 worst-stored-asks κ a = tt
 
+forces-of-asks : AsksNothing of.forces-of.Asked
+forces-of-asks κ a = tt
+
+-- ---- plain
+
+plain-cases-asks : AsksNothing of.plain-cases.Asked
+plain-cases-asks κ a = tt
+
 -- ---- report
 
 write-report-asks : AsksNothing of.write-report.Asked
