@@ -48,8 +48,8 @@ module _ (t : ℕ) (c : walk-lts.Else1 (calls t) (walk-at t) walk.Post) where
   some : 0 < a .args .left
   some = omega (arith, c .if1 .left)
 
-  room : a .args .faces - a .args .left < 24
-  room = let s = some in omega (arith, under .few, under .left≤)
+  sizes : (0 < a .args .left) × (a .args .left ≤ a .args .faces) × (a .args .faces ≤ 24)
+  sizes = (some, under .left≤, under .few)
 
   -- a call with one face less left
   on : (a .args .left - 1 < t) × Underway (a .args .faces) (a .args .left - 1) (a .args .wind) (a .args .t2)
@@ -125,7 +125,8 @@ pub +walk-spec : {M : Type 1} → statement M
     close μ-walk
     (λ t.
     walk-lts.spec (calls t) (walk-at t) walk.Post (with-case-requires t) (returns t)
-    (λ c. under t c .left≤) (λ c. record { fits = omega (arith, room t c) }) (room t)
-    (λ c. room t (c .before)) (λ c. some t (c .before)) (walk-requires t)
-    (λ c. room t (c .before .before .before .before)) (λ c. some t (c .before .before .before .before))
-    (walk-requires-2 t) (returns-2 t) (returns-3 t))
+    (λ c. let z = sizes t c in omega arith) (λ c. let z = sizes t c in record { fits = omega arith })
+    (λ c. let z = sizes t c in omega arith) (λ c. let z = sizes t (c .before) in omega arith)
+    (λ c. some t (c .before)) (walk-requires t)
+    (λ c. let z = sizes t (c .before .before .before .before) in omega arith)
+    (λ c. some t (c .before .before .before .before)) (walk-requires-2 t) (returns-2 t) (returns-3 t))
