@@ -34,8 +34,8 @@ use Rattle.worst.proofs.Better.{best-over, over-each, over-map, over-same, over
 use Rattle.worst.proofs.Members.{choices-only}
 use Rattle.worst.proofs.OneFace.{OneOrTwo, alone, pair}
 use Rattle.worst.proofs.Accepted.{given-sound}
-use Rattle.plain.specs.Walked.{rows, alternativesIn, takenAt, onAxis, forceIn, caseOf, valued, walked, Taken}
-use Rattle.plain.specs.Walked.{cellWalked, windWalked, extremeAt}
+use Rattle.plain.specs.Walked.{rows, alternativesIn, takenAt, alongAxis, forceIn, caseWith}
+use Rattle.plain.specs.Walked.{valued, walked, Taken, cellWalked, windWalked, extremeAt}
 use Rattle.plain.proofs.Rows.{winds-counted, faces-counted, cell-is, rows-are}
 
 -- ---- the worst of all cases, cell by cell
@@ -49,7 +49,7 @@ worst-walked s l =
     ∙ over-same s _ _
     (λ w.
     over-each s _ _ (l .internals)
-    ∙ over-same s _ _ (λ i. over-map s _ (caseOf w i) (choices (l .alternatives w) (l .faces))) (l .internals))
+    ∙ over-same s _ _ (λ i. over-map s _ (caseWith w i) (choices (l .alternatives w) (l .faces))) (l .internals))
     (l .winds)
 
 -- ---- choices of what stands for the faces
@@ -110,7 +110,7 @@ module _ (g : Given) (w : Wind) (i : ℤ) (f : Face) (sound : acts f (w .directi
         go true h m = two (outsides g w f) (h refl) m
         go false h m = inl (List·Memᴰ·eq-of-singleton m)
 
-    on-axis : (axis : Axis) (k : ℕ) → force axis g w i f k ≡ onAxis axis (forceOf g w i f k)
+    on-axis : (axis : Axis) (k : ℕ) → force axis g w i f k ≡ alongAxis axis (forceOf g w i f k)
     on-axis X k = refl
     on-axis Y k = refl
     on-axis Z k = refl
@@ -119,7 +119,7 @@ module _ (g : Given) (w : Wind) (i : ℤ) (f : Face) (sound : acts f (w .directi
     force-same : (axis : Axis) (k : ℕ) → List·Memᴰ k (alternatives g w f)
         → force axis g w i f k ≡ forceIn axis (faceForces g w i f) k
     unfolding faceForces
-    force-same axis k m = on-axis axis k ∙ ap (onAxis axis) (⊎-elim first second (first-or-second k m))
+    force-same axis k m = on-axis axis k ∙ ap (alongAxis axis) (⊎-elim first second (first-or-second k m))
       where
         first : k ≡ 1 → forceOf g w i f k ≡ takenAt (faceForces g w i f) k
         first e = rw e
@@ -161,7 +161,7 @@ module _ (j : Job) (t : Taken j) (axis : Axis) (s : Side) (w i : ℕ) (from : 1 
       (λ f m. alternatives-same g u (internalAt g i) f (sound-at f m))))
       ∙ over-same-in s _ _ (choices (l .alternatives w) (g .faces))
       (λ ks m.
-      ap (λ v. at v (caseOf w i ks))
+      ap (λ v. at v (caseWith w i ks))
       (sym (total-map row (l .alternatives w) alternativesIn (l .force w i) (forceIn axis) (g .faces)
       (λ f mf k mk. force-same g u (internalAt g i) f (sound-at f mf) axis k mk) ks
       (choices-only (l .alternatives w) (g .faces) ks m))))

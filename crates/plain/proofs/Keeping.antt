@@ -11,7 +11,7 @@ use Rattle.worst.specs.declared.Extreme.{Extreme}
 use Rattle.worst.specs.Best.{short, Best, none, at, better}
 use Rattle.worst.specs.Cases.{Case}
 use Rattle.worst.specs.Shown.{padded, shown}
-use Rattle.plain.specs.Walked.{caseOf, Keeps}
+use Rattle.plain.specs.Walked.{caseWith, Keeps}
 
 -- the later case as the code makes it
 abbrev pub later : ℤ → ℕ → ℕ → ℕ → List ℕ → Extreme
@@ -20,7 +20,7 @@ later v w i n chosen = record { total = v; wind = w; internal = i; faces = n; al
 module _ (s : Side) (n : ℕ) (e : Extreme) (v : ℤ) (w i : ℕ) (ks choice : List ℕ) (some : 0 < w)
     (chosen : choice ≡ padded 24 ks) where
   abbrev next : Best (Case ℕ ℕ ℕ)
-  next = at v (caseOf w i ks)
+  next = at v (caseWith w i ks)
 
   later-kept : e .faces ≡ n → Keeps n (later v w i (e .faces) choice) next
   unfolding shown

@@ -13,7 +13,7 @@ use Rattle.whole.proofs.FirstOf.{firstOf-next}
 use Rattle.whole.proofs.Size.{natAbs-add}
 use Rattle.worst.specs.declared.Axis.{Axis}
 use Rattle.worst.specs.declared.Axis.the-variants.{X, Y, Z}
-use Rattle.worst.specs.declared.Force.{Force}
+use Rattle.worst.specs.declared.AxisForces.{AxisForces}
 use Rattle.worst.specs.declared.FaceForces.{FaceForces}
 use Rattle.worst.specs.declared.CellForces.{CellForces}
 use Rattle.worst.specs.Cases.{total}
@@ -61,7 +61,7 @@ taken-small f k h = go (eqb k 1)
     go true = h .first
     go false = h .last
 
-pub plus-small : (n : ℕ) (a b : Force) → ForceSmall n a → ForceSmall 1 b → ForceSmall (n + 1) (plus a b)
+pub plus-small : (n : ℕ) (a b : AxisForces) → ForceSmall n a → ForceSmall 1 b → ForceSmall (n + 1) (plus a b)
 plus-small n a b h k =
     record {
       x = omega (arith, natAbs-add (a .x) (b .x), h .x, k .x);
@@ -69,5 +69,5 @@ plus-small n a b h k =
       z = omega (arith, natAbs-add (a .z) (b .z), h .z, k .z);
     }
 
-pub more-small : (m n : ℕ) (a : Force) → m ≤ n → ForceSmall m a → ForceSmall n a
+pub more-small : (m n : ℕ) (a : AxisForces) → m ≤ n → ForceSmall m a → ForceSmall n a
 more-small m n a t h = record { x = omega (arith, h .x); y = omega (arith, h .y); z = omega (arith, h .z) }

@@ -21,7 +21,7 @@ use Rattle.worst.specs.Shown.{padded}
 use Rattle.worst.specs.PerFace.{noFaceForces}
 use Rattle.worst.proofs.Better.{better-none, better-assoc, over-each, over-map, over-same}
 use Rattle.worst.proofs.Padded.{padded-set}
-use Rattle.plain.specs.Walked.{rows, alternativesIn, caseOf, valued, walked, Keeps}
+use Rattle.plain.specs.Walked.{rows, alternativesIn, caseWith, valued, walked, Keeps}
 
 module _ (s : Side) (value : List ℕ → ℤ) (w i : ℕ) where
   pub walked-end : (ks : List ℕ) → walked s value w i ks [] ≡ valued value w i ks
@@ -71,14 +71,14 @@ own (k ∷ ks) rest = ap (λ l. k ∷ l) (own ks rest)
 
 pub turn-end : (n left : ℕ) (forces : CellForces) → left ≡ 0 → (s : Side) (value : List ℕ → ℤ) (w i : ℕ)
     (choice ks : List ℕ) → choice ≡ padded 24 ks → length ks ≡ n - left
-    → at (value (firstOf 0 n choice)) (caseOf w i ks)
+    → at (value (firstOf 0 n choice)) (caseWith w i ks)
     ≡ walked s value w i ks (drop (n - left) (rows n forces))
 unfolding padded
 turn-end n left forces none s value w i choice ks e long =
     let all : length ks ≡ n = omega arith in
     let past : length (rows n forces) ≤ n - left = omega (arith, firstOf-length noFaceForces n (forces .face)) in
     let chosen : firstOf 0 n choice ≡ ks = (λ j. firstOf 0 (sym all j) (e j)) ∙ own ks _ in
-    ap (λ l. at (value l) (caseOf w i ks)) chosen
+    ap (λ l. at (value l) (caseWith w i ks)) chosen
     ∙ sym (walked-end s value w i ks)
     ∙ ap (walked s value w i ks) (sym (drop-of-length-le (rows n forces) {i = n - left} past))
 

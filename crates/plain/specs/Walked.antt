@@ -15,7 +15,7 @@ use Rattle.worst.specs.declared.Side.{Side}
 use Rattle.worst.specs.declared.Side.the-variants.{Greatest, Least}
 use Rattle.worst.specs.declared.Axis.{Axis}
 use Rattle.worst.specs.declared.Axis.the-variants.{X, Y, Z}
-use Rattle.worst.specs.declared.Force.{Force}
+use Rattle.worst.specs.declared.AxisForces.{AxisForces}
 use Rattle.worst.specs.declared.FaceForces.{FaceForces}
 use Rattle.worst.specs.declared.CellForces.{CellForces}
 use Rattle.worst.specs.declared.Extreme.{Extreme}
@@ -37,27 +37,27 @@ rows n forces = firstOf noFaceForces n (forces .face)
 abbrev pub alternativesIn : FaceForces → List ℕ
 alternativesIn f = cond (eqb (f .count) 2) (1 ∷ 2 ∷ []) (1 ∷ [])
 
-abbrev pub takenAt : FaceForces → ℕ → Force
+abbrev pub takenAt : FaceForces → ℕ → AxisForces
 takenAt f k = cond (eqb k 1) (f .first) (f .last)
 
-abbrev pub onAxis : Axis → Force → ℤ
-onAxis X f = f .x
-onAxis Y f = f .y
-onAxis Z f = f .z
+abbrev pub alongAxis : Axis → AxisForces → ℤ
+alongAxis X f = f .x
+alongAxis Y f = f .y
+alongAxis Z f = f .z
 
 abbrev pub forceIn : Axis → FaceForces → ℕ → ℤ
-forceIn axis f k = onAxis axis (takenAt f k)
+forceIn axis f k = alongAxis axis (takenAt f k)
 
-abbrev pub plus : Force → Force → Force
+abbrev pub plus : AxisForces → AxisForces → AxisForces
 plus a b = record { x = a .x +ℤ b .x; y = a .y +ℤ b .y; z = a .z +ℤ b .z }
 
 -- the totals of a choice
-abbrev pub totalOf : List FaceForces → List ℕ → Force
+abbrev pub totalOf : List FaceForces → List ℕ → AxisForces
 totalOf fs ks =
     record { x = total (forceIn X) fs ks; y = total (forceIn Y) fs ks; z = total (forceIn Z) fs ks }
 
 -- n faces added up are no larger
-pub record ForceSmall (n : ℕ) (f : Force) : Type 0 where
+pub record ForceSmall (n : ℕ) (f : AxisForces) : Type 0 where
   pub x : natAbs (f .x) ≤ n * 330000000000000000
   pub y : natAbs (f .y) ≤ n * 330000000000000000
   pub z : natAbs (f .z) ≤ n * 330000000000000000
@@ -71,12 +71,12 @@ RowsSmall n forces = (i : ℕ) → i < n → RowSmall (getD (forces .face) i noF
 
 -- ---- every choice
 
-abbrev pub caseOf : ℕ → ℕ → List ℕ → Case ℕ ℕ ℕ
-caseOf w i ks = record { wind = w; internal = i; chosen = ks }
+abbrev pub caseWith : ℕ → ℕ → List ℕ → Case ℕ ℕ ℕ
+caseWith w i ks = record { wind = w; internal = i; chosen = ks }
 
 -- a case with its total
 abbrev pub valued : (List ℕ → ℤ) → ℕ → ℕ → List ℕ → Best (Case ℕ ℕ ℕ)
-valued value w i ks = at (value ks) (caseOf w i ks)
+valued value w i ks = at (value ks) (caseWith w i ks)
 
 -- the best of the choices that begin with ks and go on over the faces that are left
 unfoldable pub walked : Side → (List ℕ → ℤ) → ℕ → ℕ → List ℕ → List FaceForces → Best (Case ℕ ℕ ℕ)

@@ -3,12 +3,12 @@ ghost use mathlib.Core.Path.{_≡_};
 ghost use Prim.Native.Nat.{_≤_};
 ghost use Rattle.whole.specs.Lists.{firstOf};
 ghost use Rattle.plain.specs.Walked.{rows, takenAt, plus, totalOf, ForceSmall, RowsSmall};
+use worst::AxisForces;
 use worst::CellForces;
 use worst::FaceForces;
-use worst::Force;
 
 // The force of a face at its alternative k.
-fn taken(f: FaceForces, k: u8) -> Force
+fn taken(f: FaceForces, k: u8) -> AxisForces
     ensures { λ r. ⌜ r ≡ takenAt f k ⌝ }
 {
     if k == 1 {
@@ -17,11 +17,11 @@ fn taken(f: FaceForces, k: u8) -> Force
     f.last
 }
 
-fn sum(a: Force, b: Force) -> Force
+fn sum(a: AxisForces, b: AxisForces) -> AxisForces
     requires { ⌜ ForceSmall 23 a × ForceSmall 1 b ⌝ }
     ensures { λ r. ⌜ r ≡ plus a b ⌝ }
 {
-    Force {
+    AxisForces {
         x: a.x + b.x,
         y: a.y + b.y,
         z: a.z + b.z,
@@ -29,11 +29,11 @@ fn sum(a: Force, b: Force) -> Force
 }
 
 // The totals of a choice.
-pub(crate) fn total(forces: CellForces, faces: usize, choice: [u8; 24]) -> Force
+pub(crate) fn total(forces: CellForces, faces: usize, choice: [u8; 24]) -> AxisForces
     requires { ⌜ (faces ≤ 24) × RowsSmall faces forces ⌝ }
     ensures { λ r. ⌜ r ≡ totalOf (rows faces forces) (firstOf 0 faces choice) ⌝ }
 {
-    let mut all = Force { x: 0, y: 0, z: 0 };
+    let mut all = AxisForces { x: 0, y: 0, z: 0 };
     let mut i = 0;
     while i < faces {
         let f = forces.face[i];

@@ -8,7 +8,7 @@ ghost use Rattle.worst.specs.declared.Axis.{Axis};
 ghost use Rattle.worst.specs.Best.{short, Best, none, at, better};
 ghost use Rattle.worst.specs.Cases.{Case, total};
 ghost use Rattle.worst.specs.Shown.{padded, shown};
-ghost use Rattle.plain.specs.Walked.{rows, forceIn, caseOf, sideOf, extremeAt, Keeps, RowsSmall};
+ghost use Rattle.plain.specs.Walked.{rows, forceIn, caseWith, sideOf, extremeAt, Keeps, RowsSmall};
 use crate::add;
 use worst::CellForces;
 use worst::Extreme;
@@ -53,7 +53,7 @@ fn further(side: Side, earlier: i64, later: i64) -> bool
 fn kept(side: Side, e: Extreme, total: i64, choice: [u8; 24], wind: u32, internal: u32) -> Extreme
     requires { ⌜ 0 < wind ⌝ }
     ensures { λ r. ⌜ ((n : ℕ) (ks : List ℕ) (b : Best (Case ℕ ℕ ℕ)) → choice ≡ padded 24 ks → Keeps n e b
-        → Keeps n r (better side b (at total (caseOf wind internal ks)))) ⌝ }
+        → Keeps n r (better side b (at total (caseWith wind internal ks)))) ⌝ }
 {
     let later = Extreme {
         total,
@@ -75,7 +75,7 @@ fn kept(side: Side, e: Extreme, total: i64, choice: [u8; 24], wind: u32, interna
 fn both_kept(e: Extremes, total: i64, choice: [u8; 24], wind: u32, internal: u32) -> Extremes
     requires { ⌜ 0 < wind ⌝ }
     ensures { λ r. ⌜ ((s : Side) (n : ℕ) (ks : List ℕ) (b : Best (Case ℕ ℕ ℕ)) → choice ≡ padded 24 ks
-        → Keeps n (sideOf s e) b → Keeps n (sideOf s r) (better s b (at total (caseOf wind internal ks)))) ⌝ }
+        → Keeps n (sideOf s e) b → Keeps n (sideOf s r) (better s b (at total (caseWith wind internal ks)))) ⌝ }
 {
     let greatest = kept(Side::Greatest, e.greatest, total, choice, wind, internal);
     let least = kept(Side::Least, e.least, total, choice, wind, internal);
@@ -96,7 +96,7 @@ pub(crate) fn with_case(
         → Keeps n (extremeAt axis s six) b
         → Keeps n (extremeAt axis s r)
         (better s b (at (total (forceIn axis) (rows faces forces) (firstOf 0 faces choice))
-        (caseOf wind internal ks)))) ⌝ }
+        (caseWith wind internal ks)))) ⌝ }
 {
     let t = add::total(forces, faces, choice);
     let x = both_kept(six.x, t.x, choice, wind, internal);

@@ -21,7 +21,7 @@ use Rattle.entry.specs.declared.Face.{Face}
 use Rattle.job.specs.declared.Job.{Job}
 use Rattle.job.specs.Carried.{Carried, carried, noWind, noFace}
 use Rattle.job.specs.InOrder.{InOrder}
-use Rattle.worst.specs.declared.Force.{Force}
+use Rattle.worst.specs.declared.AxisForces.{AxisForces}
 use Rattle.worst.specs.declared.FaceForces.{FaceForces}
 use Rattle.worst.specs.declared.CellForces.{CellForces}
 use Rattle.worst.specs.Cases.{numbers}
@@ -49,7 +49,7 @@ module _ (c : Carried) (w : Wind) (internal : ℤ) (f : Face) where
   p = pressure (c .building .density) (faceSpeed (c .profile) w f)
 
   -- the force at alternative k; and with so many of them the first and the last
-  abbrev forceAt : Bool → ℕ → Force
+  abbrev forceAt : Bool → ℕ → AxisForces
   forceAt t k =
       let n = net (getD outs (k - 1) (pos 0)) internal *ℤ p in
       record {

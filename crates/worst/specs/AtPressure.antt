@@ -9,7 +9,7 @@ use Rattle.book.specs.Answer.{valuesOf}
 use Rattle.book.specs.Question.{outsideOf, net}
 use Rattle.entry.specs.declared.Wind.{Wind}
 use Rattle.entry.specs.declared.Face.{Face}
-use Rattle.worst.specs.declared.Force.{Force}
+use Rattle.worst.specs.declared.AxisForces.{AxisForces}
 use Rattle.worst.specs.declared.FaceForces.{FaceForces}
 use Rattle.worst.specs.declared.forces.Coefficients.{Coefficients}
 use Rattle.worst.specs.declared.speeds.Factor.{Factor}
@@ -26,7 +26,7 @@ abbrev pub coefficientsAt : ℤ → Building → Wind → Face → Coefficients
 coefficientsAt year b w f = coefficientsOf (valuesOf (outsideOf year b (w .direction) (f .zone)))
 
 -- at an outside coefficient
-abbrev pub forceWith : Face → ℤ → ℤ → ℤ → Force
+abbrev pub forceWith : Face → ℤ → ℤ → ℤ → AxisForces
 forceWith f outside internal pressure =
     let n = net outside internal *ℤ pressure in
     record { x = n *ℤ f .x; y = n *ℤ f .y; z = n *ℤ f .z }

@@ -11,14 +11,14 @@ use Rattle.entry.specs.declared.Wind.{Wind}
 use Rattle.entry.specs.declared.Face.{Face}
 use Rattle.job.specs.Walk.{Reading, Accepted, Refused}
 use Rattle.worst.specs.declared.Axis.the-variants.{X, Y, Z}
-use Rattle.worst.specs.declared.Force.{Force}
+use Rattle.worst.specs.declared.AxisForces.{AxisForces}
 use Rattle.worst.specs.declared.FaceForces.{FaceForces}
 use Rattle.worst.specs.declared.CellForces.{CellForces}
 use Rattle.worst.specs.Forces.{Given, alternatives, force, windAt, internalAt}
 use Rattle.worst.specs.Worst.{given}
 
 -- of one face at its alternative k, on each axis
-abbrev pub forceOf : Given → Wind → ℤ → Face → ℕ → Force
+abbrev pub forceOf : Given → Wind → ℤ → Face → ℕ → AxisForces
 forceOf g w internal f k =
     record { x = force X g w internal f k; y = force Y g w internal f k; z = force Z g w internal f k }
 
@@ -29,7 +29,7 @@ faceForces g w internal f =
     record { count = n; first = forceOf g w internal f 1; last = forceOf g w internal f n }
 
 -- zeros
-abbrev pub noForce : Force
+abbrev pub noForce : AxisForces
 noForce = record { x = pos 0; y = pos 0; z = pos 0 }
 
 abbrev pub noFaceForces : FaceForces

@@ -16,9 +16,9 @@ ghost use Rattle.worst.specs.PerFace.{noForce, forcesUpTo, cellForces, f
 ghost use Rattle.worst.specs.AtPressure.{coefficientsOf, coefficientsAt, forceWith, forcesWith, forcesBy};
 ghost use Rattle.worst.specs.Factors.{Fraction};
 ghost use Rattle.worst.specs.Small.{FaceSmall, Pressure, Met, AllMet};
+use crate::AxisForces;
 use crate::CellForces;
 use crate::FaceForces;
-use crate::Force;
 use crate::outside::takes_part;
 use crate::speeds::Factor;
 use crate::speeds::factor_in;
@@ -73,13 +73,13 @@ fn asked(d: Dated, w: Wind, f: Face) -> Coefficients
 }
 
 // At an outside coefficient in thousandths; the internal one is in hundredths.
-fn force_at(f: Face, outside: i64, internal: i64, pressure: i64) -> Force
+fn force_at(f: Face, outside: i64, internal: i64, pressure: i64) -> AxisForces
     requires { ⌜ FaceSmall f × (natAbs outside ≤ 1200) × (natAbs internal ≤ 100) × Pressure pressure ⌝ }
     ensures { λ r. ⌜ r ≡ forceWith f outside internal pressure ⌝ }
 {
     let net = outside - internal * 10;
     let pressed = net * pressure;
-    Force {
+    AxisForces {
         x: pressed * f.x,
         y: pressed * f.y,
         z: pressed * f.z,
@@ -103,7 +103,7 @@ fn forces_at(f: Face, o: Coefficients, internal: i64, pressure: i64) -> FaceForc
 fn no_forces(count: u32) -> FaceForces
     ensures { λ r. ⌜ r ≡ record { count = count; first = noForce; last = noForce } ⌝ }
 {
-    let none = Force { x: 0, y: 0, z: 0 };
+    let none = AxisForces { x: 0, y: 0, z: 0 };
     FaceForces {
         count,
         first: none,

@@ -80,8 +80,8 @@ pub struct Reckoning {
     pub six: Six,
 }
 
-// The force of a face in one case.
-pub struct Force {
+// The force of a face on each axis.
+pub struct AxisForces {
     pub x: i64,
     pub y: i64,
     pub z: i64,
@@ -90,8 +90,8 @@ pub struct Force {
 // Of one face: how many alternatives it has, and its forces at the first and at the last.
 pub struct FaceForces {
     pub count: u32,
-    pub first: Force,
-    pub last: Force,
+    pub first: AxisForces,
+    pub last: AxisForces,
 }
 
 // Of all faces in order, under one wind and one internal coefficient, with zeros past the last.

@@ -6,7 +6,7 @@ use borrow.Author.Needs.{needs}
 use Rattle.worst.specs.declared.Side.the-variants.{Greatest, Least}
 use Rattle.worst.specs.Best.{at, better}
 use Rattle.worst.proofs.Kept.{either}
-use Rattle.plain.specs.Walked.{caseOf, Keeps}
+use Rattle.plain.specs.Walked.{caseWith, Keeps}
 use Rattle.plain.proofs.keep.both_kept.Statement.{statement}
 use Rattle.plain.proofs.keep.both_kept.Tie as tie
 
@@ -18,10 +18,10 @@ returns c =
     let read = toZ-ofZ w64 (s .total) (a .fits .total) in
     either _
     (λ n ks b chosen h.
-    subst (λ v. Keeps n (d .kept .result) (better Greatest b (at v (caseOf (s .wind) (s .internal) ks)))) read
+    subst (λ v. Keeps n (d .kept .result) (better Greatest b (at v (caseWith (s .wind) (s .internal) ks)))) read
     (d .kept .ensures n ks b chosen h))
     (λ n ks b chosen h.
-    subst (λ v. Keeps n (c .kept2 .result) (better Least b (at v (caseOf (s .wind) (s .internal) ks)))) read
+    subst (λ v. Keeps n (c .kept2 .result) (better Least b (at v (caseWith (s .wind) (s .internal) ks)))) read
     (c .kept2 .ensures n ks b chosen h))
 
 pub both-kept-spec : {M : Type 1} → statement M

@@ -6,7 +6,7 @@ use mir.ValLaws.{toZ-ofZ}
 use borrow.Author.Needs.{needs}
 use Rattle.worst.specs.Best.{short, at, better}
 use Rattle.worst.proofs.Kept.{short-read}
-use Rattle.plain.specs.Walked.{caseOf, Keeps}
+use Rattle.plain.specs.Walked.{caseWith, Keeps}
 use Rattle.plain.proofs.Keeping.{later, kept-first, kept-later, kept-earlier}
 use Rattle.plain.proofs.keep.kept.Statement.{statement}
 use Rattle.plain.proofs.keep.kept.Tie as tie
@@ -22,7 +22,7 @@ returns c n ks b chosen h =
     subst
     (λ v.
     Keeps n (later v (s .wind) (s .internal) (s .e .faces) (s .choice))
-    (better (s .side) b (at (s .total) (caseOf (s .wind) (s .internal) ks))))
+    (better (s .side) b (at (s .total) (caseWith (s .wind) (s .internal) ks))))
     (sym (read a))
     (kept-first (s .side) n (s .e) (s .total) (s .wind) (s .internal) ks (s .choice) (a .pre) chosen (c .if1 .taken) b
     h)
@@ -44,7 +44,7 @@ returns-2 c n ks b chosen h =
     subst
     (λ v.
     Keeps n (later v (s .wind) (s .internal) (s .e .faces) (s .choice))
-    (better (s .side) b (at (s .total) (caseOf (s .wind) (s .internal) ks))))
+    (better (s .side) b (at (s .total) (caseWith (s .wind) (s .internal) ks))))
     (sym (read a))
     (kept-later (s .side) n (s .e) (s .total) (s .wind) (s .internal) ks (s .choice) (a .pre) chosen
     (f .before .before .if1 .left) (sym (tested f) ∙ c .if2 .taken) b h)

@@ -9,19 +9,19 @@ use mir.ValLaws.{toZ-ofZ}
 use borrow.Author.Needs.{needs}
 use Rattle.worst.specs.declared.Side.{Side}
 use Rattle.worst.specs.declared.Extremes.{Extremes}
-use Rattle.worst.specs.declared.Force.{Force}
+use Rattle.worst.specs.declared.AxisForces.{AxisForces}
 use Rattle.worst.specs.Best.{Best, at, better}
 use Rattle.worst.specs.Cases.{Case}
 use Rattle.worst.specs.Shown.{padded}
 use Rattle.worst.proofs.Kept.{every-axis}
-use Rattle.plain.specs.Walked.{caseOf, sideOf, Keeps}
+use Rattle.plain.specs.Walked.{caseWith, sideOf, Keeps}
 use Rattle.plain.proofs.keep.with_case.Statement.{statement}
 use Rattle.plain.proofs.keep.with_case.Tie as tie
 
 -- what is kept at a total
 abbrev With : List ℕ → ℕ → ℕ → Extremes → Extremes → ℤ → Type 0
 With choice w i e r v = (s : Side) (n : ℕ) (ks : List ℕ) (b : Best (Case ℕ ℕ ℕ)) → choice ≡ padded 24 ks
-    → Keeps n (sideOf s e) b → Keeps n (sideOf s r) (better s b (at v (caseOf w i ks)))
+    → Keeps n (sideOf s e) b → Keeps n (sideOf s r) (better s b (at v (caseWith w i ks)))
 
 -- each total fits
 fits-x : (u : tie.After-struct-told) → SFits w64 (u .before .total .result .x)
@@ -43,11 +43,11 @@ returns c =
     let r = t .total .result in
     every-axis _
     (subst (With (s .choice) (s .wind) (s .internal) (s .six .x) (x .both-kept .result))
-    (toZ-ofZ w64 (r .x) (fits-x (x .before)) ∙ ap (λ (f : Force). f .x) e) (x .both-kept .ensures))
+    (toZ-ofZ w64 (r .x) (fits-x (x .before)) ∙ ap (λ (f : AxisForces). f .x) e) (x .both-kept .ensures))
     (subst (With (s .choice) (s .wind) (s .internal) (s .six .y) (y .both-kept2 .result))
-    (toZ-ofZ w64 (r .y) (fits-y (y .before)) ∙ ap (λ (f : Force). f .y) e) (y .both-kept2 .ensures))
+    (toZ-ofZ w64 (r .y) (fits-y (y .before)) ∙ ap (λ (f : AxisForces). f .y) e) (y .both-kept2 .ensures))
     (subst (With (s .choice) (s .wind) (s .internal) (s .six .z) (c .both-kept3 .result))
-    (toZ-ofZ w64 (r .z) (fits-z (c .before)) ∙ ap (λ (f : Force). f .z) e) (c .both-kept3 .ensures))
+    (toZ-ofZ w64 (r .z) (fits-z (c .before)) ∙ ap (λ (f : AxisForces). f .z) e) (c .both-kept3 .ensures))
 
 pub with-case-spec : {M : Type 1} → statement M
 with-case-spec =
