@@ -4,10 +4,11 @@ use Prim.Native.Nat.{ℕ}
 use mathlib.Core.Path.{_≡_, refl, sym, ap, _∙_}
 use mathlib.Core.List.{List}
 use lib.IntN.{ℤ}
+use Rattle.verdict.specs.declared.Verdict.{Verdict}
 use Rattle.verdict.specs.Verdict.{Refuses}
 use Rattle.page.specs.declared.Writing.{Writing}
 use Rattle.job.specs.Carried.{Carried}
-use Rattle.job.specs.Walk.{Reading, judged}
+use Rattle.job.specs.Walk.{Reading, Refused, judged}
 use Rattle.sheet.specs.declared.read.Read.{Read}
 use Rattle.sheet.specs.Sheet.{reading, answer, jobWriting, jobBuffer}
 use Rattle.sheet.proofs.Answered.{read-refused, read-accepted}
@@ -19,18 +20,20 @@ use Rattle.answers.specs.Answers.{noHostText, hostText, noHostExtreme, hostLine
 module _ (s : List ℕ) (r : Read) (e : r ≡ answer (reading s)) where
   -- ---- a text about the job
 
-  module _ (text : Carried → List ℕ) (buf : List ℕ) where
+  -- by what is made of what was read, where a refusal stays as it is
+  module _ (made : Reading → Reading) (own : (v : Verdict) → made (Refused v) ≡ Refused v) (text : Carried → List ℕ)
+      (buf : List ℕ) where
     pub text-refused : Refuses (r .verdict)
-        → (noHostText (r .verdict) ≡ hostText (jobWriting text (reading s) buf))
-        × (buf ≡ jobBuffer text (reading s) buf)
-    text-refused h = rw (read-refused s r e h) (refl, refl)
+        → (noHostText (r .verdict) ≡ hostText (jobWriting text (made (reading s)) buf))
+        × (buf ≡ jobBuffer text (made (reading s)) buf)
+    text-refused h = rw (ap made (read-refused s r e h) ∙ own (r .verdict)) (refl, refl)
 
-    pub text-accepted : r .verdict .number ≡ 0 → {t : Text} {w : Writing} {after : List ℕ}
-        → t ≡ hostText w → (w ≡ jobWriting text (judged (r .job)) buf) × (after ≡ jobBuffer text (judged (r .job)) buf)
-        → (t ≡ hostText (jobWriting text (reading s) buf)) × (after ≡ jobBuffer text (reading s) buf)
+    pub text-accepted : r .verdict .number ≡ 0 → {t : Text} {w : Writing} {after : List ℕ} → t ≡ hostText w
+        → (w ≡ jobWriting text (made (judged (r .job))) buf) × (after ≡ jobBuffer text (made (judged (r .job))) buf)
+        → (t ≡ hostText (jobWriting text (made (reading s)) buf)) × (after ≡ jobBuffer text (made (reading s)) buf)
     text-accepted z given wrote =
         let a = read-accepted s r e z in
-        let j = a .2 ∙ sym (a .1) in (
+        let j = ap made (a .2 ∙ sym (a .1)) in (
           given ∙ ap hostText (wrote .0 ∙ ap (λ (x : Reading). jobWriting text x buf) j),
           wrote .1 ∙ ap (λ (x : Reading). jobBuffer text x buf) j,
         )

@@ -15,6 +15,7 @@ ghost use Rattle.panel.specs.Bracket.{panelOf};
 ghost use Rattle.panel.specs.Chart.{pointOf};
 ghost use Rattle.job.specs.Walk.{verdict, judged};
 ghost use Rattle.sheet.specs.Sheet.{reading, sheetText, jobWriting, jobBuffer};
+ghost use Rattle.plain.specs.Plain.{plainly};
 ghost use Rattle.report.specs.Report.{reportText, storedText};
 ghost use Rattle.edits.specs.Edits.{Add, Replace, TakeOut};
 ghost use Rattle.worksheet.specs.Worksheet.{opened, edited};
@@ -55,6 +56,19 @@ pub extern "C" fn aral_report(sheet: &[u8], out: &mut [u8]) -> answers::Text
         return answers::no_text(r.verdict);
     }
     answers::text_of(report::write_report(r.job, out))
+}
+
+// Its report by the plain engine, which walks every case.
+#[no_mangle]
+pub extern "C" fn aral_plain(sheet: &[u8], out: &mut [u8]) -> answers::Text
+    ensures { λ r. ⌜ (r ≡ hostText (jobWriting reportText (plainly (reading (now (sheet .entry)))) (now (out .entry))))
+        × (now (out .exit) ≡ jobBuffer reportText (plainly (reading (now (sheet .entry)))) (now (out .entry))) ⌝ }
+{
+    let r = sheet::read::read_sheet(sheet);
+    if r.verdict.number != 0 {
+        return answers::no_text(r.verdict);
+    }
+    answers::text_of(report::write_plain(r.job, out))
 }
 
 // One line of its report: 1 is x max, 2 x min, up to 6, z min.

@@ -71,6 +71,7 @@ pub use Rattle.worst.proofs.forces_of.Reads as forces-of
 pub use Rattle.plain.proofs.plain_cases.Reads as plain-cases
 pub use Rattle.report.proofs.write_report.Reads as write-report
 pub use Rattle.report.proofs.write_stored.Reads as write-stored
+pub use Rattle.report.proofs.write_plain.Reads as write-plain
 pub use Rattle.report.proofs.write_totals.Reads as write-totals
 pub use Rattle.panel.proofs.panel_of.Reads as panel-of
 pub use Rattle.panel.proofs.chart.Reads as chart
@@ -90,6 +91,7 @@ pub use Rattle.answers.proofs.line_of.Reads as line-of
 pub use Rattle.aralimogga.proofs.aral_read.Reads as aral-read
 pub use Rattle.aralimogga.proofs.aral_rewrite.Reads as aral-rewrite
 pub use Rattle.aralimogga.proofs.aral_report.Reads as aral-report
+pub use Rattle.aralimogga.proofs.aral_plain.Reads as aral-plain
 pub use Rattle.aralimogga.proofs.aral_total.Reads as aral-total
 pub use Rattle.aralimogga.proofs.aral_open.Reads as aral-open
 pub use Rattle.aralimogga.proofs.aral_add.Reads as aral-add

@@ -262,6 +262,9 @@ write-report-determined κ a r r′ s s′ p q = same-both p q
 write-stored-determined : OneAnswerAndBuffer of.write-stored.Post (λ κ s. now (s .1 .1 .0))
 write-stored-determined κ a r r′ s s′ p q = same-both p q
 
+write-plain-determined : OneAnswerAndBuffer of.write-plain.Post (λ κ s. now (s .1 .0))
+write-plain-determined κ a r r′ s s′ p q = same-both p q
+
 write-totals-determined : OneAnswerAndBuffer of.write-totals.Post (λ κ s. now (s .1 .0))
 write-totals-determined κ a r r′ s s′ p q = same-both p q
 
@@ -328,6 +331,9 @@ aral-rewrite-determined κ a r r′ s s′ p q = same-both p q
 
 aral-report-determined : OneAnswerAndBuffer of.aral-report.Post (λ κ s. now (s .1 .0))
 aral-report-determined κ a r r′ s s′ p q = same-both p q
+
+aral-plain-determined : OneAnswerAndBuffer of.aral-plain.Post (λ κ s. now (s .1 .0))
+aral-plain-determined κ a r r′ s s′ p q = same-both p q
 
 aral-total-determined : OneAnswer of.aral-total.Post
 aral-total-determined κ a r r′ s s′ p q = same p q

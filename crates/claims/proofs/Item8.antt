@@ -5,6 +5,7 @@ use mathlib.Core.Bool.{Bool, true, false, cond, true≢false, _||_}
 use mathlib.Core.List.{List, [], _∷_, List·Memᴰ, List·Memᴰ·head, List·Memᴰ·tail, List·Memᴰ·cases-cons}
 use mathlib.Core.List.{List·Memᴰ·not-nil}
 use Prim.Native.Nat.{ℕ, _≤_, _<_}
+use denote.Ref.{now}
 use native.Mathlib.Omega.{arith}
 use borrow.Author.Tests.{eq-eqb, eqb-true, le-leb, lt-leb}
 use lib.Dec.{leb}
@@ -18,9 +19,13 @@ use Rattle.job.specs.declared.Job.{Job}
 use Rattle.job.specs.Carried.{carried}
 use Rattle.job.specs.Lines.{linesOf}
 use Rattle.job.specs.Walk.{Reading, Accepted, Refused, judged}
+use Rattle.sheet.specs.Sheet.{reading, jobWriting, jobBuffer}
 use Rattle.worst.specs.declared.Reckoning.{Reckoning}
 use Rattle.worst.specs.Forces.{Given, alternatives}
 use Rattle.worst.specs.Worst.{given, noSix, reckoned, worstOf}
+use Rattle.report.specs.Report.{reportText}
+use Rattle.answers.specs.declared.Text.{Text}
+use Rattle.answers.specs.Answers.{hostText}
 use Rattle.plain.specs.Plain.{anyOf, twoSomewhere, facesWithTwo, plainly, plainOf}
 use Rattle.claims.specs.Contract.{Always}
 use Rattle.claims.specs.Fault.{Faultless, GetsFault}
@@ -33,6 +38,12 @@ use Rattle.claims.proofs.Fault as fault
 abbrev pub SameSixLines : Type 0
 SameSixLines = Always of.worst-cases.Post (λ κ a r s. Always of.plain-cases.Post (λ κ′ b q t.
     a .0 ≡ b .0 → q .verdict ≡ accepted → q ≡ r))
+
+-- and so for a host in C: on every sheet that is not refused with 10 both answer the same, with the same bytes
+abbrev pub SameText : Type 0
+SameText = Always of.aral-report.Post (λ κ a r s. Always of.aral-plain.Post (λ κ′ b q t.
+    now (a .0) ≡ now (b .0) → now (a .1 .0) ≡ now (b .1 .0) → (q .verdict .number ≡ 10 → ⊥)
+    → (q ≡ r) × (now (t .1 .0) ≡ now (s .1 .0))))
 
 -- "for jobs with at most 8 faces that have two alternatives under at least one of their winds": how many a job has
 abbrev pub withTwo : Job → ℕ
@@ -75,6 +86,28 @@ pub same-six-lines : SameSixLines
 same-six-lines κ a r s p κ′ b q t h e v =
     let plain = h ∙ ap plainOf (sym e) in
     plain ∙ same (a .0) (sym (ap (λ (x : Reckoning). x .verdict) plain) ∙ v) ∙ sym p
+
+-- what is not refused with 10 is read as it is
+read-plainly : (x : Reading) (buf : List ℕ)
+    → (hostText (jobWriting reportText (plainly x) buf) .verdict .number ≡ 10 → ⊥) → plainly x ≡ x
+read-plainly (Refused v) buf h = refl
+read-plainly (Accepted c) buf h = go (leb (facesWithTwo (given c)) 8) h
+  where
+    go : (t : Bool)
+        → (hostText (jobWriting reportText (cond t (Accepted c) (Refused (refusal 10 0))) buf) .verdict .number ≡ 10 → ⊥)
+        → cond t (Accepted c) (Refused (refusal 10 0)) ≡ Accepted c
+    go true k = refl
+    go false k = absurd (k refl)
+
+pub same-text : SameText
+same-text κ a r s p κ′ b q t h same buffer ten =
+    let x = reading (now (b .0)) in
+    let buf = now (b .1 .0) in
+    let is = read-plainly x buf (λ e. ten (ap (λ (y : Text). y .verdict .number) (h .0) ∙ e)) in
+    let one : plainly x ≡ reading (now (a .0)) = is ∙ ap reading (sym same) in (
+      h .0 ∙ (λ i. hostText (jobWriting reportText (one i) (sym buffer i))) ∙ sym (p .0),
+      h .1 ∙ (λ i. jobBuffer reportText (one i) (sym buffer i)) ∙ sym (p .1),
+    )
 
 -- by what a job is judged, and whether few of its faces have two
 judged-plain : (j : Job) (r : Reading) → judged j ≡ r → plainOf j ≡ reckoned (plainly r)

@@ -245,6 +245,9 @@ write-report-asks κ a = tt
 write-stored-asks : AsksNothing of.write-stored.Asked
 write-stored-asks κ a = tt
 
+write-plain-asks : AsksNothing of.write-plain.Asked
+write-plain-asks κ a = tt
+
 write-totals-asks : AsksNothing of.write-totals.Asked
 write-totals-asks κ a = tt
 
@@ -311,6 +314,9 @@ aral-rewrite-asks κ a = tt
 
 aral-report-asks : AsksNothing of.aral-report.Asked
 aral-report-asks κ a = tt
+
+aral-plain-asks : AsksNothing of.aral-plain.Asked
+aral-plain-asks κ a = tt
 
 aral-total-asks : AsksNothing of.aral-total.Asked
 aral-total-asks κ a = tt

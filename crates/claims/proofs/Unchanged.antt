@@ -17,6 +17,7 @@ use Rattle.whole.specs.Digits.{decimal}
 use Rattle.job.specs.Carried.{Carried}
 use Rattle.job.specs.Walk.{Reading, Accepted, Refused, judged}
 use Rattle.sheet.specs.Sheet.{reading, sheetText, jobWriting, jobBuffer}
+use Rattle.plain.specs.Plain.{plainly}
 use Rattle.report.specs.Report.{reportText, storedText, totalsText}
 use Rattle.answers.specs.declared.Text.{Text}
 use Rattle.answers.specs.Answers.{hostText}
@@ -68,6 +69,10 @@ write-report-unchanged : RefusedUnchanged of.write-report.Post (λ κ r. IsRefus
     (λ κ s. now (s .1 .0))
 write-report-unchanged κ a r s p h = job-kept reportText (judged (a .0)) (now (a .1 .0)) p h
 
+write-plain-unchanged : RefusedUnchanged of.write-plain.Post (λ κ r. IsRefused r) (λ κ a. now (a .1 .0))
+    (λ κ s. now (s .1 .0))
+write-plain-unchanged κ a r s p h = job-kept reportText (plainly (judged (a .0))) (now (a .1 .0)) p h
+
 write-stored-unchanged : RefusedUnchanged of.write-stored.Post (λ κ r. IsRefused r) (λ κ a. now (a .1 .1 .0))
     (λ κ s. now (s .1 .1 .0))
 write-stored-unchanged κ a r s p h = job-kept (storedText (a .1 .0)) (judged (a .0)) (now (a .1 .1 .0)) p h
@@ -87,6 +92,13 @@ aral-report-unchanged : RefusedUnchanged of.aral-report.Post (λ κ r. Refuses (
 aral-report-unchanged κ a r s p h =
     let w = jobWriting reportText (reading (now (a .0))) (now (a .1 .0)) in
     job-kept reportText (reading (now (a .0))) (now (a .1 .0)) (refl, p .1) (host-refused w (p .0) h)
+
+aral-plain-unchanged : RefusedUnchanged of.aral-plain.Post (λ κ r. Refuses (r .verdict)) (λ κ a. now (a .1 .0))
+    (λ κ s. now (s .1 .0))
+aral-plain-unchanged κ a r s p h =
+    let x = plainly (reading (now (a .0))) in
+    let w = jobWriting reportText x (now (a .1 .0)) in
+    job-kept reportText x (now (a .1 .0)) (refl, p .1) (host-refused w (p .0) h)
 
 aral-show-unchanged : RefusedUnchanged of.aral-show.Post (λ κ r. Refuses (r .verdict)) (λ κ a. now (a .1 .0))
     (λ κ s. now (s .1 .0))

@@ -7,6 +7,7 @@ ghost use mathlib.Core.Path.{_≡_};
 ghost use Rattle.page.specs.Writing.{writing, bufferAfter};
 ghost use Rattle.job.specs.Walk.{judged};
 ghost use Rattle.sheet.specs.Sheet.{reading, jobWriting, jobBuffer};
+ghost use Rattle.plain.specs.Plain.{plainly};
 ghost use Rattle.report.specs.Report.{reportText, storedText, totalsText, sixWriting, sixBuffer};
 ghost use Rattle.report.specs.Short.{ShortCase, AllSix};
 
@@ -41,6 +42,15 @@ pub fn write_stored(j: Job, stored: Stored, buf: &mut [u8]) -> Writing
         × (now (buf .exit) ≡ jobBuffer (storedText stored) (judged j) (now (buf .entry))) ⌝ }
 {
     write_six(worst::worst_stored(j, stored), buf)
+}
+
+// The same by the plain engine, which takes a job with at most 8 faces that have two alternatives, and refuses
+// another with 10.
+pub fn write_plain(j: Job, buf: &mut [u8]) -> Writing
+    ensures { λ r. ⌜ (r ≡ jobWriting reportText (plainly (judged j)) (now (buf .entry)))
+        × (now (buf .exit) ≡ jobBuffer reportText (plainly (judged j)) (now (buf .entry))) ⌝ }
+{
+    write_six(plain::plain_cases(j), buf)
 }
 
 // What the program `totals` writes for the sheet s: its report, or one line that refuses it.

@@ -1,6 +1,6 @@
 -- `aral_rewrite`: the refusal of what was read, or the text of the job that it carries.
 use denote.Ref.{now}
-use mathlib.Core.Path.{_∙_}
+use mathlib.Core.Path.{refl, _∙_}
 use Rattle.sheet.specs.Sheet.{sheetText}
 use Rattle.aralimogga.proofs.Readings.{text-refused, text-accepted}
 use borrow.Author.Needs.{needs}
@@ -13,8 +13,8 @@ returns c =
     let r = t .before .before in
     let a = r .before .before .before .args in
     let u =
-    text-refused (now (a .sheet)) (r .read-sheet .result) (r .read-sheet .ensures) sheetText (now (a .out))
-    (t .if1 .taken) in
+    text-refused (now (a .sheet)) (r .read-sheet .result) (r .read-sheet .ensures) (λ x. x) (λ v. refl) sheetText
+    (now (a .out)) (t .if1 .taken) in
     (c .no-text .ensures ∙ u .0, u .1)
 
 returns-2 : tie.Need-returns-2
@@ -23,8 +23,8 @@ returns-2 c =
     let t = w .before .before in
     let r = t .before .before in
     let a = r .before .before .before .args in
-    text-accepted (now (a .sheet)) (r .read-sheet .result) (r .read-sheet .ensures) sheetText (now (a .out))
-    (t .if1 .left) (c .text-of .ensures) (w .write-sheet .ensures)
+    text-accepted (now (a .sheet)) (r .read-sheet .result) (r .read-sheet .ensures) (λ x. x) (λ v. refl) sheetText
+    (now (a .out)) (t .if1 .left) (c .text-of .ensures) (w .write-sheet .ensures)
 
 pub aral-rewrite-spec : {M : Type 1} → statement M
 aral-rewrite-spec =
