@@ -8,7 +8,7 @@
 enum { WINDS = 8, INTERNALS = 4, STEPS = 16, FACES = 24, TURNS = 5 };
 enum { LAST_YEAR = 3 };   /* the sheets of years 2 to here open with V and have one form */
 enum { EVERY = 99999999 }; /* a face's mark `-`, for every wind: no number in form is so large */
-enum { FORM = 1, COUNT, RANGE, RATIO, ROOF, PLACE, ROOM, HEIGHT };
+enum { FORM = 1, COUNT, RANGE, RATIO, ROOF, PLACE, ROOM, HEIGHT, CASES = 10 };
 enum { NO_ROOF, GABLE, STRAIGHT, PARAPET, CURVED, MANSARD, SINGLE };
 
 typedef struct { int64_t h, a, b, density, kind, x; } building;
@@ -560,17 +560,115 @@ static int alternative(const job *j, const worst *w, int k, int i)
     return beats(k, second, first) ? 2 : 1;
 }
 
+/* A line of the report up to its alternatives. Inline for the same reason as sum_case. */
+static inline void put_best(writer *out, int k, const best *b)
+{
+    put(out, "xyz"[k / 2]);
+    for (const char *side = k % 2 == 0 ? " max" : " min"; *side; side++) put(out, *side);
+    put_after_space(out, b->total);
+    put_after_space(out, b->wind + 1);
+    put_after_space(out, b->internal + 1);
+}
+
 static void put_report(writer *out, const job *j, const worst *w)
 {
     for (int k = 0; k < 6; k++) {
-        put(out, "xyz"[k / 2]);
-        for (const char *side = k % 2 == 0 ? " max" : " min"; *side; side++) put(out, *side);
-        put_after_space(out, w->best[k].total);
-        put_after_space(out, w->best[k].wind + 1);
-        put_after_space(out, w->best[k].internal + 1);
+        put_best(out, k, &w->best[k]);
         for (int i = 0; i < j->faces; i++) put_after_space(out, alternative(j, w, k, i));
         put(out, '\n');
     }
+}
+
+/* ---- The plain engine ---- */
+
+/* The most faces with two alternatives under at least one of the winds. */
+enum { CHOICES = 8 };
+
+/* A case: its wind and internal coefficient, from 0, and each face's alternative, from 1. */
+typedef struct { int wind, internal, alternative[FACES]; } one_case;
+typedef struct { int64_t total; one_case first; } reached;
+
+/* A face has one alternative, number 1, where it adds nothing. */
+static int alternatives(const job *j, const worst *w, int wind, int i)
+{
+    return w->offer[i][turn_of(j->direction[wind])].count == 2 ? 2 : 1;
+}
+
+static int choosing_faces(const job *j, const worst *w)
+{
+    int count = 0;
+    for (int i = 0; i < j->faces; i++) {
+        int most = 1;
+        for (int wind = 0; wind < j->winds; wind++)
+            if (alternatives(j, w, wind, i) > most) most = alternatives(j, w, wind, i);
+        count += most == 2;
+    }
+    return count;
+}
+
+/* The case after this one, 0 after the last: the last face's alternative changes first, then the internal coefficient,
+   then the wind. */
+static int next_case(const job *j, const worst *w, one_case *c)
+{
+    for (int i = j->faces - 1; i >= 0; i--) {
+        if (c->alternative[i] < alternatives(j, w, c->wind, i)) {
+            c->alternative[i]++;
+            return 1;
+        }
+        c->alternative[i] = 1;
+    }
+    if (++c->internal < j->internals) return 1;
+    c->internal = 0;
+    return ++c->wind < j->winds;
+}
+
+static void total_case(const job *j, const worst *w, const one_case *c, int64_t total[3])
+{
+    int turn = turn_of(j->direction[c->wind]), inside = 10 * j->internal[c->internal];
+    memset(total, 0, 3 * sizeof *total);
+    for (int i = 0; i < j->faces; i++) {
+        const offer *o = &w->offer[i][turn];
+        if (o->count == 0) continue;
+        int64_t net = o->value[c->alternative[i] - 1] - inside;
+        for (int axis = 0; axis < 3; axis++) total[axis] += net * w->weight[c->wind][i][axis];
+    }
+}
+
+/* Walks every case, and keeps the first that is furthest out. */
+static void walk_cases(const job *j, const worst *w, reached r[6])
+{
+    one_case c = {.wind = 0};
+    int first = 1;
+    for (int i = 0; i < j->faces; i++) c.alternative[i] = 1;
+    do {
+        int64_t total[3];
+        total_case(j, w, &c, total);
+        for (int k = 0; k < 6; k++)
+            if (first || beats(k, total[k / 2], r[k].total)) r[k] = (reached){total[k / 2], c};
+        first = 0;
+    } while (next_case(j, w, &c));
+}
+
+aral_text ENTRY(plain)(const uint8_t *sheet, size_t n, uint8_t *out, size_t room)
+{
+    job j;
+    worst found;
+    reached r[6];
+    aral_answer answer = read_job(sheet, n, &j);
+    if (answer.number) return (aral_text){answer.number, answer.line, 0};
+    gather_offers(&j, &found);
+    if (choosing_faces(&j, &found) > CHOICES) return (aral_text){CASES, 0, 0};
+    weigh(&j, &found);
+    walk_cases(&j, &found, r);
+    writer w;
+    w.length = 0;
+    for (int k = 0; k < 6; k++) {
+        const one_case *c = &r[k].first;
+        put_best(&w, k, &(best){r[k].total, c->wind, c->internal});
+        for (int i = 0; i < j.faces; i++) put_after_space(&w, c->alternative[i]);
+        put(&w, '\n');
+    }
+    return hand_over(&w, out, room);
 }
 
 /* ---- The sums of a worksheet ---- */

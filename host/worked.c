@@ -6,10 +6,10 @@
 #include <string.h>
 
 static const calculator both[] = {
-    {"library", aral_read, aral_report, aral_outside, aral_net, aral_panel, aral_open, aral_add, aral_replace,
-     aral_take_out, aral_show, aral_write},
-    {"plain", plain_read, plain_report, plain_outside, plain_net, plain_panel, plain_open, plain_add, plain_replace,
-     plain_take_out, plain_show, plain_write}};
+    {"library", aral_read, aral_report, aral_plain, aral_outside, aral_net, aral_panel, aral_open, aral_add,
+     aral_replace, aral_take_out, aral_show, aral_write},
+    {"plain", plain_read, plain_report, plain_plain, plain_outside, plain_net, plain_panel, plain_open, plain_add,
+     plain_replace, plain_take_out, plain_show, plain_write}};
 static int cases, failures;
 
 void expect(const calculator *c, const char *what, int holds)
@@ -495,6 +495,7 @@ int main(void)
         check_greatest(&both[i], "V 1\n3\n", "P 1\n30000 1000\n", "E 0 30000 -100000 100000 0\n");
         check_doubles(&both[i]);
         check_edits(&both[i]);
+        check_engine(&both[i]);
     }
     printf("%d worked cases on both calculators, %d failed\n", cases, failures);
     return failures != 0;

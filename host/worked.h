@@ -8,6 +8,7 @@ typedef struct {
     const char *name;
     aral_answer (*read)(const uint8_t *, size_t);
     aral_text (*report)(const uint8_t *, size_t, uint8_t *, size_t);
+    aral_text (*plain)(const uint8_t *, size_t, uint8_t *, size_t);
     aral_coefficient (*outside)(int64_t, int64_t, int64_t, int64_t, int64_t, int64_t, int64_t, int64_t, uint8_t);
     aral_coefficient (*net)(int64_t, int64_t, int64_t, int64_t, int64_t, int64_t, int64_t, int64_t, uint8_t, int64_t);
     aral_double (*panel)(int64_t);
@@ -22,7 +23,8 @@ typedef struct {
 /* Counts the case, and says which does not hold. */
 void expect(const calculator *c, const char *what, int holds);
 
-/* The worked edits (worked_edits.c). */
+/* The worked edits (worked_edits.c), and the worked cases of the plain engine (worked_engine.c). */
 void check_edits(const calculator *c);
+void check_engine(const calculator *c);
 
 #endif

@@ -16,6 +16,7 @@
    7       the lent buffer is too short (line 0)
    8       the face's height is outside the profile
    9       there is no such face to be edited (line 0)
+   10      more than 8 faces have two alternatives under at least one of the job's winds (line 0); by aral_plain alone
 
    A sheet of year 1 opens with section B. One of a later year opens with section V and the year, 2 or 3; it has a
    section P after I, the profile, and a height after each face's mark. A face's speed is then the wind's times the
@@ -43,8 +44,8 @@ extern "C" {
 #endif
 
 /* The version of these shapes: it rises where a record or a call changes. 2: a coefficient names its rows. 3: a
-   question names its year. 4: worksheets. 5: a worksheet keeps its sums. */
-#define ARAL_VERSION 5
+   question names its year. 4: worksheets. 5: a worksheet keeps its sums. 6: the plain engine. */
+#define ARAL_VERSION 6
 
 /* The refusals by name. */
 enum {
@@ -56,14 +57,17 @@ enum {
     ARAL_ZONE = 6,
     ARAL_ROOM = 7,
     ARAL_HEIGHT = 8,
-    ARAL_NO_FACE = 9
+    ARAL_NO_FACE = 9,
+    ARAL_CASES = 10
 };
 
-/* The greatest lengths: in bytes of an acceptable sheet, a report and the digits of a number; and of a job's faces. */
+/* The greatest lengths: in bytes of an acceptable sheet, a report and the digits of a number; and of a job's faces. And
+   the most faces with two alternatives under at least one of the winds that aral_plain takes. */
 #define ARAL_SHEET_MOST 1190
 #define ARAL_REPORT_MOST 474
 #define ARAL_DIGITS_MOST 20
 #define ARAL_FACES_MOST 24
+#define ARAL_CHOICES_MOST 8
 
 /* Accepted (0, 0), or the refusal. */
 typedef struct { uint32_t number, line; } aral_answer;
@@ -159,6 +163,15 @@ aral_text aral_rewrite(const uint8_t *sheet, size_t n, uint8_t *out, size_t room
    `z min`, each followed by the total in units, the wind, the internal coefficient and each face's alternative.
    Refusals and the buffer as for aral_rewrite. No report is longer than ARAL_REPORT_MOST bytes. */
 aral_text aral_report(const uint8_t *sheet, size_t n, uint8_t *out, size_t room);
+
+/* Reads a sheet and writes the same six lines by the plain engine, which walks every case of the job one after another:
+   by wind, then by internal coefficient, then by the alternatives of faces 1, 2 and on, the first face's changing last.
+   It takes a job of which at most ARAL_CHOICES_MOST faces have two alternatives under at least one of its winds: faces
+   of zone F on a flat roof, marked `-` or with the direction of one of the winds.
+   Refuses with 1 to 6 or 8 and the line as aral_read does; then with 10, line 0, where there are more such faces; then
+   with 7, line 0, where the text is longer than `room`. The buffer as for aral_rewrite. No report is longer than
+   ARAL_REPORT_MOST bytes, and wherever aral_plain accepts it has written what aral_report does. */
+aral_text aral_plain(const uint8_t *sheet, size_t n, uint8_t *out, size_t room);
 
 /* Reads a sheet and answers one line of its report as numbers: line 1 is `x max`, 2 `x min`, to 6 `z min`.
    Refuses with 1 to 6 or 8 and the sheet's line as aral_read does; then with 3, line 0, for another report line. */
