@@ -14,6 +14,7 @@
 enum { OUT = 2048, WALKED = 4096 };
 static struct {
     unsigned long sheets, high, single, square, accepted, refused[9], walked, questions, answered, numbers, calls;
+    unsigned long choosing[ARAL_FACES_MOST + 1], idle; /* accepted, by how many faces choose; and with idle ones */
 } tally;
 static dice die;
 
@@ -90,6 +91,46 @@ static void compare_total(const text *t, int64_t line)
     differ("a total", t);
 }
 
+/* How many faces of an accepted sheet have two alternatives under at least one of its winds; the others of zone F on a
+   flat roof, which act under none, are `idle`. */
+static int choosing_faces(const text *t, int *idle)
+{
+    static aral_edited opened;
+    const aral_job *j = &opened.worksheet.job;
+    int choosing = 0;
+    *idle = 0;
+    opened = aral_open(t->byte, t->length);
+    if (j->building.kind < 2 || j->building.kind > 5) return 0;
+    for (uint32_t i = 0; i < j->faces.count; i++) {
+        const aral_face *f = &j->faces.entry[i];
+        int acts = f->mark == ARAL_BOTH;
+        for (uint32_t k = 0; k < j->winds.count; k++) acts |= j->winds.entry[k].direction == f->mark;
+        choosing += f->zone == 'F' && acts;
+        *idle += f->zone == 'F' && !acts;
+    }
+    return choosing;
+}
+
+/* The plain engine: it refuses what the first one does, and then more than 8 faces that choose, whatever the room; on
+   every other job the six lines are the same. */
+static void compare_engines(const text *t, aral_answer read)
+{
+    static uint8_t mine[OUT], report[OUT];
+    int idle = 0, choosing = read.number ? 0 : choosing_faces(t, &idle);
+    uint32_t number = read.number ? read.number : choosing > 8 ? ARAL_CASES : 0;
+    aral_text p = aral_plain(t->byte, t->length, mine, OUT), q = aral_report(t->byte, t->length, report, OUT);
+    tally.calls++;
+    if (p.number != number || p.line != read.line) {
+        printf("the plain engine %u %u, %d faces that choose\n", p.number, p.line, choosing);
+        differ("what the plain engine refuses", t);
+    }
+    if (!number && (!same_text(p, q) || memcmp(mine, report, p.length))) differ("the lines of the two engines", t);
+    compare_rooms("a report by the plain engine", aral_plain, plain_plain, t);
+    if (read.number) return;
+    tally.choosing[choosing]++;
+    tally.idle += choosing <= 8 && choosing + idle > 8;
+}
+
 static aral_answer compare_sheet(const text *t)
 {
     aral_answer p = aral_read(t->byte, t->length), q = plain_read(t->byte, t->length);
@@ -104,6 +145,7 @@ static aral_answer compare_sheet(const text *t)
     else if (p.number <= 8) tally.refused[p.number]++;
     compare_rooms("a sheet written again", aral_rewrite, plain_rewrite, t);
     compare_rooms("a report", aral_report, plain_report, t);
+    compare_engines(t, p);
     if (p.number) compare_total(t, pick(&die, 0, 7));
     else
         for (int64_t line = 0; line <= 7; line++) compare_total(t, line);
@@ -306,6 +348,15 @@ static void compare_numbers(unsigned long count)
     }
 }
 
+static void print_choosing(void)
+{
+    unsigned long more = 0;
+    for (int faces = 10; faces <= ARAL_FACES_MOST; faces++) more += tally.choosing[faces];
+    printf("accepted with 7 faces that choose %lu, with 8 %lu, with 9 %lu, with more %lu; ", tally.choosing[7],
+           tally.choosing[8], tally.choosing[9], more);
+    printf("with at most 8, but more for some wind that does not blow, %lu\n", tally.idle);
+}
+
 int main(int argc, char **argv)
 {
     if (argc != 5) {
@@ -324,6 +375,7 @@ int main(int argc, char **argv)
     for (int number = 1; number <= 8; number++)
         if (number != ARAL_ROOM) printf(" %d: %lu", number, tally.refused[number]);
     printf("\n%lu jobs walked through every case\n", tally.walked);
+    print_choosing();
     printf("%lu questions, %lu of them answered; %lu numbers; %lu calls compared: all the same\n", tally.questions,
            tally.answered, tally.numbers, tally.calls);
     return 0;

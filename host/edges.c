@@ -32,6 +32,17 @@ static void write_rooms(writes *ours, writes *theirs, const uint8_t *sheet, size
     }
 }
 
+/* Of the plain engine, which may take long, the rooms from none on and those around the text's length. */
+static void write_rooms_by_cases(const uint8_t *sheet, size_t n)
+{
+    static uint8_t out[WATCHED];
+    size_t length = plain_plain(sheet, n, out, sizeof out).length;
+    for (size_t room = 0; room <= length + 2; room = room == 2 && length > 6 ? length - 2 : room + 1) {
+        write_at(aral_plain, plain_plain, sheet, n, room, 1);
+        write_at(aral_plain, plain_plain, sheet, n, room, 0);
+    }
+}
+
 static aral_text digits_of(const uint8_t *sheet, size_t n, uint8_t *out, size_t room)
 {
     int64_t number;
@@ -59,6 +70,8 @@ static void read_at(const uint8_t *bytes, size_t n, int after)
     write_at(aral_rewrite, plain_rewrite, sheet, n, ARAL_SHEET_MOST, after);
     write_at(aral_report, plain_report, sheet, n, ARAL_SHEET_MOST, after);
     write_at(aral_report, plain_report, sheet, n, 0, after);
+    write_at(aral_plain, plain_plain, sheet, n, ARAL_SHEET_MOST, after);
+    write_at(aral_plain, plain_plain, sheet, n, 0, after);
 }
 
 /* Every part of the sheet from its start, and every room around each text's length. */
@@ -72,6 +85,7 @@ static void every_length(const text *t)
     const uint8_t *sheet = lend(t->byte, t->length, 1);
     write_rooms(aral_rewrite, plain_rewrite, sheet, t->length, t->length);
     write_rooms(aral_report, plain_report, sheet, t->length, plain_report(sheet, t->length, out, sizeof out).length);
+    write_rooms_by_cases(sheet, t->length);
 }
 
 static void every_digit(void)
@@ -121,18 +135,22 @@ static void longest(int which, text *t)
     if (aral_read(t->byte, t->length).number) fail("the longest sheet");
 }
 
-static void no_pointers(const text *t)
+/* On a flat roof all 24 faces of the longest sheet choose. */
+static void no_pointers(const text *t, int flat)
 {
     aral_answer a = aral_read(NULL, 0);
     aral_text w = aral_rewrite(NULL, 0, NULL, 0), r = aral_report(NULL, 0, NULL, 0);
     aral_text d = aral_digits(INT64_MIN, NULL, 0), v = aral_report(t->byte, t->length, NULL, 0);
     aral_text u = aral_rewrite(t->byte, t->length, NULL, 0);
+    aral_text p = aral_plain(NULL, 0, NULL, 0), q = aral_plain(t->byte, t->length, NULL, 0);
     aral_extreme e = aral_total(NULL, 0, 1);
-    calls += 7;
+    calls += 9;
     if (a.number != 1 || a.line != 1 || e.number != 1 || e.line != 1) fail("nothing read through no pointer");
     if (w.number != 1 || w.line != 1 || r.number != 1 || r.line != 1) fail("nothing written again through no pointer");
     if (d.number != 7 || v.number != 7 || u.number != 7) fail("no room through no pointer");
     if (d.line || v.line || u.line) fail("a line where there is no room");
+    if (p.number != 1 || p.line != 1) fail("nothing walked through no pointer");
+    if (q.number != (flat ? ARAL_CASES : ARAL_ROOM) || q.line) fail("the plain engine through no pointer");
 }
 
 /* Texts far longer than any sheet: one byte over and over, and a good sheet before it. */
@@ -147,8 +165,10 @@ static void very_long(const text *t)
         memcpy(big.start, t->byte, t->length);
         aral_answer p = aral_read(big.start, n), q = plain_read(big.start, n);
         aral_text r = aral_report(big.start, n, lend_room(900, 0), 900);
+        aral_text w = aral_plain(big.start, n, lend_room(900, 0), 900);
         if (p.number != 1 || p.line != q.line || r.number != 1 || r.line != q.line) fail("a very long tail");
-        calls += 3;
+        if (w.number != 1 || w.line != q.line) fail("a very long tail by the plain engine");
+        calls += 4;
     }
     give_back(big);
 }
@@ -168,7 +188,7 @@ int main(int argc, char **argv)
         longest(which, &t);
         very_long(&t);
         every_length(&t);
-        no_pointers(&t);
+        no_pointers(&t, longest_of[which].kind == 4);
     }
     every_digit();
     for (unsigned long i = 0, cases = strtoul(argv[2], NULL, 10); i < cases; i++) {
