@@ -1,5 +1,7 @@
-/* aral: the calculator on the command line, for people. It links libaralimogga.a and reckons nothing itself. */
+/* aral: the calculator on the command line, for people. It links libaralimogga.a and reckons nothing itself: where it
+   shows each case it adds up the faces' forces. */
 #include "aralimogga.h"
+#include "cases.h"
 #include "edit.h"
 #include "rows.h"
 #include "words.h"
@@ -14,6 +16,8 @@ static const char help[] =
     "\n"
     "  aral totals FILE   the six worst totals: axis, max or min, total, wind, internal, each face's alternative\n"
     "  aral check FILE    whether the sheet is accepted, and if not, which line is wrong and what it may say\n"
+    "  aral plain FILE    the same six lines by the plain engine, which walks every case, and how many there were\n"
+    "  aral plain --cases FILE   each of these cases, with its totals on x, y and z\n"
     "  aral panel FILE    the six totals in newtons, and the doubles that a panel shows for them\n"
     "  aral edit FILE     faces added, replaced and taken out line by line, with the six totals after each;\n"
     "                     its `help` says how, and its lines may come through a pipe\n"
@@ -85,6 +89,8 @@ static int check(void)
 }
 
 static int edit_sheet(void) { return edit(sheet, length); }
+
+static int plain(void) { return show_plain(sheet, length); }
 
 /* A total in newtons to three decimals, the rest cut off. */
 static void print_newtons(int64_t total)
@@ -280,7 +286,7 @@ static int ask(int count, char **word)
 int main(int argc, char **argv)
 {
     static const struct { const char *name; int (*run)(void); } command[] = {
-        {"totals", totals}, {"check", check}, {"panel", panel}, {"edit", edit_sheet}};
+        {"totals", totals}, {"check", check}, {"plain", plain}, {"panel", panel}, {"edit", edit_sheet}};
     if (argc == 2 && (!strcmp(argv[1], "help") || !strcmp(argv[1], "--help"))) {
         fputs(help, stdout);
         return ACCEPTED;
@@ -288,7 +294,9 @@ int main(int argc, char **argv)
     if (argc >= 2 && !strcmp(argv[1], "ask")) return ask(argc - 2, argv + 2);
     if (argc == 3 && !strcmp(argv[1], "edit") && !strcmp(argv[2], "-"))
         return misused("standard input has the lines of the dialogue, and the sheet can't be", "-");
-    for (int i = 0; argc == 3 && i < 4; i++)
+    int each = argc > 2 && !strcmp(argv[1], "plain") && !strcmp(argv[2], "--cases");
+    if (each && argc == 4) return load(argv[3]) ? show_cases(sheet, length) : MISUSED;
+    for (size_t i = 0; argc == 3 && !each && i < sizeof command / sizeof *command; i++)
         if (!strcmp(argv[1], command[i].name)) return load(argv[2]) ? command[i].run() : MISUSED;
     fputs(help, stderr);
     return MISUSED;
