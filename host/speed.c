@@ -1,9 +1,10 @@
 /* Makes reports over and over, for the benchmark:
-     speed library|plain KINDS WINDS INTERNALS STEPS FACES REPORTS [timed]
-   KINDS are six digits, the roof kind of each of six sheets; STEPS the lines of the profile: 0 makes sheets of year 1.
-   The sheets are taken in turn, and read anew for each report; the buffer is not cleared between reports. Prints a sum
-   over what was written, which is the same for both calculators, or with `timed` reports per second of processor
-   time. */
+     speed library|plain|cases KINDS WINDS INTERNALS STEPS FACES[/CHOOSING] REPORTS [timed]
+   `cases` is the library's plain engine. KINDS are six digits, the roof kind of each of six sheets; STEPS the lines of
+   the profile: 0 makes sheets of year 1; CHOOSING, on flat roofs, how many of the faces have two alternatives, and then
+   under every wind. The sheets are taken in turn, and read anew for each report; the buffer is not cleared between
+   reports. Prints a sum over what was written, which is the same for all three, or with `timed` reports per second of
+   processor time. */
 #define _POSIX_C_SOURCE 199309L
 #include "aralimogga.h"
 #include "plain.h"
@@ -22,6 +23,23 @@ static double seconds(void)
     return (double)t.tv_sec + (double)t.tv_nsec / 1e9;
 }
 
+static reports *named(const char *which)
+{
+    return !strcmp(which, "library") ? aral_report : !strcmp(which, "plain") ? plain_report
+         : !strcmp(which, "cases") ? aral_plain : NULL;
+}
+
+/* Spreads the faces of zone F over the others, as many as are asked for. */
+static void let_choose(sample *s, int choosing)
+{
+    for (int i = 0; i < s->faces; i++) {
+        int chooses = (i + 1) * choosing / s->faces > i * choosing / s->faces;
+        if (chooses) s->mark[i] = DASH;
+        if (chooses) s->zone[i] = 'F';
+        else if (s->zone[i] == 'F') s->zone[i] = 'E';
+    }
+}
+
 int main(int argc, char **argv)
 {
     static text sheet[6];
@@ -29,14 +47,16 @@ int main(int argc, char **argv)
     uint8_t out[1024];
     uint64_t sum = 0;
     dice die = {1};
-    if (argc < 8 || (strcmp(argv[1], "library") && strcmp(argv[1], "plain")) || strlen(argv[2]) != 6) {
-        fprintf(stderr, "speed library|plain KINDS WINDS INTERNALS STEPS FACES REPORTS [timed]\n");
+    reports *report = argc < 8 ? NULL : named(argv[1]);
+    if (!report || strlen(argv[2]) != 6) {
+        fprintf(stderr, "speed library|plain|cases KINDS WINDS INTERNALS STEPS FACES[/CHOOSING] REPORTS [timed]\n");
         return 2;
     }
-    reports *report = strcmp(argv[1], "plain") ? aral_report : plain_report;
+    const char *choosing = strchr(argv[6], '/');
     for (int i = 0; i < 6; i++) {
         make_sized(&die, &s, atoi(argv[5]) ? 2 : 1, argv[2][i] - '0', atoi(argv[3]), atoi(argv[4]), atoi(argv[5]),
                    atoi(argv[6]));
+        if (choosing) let_choose(&s, atoi(choosing + 1));
         write_sample(&s, &sheet[i]);
     }
     unsigned long count = strtoul(argv[7], NULL, 10);
