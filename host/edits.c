@@ -14,7 +14,7 @@
 
 enum { ADD, REPLACE, TAKE_OUT, EDITS };
 static const char *const names[EDITS] = {"added", "replaced", "taken out"};
-static struct { unsigned long opened, walked, steps, done[EDITS][10], anew, texts, shown[2]; } tally;
+static struct { unsigned long opened, walked, steps, done[EDITS][10], anew, texts, shown[2], plain[2]; } tally;
 static dice die;
 
 static void show_worksheet(const aral_worksheet *w)
@@ -103,6 +103,19 @@ static aral_text compare_rooms(const char *what, writes *ours, writes *theirs, c
     return whole;
 }
 
+/* The plain engine has the same lines of the sheet written afresh, where it takes the job. */
+static void compare_engines(const aral_worksheet *w, const uint8_t *sheet, size_t n, const uint8_t *shown,
+                            size_t length)
+{
+    static uint8_t mine[WATCHED], other[WATCHED];
+    aral_text p = aral_plain(sheet, n, mine, sizeof mine), q = plain_plain(sheet, n, other, sizeof other);
+    if (p.number != q.number || p.line != q.line || p.length != q.length) differ("the plain engine's answers", w);
+    if (p.number == 0 && (p.length != length || memcmp(mine, shown, length)))
+        differ("what is shown and the lines of the plain engine", w);
+    if (p.number && (p.number != ARAL_CASES || p.line)) differ("what the plain engine refuses", w);
+    tally.plain[p.number == 0]++;
+}
+
 /* What is written is a sheet that opens as the same job. Where the sums are those of its faces, as they must be where
    they were kept from an accepted job on, its report is what is shown. */
 static void compare_texts(const aral_worksheet *w, int kept)
@@ -123,6 +136,7 @@ static void compare_texts(const aral_worksheet *w, int kept)
     aral_text r = aral_report(written, t.length, report, sizeof report);
     if (r.number || r.length != s.length || memcmp(report, shown, r.length))
         differ("what is shown and the report of the sheet written afresh", w);
+    compare_engines(w, written, t.length, shown, s.length);
 }
 
 /* ---- Steps ---- */
@@ -270,6 +284,7 @@ int main(int argc, char **argv)
     }
     printf("shown by the sums of the faces %lu, by others %lu; %lu edits of sums too large, %lu cells walked\n",
            tally.shown[1], tally.shown[0], tally.anew, tally.walked);
+    printf("shown by the plain engine too %lu, with more faces than it takes %lu\n", tally.plain[1], tally.plain[0]);
     printf("%lu sheets opened, %lu edits, %lu texts: all the same\n", tally.opened, tally.steps, tally.texts);
     return 0;
 }
