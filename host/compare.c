@@ -354,7 +354,7 @@ static void print_choosing(void)
     for (int faces = 10; faces <= ARAL_FACES_MOST; faces++) more += tally.choosing[faces];
     printf("accepted with 7 faces that choose %lu, with 8 %lu, with 9 %lu, with more %lu; ", tally.choosing[7],
            tally.choosing[8], tally.choosing[9], more);
-    printf("with at most 8, but more for some wind that does not blow, %lu\n", tally.idle);
+    printf("with at most 8, and others for a wind that does not blow that make it more, %lu\n", tally.idle);
 }
 
 int main(int argc, char **argv)

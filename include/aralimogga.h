@@ -170,7 +170,7 @@ aral_text aral_report(const uint8_t *sheet, size_t n, uint8_t *out, size_t room)
    of zone F on a flat roof, marked `-` or with the direction of one of the winds.
    Refuses with 1 to 6 or 8 and the line as aral_read does; then with 10, line 0, where there are more such faces; then
    with 7, line 0, where the text is longer than `room`. The buffer as for aral_rewrite. No report is longer than
-   ARAL_REPORT_MOST bytes, and wherever aral_plain accepts it has written what aral_report does. */
+   ARAL_REPORT_MOST bytes, and wherever aral_plain accepts, the text is that of aral_report. */
 aral_text aral_plain(const uint8_t *sheet, size_t n, uint8_t *out, size_t room);
 
 /* Reads a sheet and answers one line of its report as numbers: line 1 is `x max`, 2 `x min`, to 6 `z min`.
