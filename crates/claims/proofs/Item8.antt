@@ -94,7 +94,8 @@ read-plainly (Refused v) buf h = refl
 read-plainly (Accepted c) buf h = go (leb (facesWithTwo (given c)) 8) h
   where
     go : (t : Bool)
-        → (hostText (jobWriting reportText (cond t (Accepted c) (Refused (refusal 10 0))) buf) .verdict .number ≡ 10 → ⊥)
+        → let x = cond t (Accepted c) (Refused (refusal 10 0)) in
+        (hostText (jobWriting reportText x buf) .verdict .number ≡ 10 → ⊥)
         → cond t (Accepted c) (Refused (refusal 10 0)) ≡ Accepted c
     go true k = refl
     go false k = absurd (k refl)

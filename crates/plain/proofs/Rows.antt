@@ -1,7 +1,7 @@
 -- The forces of a job's faces under one of its winds and one of its internal coefficients, as the code is handed them.
 use mathlib.Core.Path.{_≡_, sym, ap, _∙_, subst}
 use mathlib.Core.Bool.{Bool, true, _&&_}
-use mathlib.Core.List.{List, map, List·Memᴰ}
+use mathlib.Core.List.{map, List·Memᴰ}
 use Prim.Native.Nat.{ℕ, _-_, _≤_, _<_}
 use native.Mathlib.Omega.{arith}
 use borrow.Author.Tests.{le-leb}

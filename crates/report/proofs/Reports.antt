@@ -51,7 +51,8 @@ plain-sound j = go (judged j) (judged-sound j)
     go : (x : Reading) → Sound x → Sound (plainly x)
     go x (refuses v some) = refuses v some
     go x (accepts c o) =
-        by-test (leb (facesWithTwo (given c)) 8) (λ t. rw t (accepts c o)) (λ t. rw t (refuses (refusal 10 0) (omega arith)))
+        by-test (leb (facesWithTwo (given c)) 8) (λ t. rw t (accepts c o))
+        (λ t. rw t (refuses (refusal 10 0) (omega arith)))
 
 -- where what is reckoned goes by what is read, a refusal is its own and the six lines are the text of what it carries
 module _ (reckon : Reading → Reckoning) (text : Carried → List ℕ)

@@ -18,7 +18,7 @@ use Rattle.whole.proofs.Lists.{every-by, every-map, every-at, every-member, fir
 use Rattle.book.specs.Answer.{valuesOf, Alternatives, one, two}
 use Rattle.building.specs.declared.Building.{Building}
 use Rattle.building.specs.Test.{is, oneOf}
-use Rattle.building.specs.Places.{wallDirections, knows, placeOn}
+use Rattle.building.specs.Places.{F, wallDirections, knows, placeOn}
 use Rattle.book.specs.Question.{outsideOf}
 use Rattle.building.proofs.Accepted.{Within, within, good-fields}
 use Rattle.building.proofs.Machine.{is-same}
@@ -40,6 +40,7 @@ use Rattle.job.specs.InOrder.{InOrder}
 use Rattle.worst.specs.Worst.{given}
 use Rattle.worst.specs.Forces.{acts, factorOf}
 use Rattle.worst.specs.Factors.{StepSmall, Profiled, Fraction}
+use Rattle.worst.specs.Table.{firstAndLast}
 use Rattle.worst.specs.Small.{FaceSmall, Met, AllMet, Ready}
 use Rattle.worst.specs.Engine.{facesOf}
 use Rattle.worst.proofs.Climb.{fraction-none, fraction-at}
@@ -53,6 +54,15 @@ use Rattle.worst.proofs.Ranges.{InRange}
 one-or-two : {k kind place : ℕ} {values : List ℤ} → Alternatives k kind place values → OneOrTwo values
 one-or-two (one {v} h) = alone v
 one-or-two (two {v} {w} h k e f) = pair v w
+
+-- and one, unless it is zone F
+abbrev OneValue : List ℤ → Type 0
+OneValue values = firstAndLast values .first ≡ firstAndLast values .last
+
+one-value : {k kind place : ℕ} {values : List ℤ} → Alternatives k kind place values → (place ≡ F → ⊥)
+    → OneValue values
+one-value (one h) n = refl
+one-value (two h k e f) n = absurd (n e)
 
 -- a mark that the walls' table has is not that for every direction, and so it is the wind's
 one-of-mark : (d mark : ℤ) → oneOf wallDirections mark ≡ true → (is both mark ≡ true) ⊎ (is d mark ≡ true)
@@ -125,6 +135,11 @@ module _ (c : Carried) (o : InOrder c) where
   face-small : (f : Face) → FaceInOrder (c .building) f → FaceSmall f
   face-small f h = record { x = h .x; y = h .y; z = h .z }
 
+  -- its coefficients are those of the last year's reading
+  pub outside-last : (direction : ℤ) (zone : ℕ)
+      → outsideOf (c .year) (c .building) direction zone ≡ outsideOf (pos lastYear) (c .building) direction zone
+  outside-last direction zone = readings-agree (c .year) (pos lastYear) (c .building) direction zone in-year by-last
+
   -- a face under a wind
   met : (w : Wind) → WindInOrder (c .building) w → (f : Face) → FaceInOrder (c .building) f → Met (c .building) w f
   met w hw f hf =
@@ -144,6 +159,8 @@ module _ (c : Carried) (o : InOrder c) where
               to = hf .zone .high;
             };
         outside = record { first = small 0; last = small (length outs - 1) };
+        alone = λ a n. subst OneValue (ap valuesOf (outside-last (w .direction) (f .zone)))
+            (one-value (answered (w .direction) (hw .direction) f hf a) n);
       }
 
   -- the factor of each face
@@ -170,11 +187,6 @@ module _ (c : Carried) (o : InOrder c) where
         face = λ f m. face-small f (face-in f m);
         outside = λ d f m. small-at (c .year) in-year d f (face-in f m);
       }
-
-  -- its coefficients are those of the last year's reading
-  pub outside-last : (direction : ℤ) (zone : ℕ)
-      → outsideOf (c .year) (c .building) direction zone ≡ outsideOf (pos lastYear) (c .building) direction zone
-  outside-last direction zone = readings-agree (c .year) (pos lastYear) (c .building) direction zone in-year by-last
 
 -- ---- a record
 

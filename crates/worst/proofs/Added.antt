@@ -11,7 +11,9 @@ use Rattle.whole.specs.Lists.{firstOf}
 use Rattle.whole.proofs.Lists.{firstOf-length}
 use Rattle.whole.proofs.FirstOf.{firstOf-next}
 use Rattle.whole.proofs.Size.{natAbs-add}
+use Rattle.whole.proofs.Tests.{by-test}
 use Rattle.building.specs.declared.Building.{Building}
+use Rattle.building.specs.Places.{F}
 use Rattle.entry.specs.declared.Wind.{Wind}
 use Rattle.entry.specs.declared.Step.{Step}
 use Rattle.entry.specs.declared.Face.{Face}
@@ -35,7 +37,7 @@ use Rattle.worst.specs.Factors.{Fraction}
 use Rattle.worst.specs.Small.{OutsideSmall, Weight, SumsSmall, AxesSmall, Met}
 use Rattle.worst.proofs.Padded.{padded-set}
 use Rattle.worst.proofs.Ranges.{weight-small, reach-small}
-use Rattle.worst.proofs.OneFace.{no-reach}
+use Rattle.worst.proofs.OneFace.{no-reach, no-pick, one-pick}
 
 -- ---- a face that takes part adds what it has at its pressure number, and another nothing
 
@@ -60,6 +62,14 @@ module _ (b : Building) (w : Wind) (k : Factor) (f : Face) (p : Axes) where
             least = nothing Least (q .least) j;
             weight = sym (+ℤ-idr (q .weight)) j;
           }
+
+-- ---- a zone other than F has one coefficient, and so its face the first alternative
+
+pub alone-pick : (s : Side) (axis : Axis) (b : Building) (w : Wind) (k : Factor) (f : Face) → Met b w f
+    → (f .zone ≡ F → ⊥) → pickOf s axis b w k f ≡ 1
+alone-pick s axis b w k f m n =
+    let o = outsideAt b (w .direction) (f .zone) in
+    by-test (acts f (w .direction)) (λ t. rw t (one-pick s o _ (m .alone t n))) (λ t. rw t (no-pick s o))
 
 -- ---- one face more
 

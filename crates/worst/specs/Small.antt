@@ -1,9 +1,12 @@
 -- What the numbers of an acceptable job can come to. Only contracts of private functions cite it.
+use mathlib.Core.Path.{_≡_}
+use mathlib.Core.Bool.{true}
 use Prim.Native.Nat.{ℕ, _*_, _≤_, _<_}
 use lib.IntN.{ℤ, pos, natAbs}
 use lib.Signed.{_≤ℤ_}
 use lib.ListN.{getD}
 use Rattle.building.specs.declared.Building.{Building}
+use Rattle.building.specs.Places.{F}
 use Rattle.job.specs.declared.Job.{Job}
 use Rattle.job.specs.declared.Internals.{Internals}
 use Rattle.job.specs.declared.Faces.{Faces}
@@ -14,7 +17,7 @@ use Rattle.worst.specs.declared.outside.Outside.{Outside}
 use Rattle.worst.specs.declared.sums.Sums.{Sums}
 use Rattle.worst.specs.declared.sums.Axes.{Axes}
 use Rattle.worst.specs.declared.tops.Top.{Top}
-use Rattle.worst.specs.Forces.{factorOf}
+use Rattle.worst.specs.Forces.{acts, factorOf}
 use Rattle.worst.specs.Factors.{Fraction, Profiled, profileOf}
 use Rattle.worst.specs.Table.{outsideAt, Placed}
 
@@ -61,6 +64,9 @@ pub record Met (b : Building) (w : Wind) (f : Face) : Type 0 where
   pub face : FaceSmall f
   pub placed : Placed (w .direction) (f .zone)
   pub outside : OutsideSmall (outsideAt b (w .direction) (f .zone))
+  -- zone F alone has two alternatives
+  pub alone : acts f (w .direction) ≡ true → (f .zone ≡ F → ⊥)
+      → outsideAt b (w .direction) (f .zone) .first ≡ outsideAt b (w .direction) (f .zone) .last
 
 -- the faces of a job, under one wind and under all
 pub record AllMet (b : Building) (fs : Faces) (w : Wind) : Type 0 where

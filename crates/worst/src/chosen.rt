@@ -52,8 +52,8 @@ fn picked(side: Side, o: Outside, weight: i64) -> u8
     1
 }
 
-// A face's alternative in the case of an axis and a side, under the wind of that case.
-fn alternative(
+// That of a face in the case of an axis and a side, under the wind of that case.
+fn one_of_two(
     axis: Axis,
     side: Side,
     b: Building,
@@ -77,6 +77,28 @@ fn alternative(
         return picked(side, o, p * area_on(axis, f));
     }
     1
+}
+
+// A face's alternative in that case: zone F alone has two.
+fn alternative(
+    axis: Axis,
+    side: Side,
+    b: Building,
+    w: Wind,
+    factor: Factor,
+    f: Face,
+    asked: &mut [bool; 40],
+    first: &mut [i64; 40],
+    last: &mut [i64; 40],
+) -> u8
+    requires { ⌜ Met b w f × Fraction factor × Filled b (now asked) (now first) (now last) ⌝ }
+    ensures { λ r. ⌜ (r ≡ pickOf side axis b w factor f)
+        × Filled b (now (asked .exit)) (now (first .exit)) (now (last .exit)) ⌝ }
+{
+    if f.zone != b'F' {
+        return 1;
+    }
+    one_of_two(axis, side, b, w, factor, f, asked, first, last)
 }
 
 // The wind of a number, from 1.
