@@ -64,11 +64,11 @@ pub extern "C" fn aral_plain(sheet: &[u8], out: &mut [u8]) -> answers::Text
     ensures { λ r. ⌜ (r ≡ hostText (jobWriting reportText (plainly (reading (now (sheet .entry)))) (now (out .entry))))
         × (now (out .exit) ≡ jobBuffer reportText (plainly (reading (now (sheet .entry)))) (now (out .entry))) ⌝ }
 {
-    let r = sheet::read::read_sheet(sheet);
-    if r.verdict.number != 0 {
-        return answers::no_text(r.verdict);
+    let walked = sheet::read::read_sheet(sheet);
+    if walked.verdict.number != 0 {
+        return answers::no_text(walked.verdict);
     }
-    answers::text_of(report::write_plain(r.job, out))
+    answers::text_of(report::write_plain(walked.job, out))
 }
 
 // One line of its report: 1 is x max, 2 x min, up to 6, z min.
