@@ -13,7 +13,7 @@ use Rattle.edits.specs.declared.EditedJob.{EditedJob}
 use Rattle.edits.specs.Edits.{Edit, editVerdict, editFaces, jobWith, editedJob}
 use Rattle.edits.proofs.Accepted.{edited-accepted}
 use Rattle.worksheet.specs.declared.Worksheet.{Worksheet}
-use Rattle.worksheet.specs.Kept.{leaving, coming, partOf, moved, allWithin, sumsAfter}
+use Rattle.worksheet.specs.Kept.{leaving, coming, partOfFaces, moved, allWithin, sumsAfter}
 use Rattle.worksheet.specs.Worksheet.{edited}
 use Rattle.worksheet.specs.Small.{keptOf}
 use Rattle.worksheet.proofs.OneFace.{was-in-order}
@@ -43,8 +43,8 @@ module _ (e : Edit) (w : Worksheet) (to : EditedJob) (p : to ≡ editedJob e (w 
     unfolding editedJob
     job-after = ap (λ a. a .job) p ∙ rw (eq-eqb (editVerdict e j .number) 0 passes)
 
-    pub taken-is : (out new : Stored) → out ≡ partOf c (leaving e (c .faces))
-        → new ≡ partOf c (coming (hasHeights (j .year)) e)
+    pub taken-is : (out new : Stored) → out ≡ partOfFaces c (leaving e (c .faces))
+        → new ≡ partOfFaces c (coming (hasHeights (j .year)) e)
         → record {
           verdict = to .verdict;
           worksheet = record { job = to .job; sums = keptOf (w .sums) (to .job) out new };

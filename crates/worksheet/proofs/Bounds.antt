@@ -26,7 +26,7 @@ use Rattle.worst.specs.Stored.{storedCells, noCell, cellsOf, noneStored, stored
 use Rattle.worst.specs.Worst.{given}
 use Rattle.worst.proofs.StoredSums.{cells-at, up-to-none}
 use Rattle.worst.proofs.Parts.{storedOn, stored-small}
-use Rattle.worksheet.specs.Kept.{mostSum, spanWithin, cellWithin, allWithin, partOf}
+use Rattle.worksheet.specs.Kept.{mostSum, spanWithin, cellWithin, allWithin, partOfFaces}
 use Rattle.worksheet.specs.Small.{mostPart, SpanSmall, CellSmall, AllSmall}
 
 -- ---- the test
@@ -109,7 +109,7 @@ all-small n c o few k =
     on axis s = le-trans (stored-small c o axis s k) few
 
 -- of one face
-pub part-small : (c : Carried) (f : Face) → InOrder (withFaces (f ∷ []) c) → AllSmall mostPart (partOf c (f ∷ []))
+pub part-small : (c : Carried) (f : Face) → InOrder (withFaces (f ∷ []) c) → AllSmall mostPart (partOfFaces c (f ∷ []))
 part-small c f o = all-small mostPart (withFaces (f ∷ []) c) o (omega arith)
 
 -- of all

@@ -15,7 +15,7 @@ use Rattle.worst.specs.Stored.{storedCells, noneStored, storedOf, sumsAt, spanO
 use Rattle.worst.specs.Worst.{given}
 use Rattle.worst.proofs.StoredSums.{cells-at, cells-same}
 use Rattle.worst.proofs.Parts.{storedOn, on-none, parts-exchanged, no-part}
-use Rattle.worksheet.specs.Kept.{movedCell, cellAt, moved, partOf}
+use Rattle.worksheet.specs.Kept.{movedCell, cellAt, moved, partOfFaces}
 
 -- a cell by its six numbers
 cell-by : (t u : StoredCell) → ((axis : Axis) (s : Side) → spanSide s (spanOn axis t) ≡ spanSide s (spanOn axis u))
@@ -29,12 +29,12 @@ cell-by t u h =
 
 pub moved-stored : (c : Carried) (pre out new post : List Face) → InOrder (withFaces (pre ++ (out ++ post)) c)
     → InOrder (withFaces (pre ++ (new ++ post)) c)
-    → moved (storedOf (withFaces (pre ++ (out ++ post)) c)) (partOf c out) (partOf c new)
+    → moved (storedOf (withFaces (pre ++ (out ++ post)) c)) (partOfFaces c out) (partOfFaces c new)
     ≡ storedOf (withFaces (pre ++ (new ++ post)) c)
 unfolding moved storedOf
 moved-stored c pre out new post before after =
     let cell : (fs : List Face) (k : ℕ) → StoredCell = λ fs k. sumsAt (given (withFaces fs c)) k in
-    let at : (fs : List Face) (k : ℕ) → k < storedCells → cellAt (partOf c fs) k ≡ cell fs k =
+    let at : (fs : List Face) (k : ℕ) → k < storedCells → cellAt (partOfFaces c fs) k ≡ cell fs k =
     λ fs k t. cells-at (cell fs) k t in
     cells-same _ _
     (λ k t.
@@ -53,6 +53,6 @@ moved-stored c pre out new post before after =
     on Z Least k = sym (parts-exchanged c pre out new post before after Z Least k)
 
 -- the part of no faces is nothing
-pub none-part : (c : Carried) → partOf c [] ≡ noneStored
+pub none-part : (c : Carried) → partOfFaces c [] ≡ noneStored
 unfolding storedOf
 none-part c = cells-same _ _ (λ k t. cell-by _ _ (λ axis s. no-part c axis s k ∙ sym (on-none axis s)))

@@ -26,7 +26,7 @@ use Rattle.edits.proofs.Checks.{add-passed, replace-passed, take-out-passed, th
 use Rattle.edits.proofs.Accepted.{Fits, all-fit, new-fits, fit-in-order, holding-carried, editCarried}
 use Rattle.edits.proofs.Accepted.{many}
 use Rattle.building.proofs.Accepted.{Within}
-use Rattle.worksheet.specs.Kept.{face, leaving, coming, partOf}
+use Rattle.worksheet.specs.Kept.{face, leaving, coming, partOfFaces}
 use Rattle.worksheet.specs.Small.{mostPart, AllSmall}
 use Rattle.worksheet.proofs.Bounds.{part-small}
 
@@ -56,7 +56,7 @@ module _ (j : Job) where
       ∙ holding-carried j (f ∷ []) (drop 1 l)
 
   pub part-reckoned : (f : Face) → 0 < length (j .faces .entry) → InOrder (withFaces (asCarried f ∷ []) (carried j))
-      → storedIn (judged (withOne f)) ≡ partOf (carried j) (asCarried f ∷ [])
+      → storedIn (judged (withOne f)) ≡ partOfFaces (carried j) (asCarried f ∷ [])
   unfolding judged
   part-reckoned f t o =
       let e = one-carried f t in
@@ -85,16 +85,16 @@ module _ (j : Job) where
         let fits = every-at (Fits c) (c .faces) noFace (n - 1) counted (all-fit c o) in
         alone c o (asCarried f) (subst (Fits c) (held-face (n - 1) (omega arith)) fits)
 
-    pub held-part : partOf (carried j) (asCarried f ∷ [])
-        ≡ partOf (carried j) (take 1 (drop (n - 1) (carried j .faces)))
+    pub held-part : partOfFaces (carried j) (asCarried f ∷ [])
+        ≡ partOfFaces (carried j) (take 1 (drop (n - 1) (carried j .faces)))
     held-part =
         let c = carried j in
-        ap (partOf c)
+        ap (partOfFaces c)
         (ap (λ g. g ∷ []) (sym (held-face (n - 1) (omega arith))) ∙ sym (one-there (c .faces) (n - 1) noFace counted))
 
 -- the part of face k is small
 abbrev pub heldPart : Job → ℤ → Stored
-heldPart j k = partOf (carried j) (face k (carried j .faces))
+heldPart j k = partOfFaces (carried j) (face k (carried j .faces))
 
 pub held-small : (j : Job) → InOrder (carried j) → (k : ℤ) → Within 1 (j .faces .count) k
     → AllSmall mostPart (heldPart j k)

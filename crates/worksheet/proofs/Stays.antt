@@ -14,7 +14,7 @@ use Rattle.worst.specs.Stored.{storedOf}
 use Rattle.edits.specs.Edits.{Edit, editVerdict, editFaces, jobWith, editedJob}
 use Rattle.edits.proofs.Accepted.{fit-in-order, editCarried, carried-edited, in-order-edited, edited-stays}
 use Rattle.worksheet.specs.declared.Worksheet.{Worksheet}
-use Rattle.worksheet.specs.Kept.{leaving, coming, partOf, moved, sumsAfter}
+use Rattle.worksheet.specs.Kept.{leaving, coming, partOfFaces, moved, sumsAfter}
 use Rattle.worksheet.specs.Worksheet.{edited}
 use Rattle.worksheet.proofs.Bounds.{sums-within}
 use Rattle.worksheet.proofs.OneFace.{was-in-order, placed}
@@ -54,7 +54,7 @@ module _ (e : Edit) (w : Worksheet) where
       let new = coming h e in
       rw held
       (rw (sums-within c o)
-      (ap (λ l. moved (storedOf (withFaces l c)) (partOf c out) (partOf c new)) (sym (p .was))
+      (ap (λ l. moved (storedOf (withFaces l c)) (partOfFaces c out) (partOfFaces c new)) (sym (p .was))
       ∙ moved-stored c (p .pre) out new (p .post) (subst (λ l. InOrder (withFaces l c)) (sym (p .was)) o)
       (subst (λ l. InOrder (withFaces l c)) (sym (p .now)) after)
       ∙ ap (λ l. storedOf (withFaces l c)) (p .now)

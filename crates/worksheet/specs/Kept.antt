@@ -36,8 +36,8 @@ coming heights (Replace k f) = carriedFace heights f ∷ []
 coming heights (TakeOut k) = []
 
 -- their part: the sums of the same job with these faces alone
-abbrev pub partOf : Carried → List Face → Stored
-partOf c fs = storedOf (withFaces fs c)
+abbrev pub partOfFaces : Carried → List Face → Stored
+partOfFaces c fs = storedOf (withFaces fs c)
 
 -- ---- cell by cell
 
@@ -86,6 +86,6 @@ unfoldable pub sumsAfter : Edit → Worksheet → Stored
 sumsAfter e w =
     let j = w .job in
     let c = carried j in
-    let out = partOf c (leaving e (c .faces)) in
-    let new = partOf c (coming (hasHeights (j .year)) e) in
+    let out = partOfFaces c (leaving e (c .faces)) in
+    let new = partOfFaces c (coming (hasHeights (j .year)) e) in
     cond (allWithin (w .sums .cell)) (moved (w .sums) out new) (storedOf (carried (jobWith (editFaces e j) j)))

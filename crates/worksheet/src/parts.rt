@@ -13,7 +13,7 @@ ghost use Rattle.entry.specs.Says.{carriedFace};
 ghost use Rattle.job.specs.Carried.{carried, withFaces};
 ghost use Rattle.job.specs.InOrder.{InOrder};
 ghost use Rattle.worst.specs.Stored.{noneStored};
-ghost use Rattle.worksheet.specs.Kept.{face, partOf};
+ghost use Rattle.worksheet.specs.Kept.{face, partOfFaces};
 
 // That of no face: zeros.
 pub(crate) fn none() -> Stored
@@ -35,7 +35,7 @@ pub(crate) fn none() -> Stored
 // That of a face which the job can have.
 pub(crate) fn of_face(job: Job, f: Face) -> Stored
     requires { ⌜ InOrder (withFaces (carriedFace (hasHeights (job .year)) f ∷ []) (carried job)) ⌝ }
-    ensures { λ r. ⌜ r ≡ partOf (carried job) (carriedFace (hasHeights (job .year)) f ∷ []) ⌝ }
+    ensures { λ r. ⌜ r ≡ partOfFaces (carried job) (carriedFace (hasHeights (job .year)) f ∷ []) ⌝ }
 {
     let mut faces = job.faces;
     faces.entry[0] = f;
@@ -48,7 +48,7 @@ pub(crate) fn of_face(job: Job, f: Face) -> Stored
 // That of face k, from 1, which it has.
 pub(crate) fn of_held(job: Job, k: i64) -> Stored
     requires { ⌜ InOrder (carried job) × (1 ≤ natAbs k) × (natAbs k ≤ job .faces .count) ⌝ }
-    ensures { λ r. ⌜ r ≡ partOf (carried job) (face k (carried job .faces)) ⌝ }
+    ensures { λ r. ⌜ r ≡ partOfFaces (carried job) (face k (carried job .faces)) ⌝ }
 {
     let faces = job.faces;
     let n = whole::magnitude(k) as usize;

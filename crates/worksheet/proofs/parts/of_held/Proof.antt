@@ -6,7 +6,7 @@ use borrow.Author.Needs.{needs}
 use lib.IntN.{natAbs}
 use lib.ListN.{take, drop}
 use Rattle.job.specs.Carried.{carried}
-use Rattle.worksheet.specs.Kept.{partOf}
+use Rattle.worksheet.specs.Kept.{partOfFaces}
 use Rattle.whole.proofs.Size.{said}
 use Rattle.edits.proofs.Counts.{few-faces}
 use Rattle.worksheet.proofs.OneFace.{held-alone, held-part}
@@ -41,7 +41,7 @@ returns c =
     c .of-face .ensures
     ∙ held-part j (s .pre .0) (d .magnitude .result) (omega (arith, size-is d, s .pre .1))
     (omega (arith, size-is d, s .pre .2))
-    ∙ ap (λ n. partOf (carried j) (take 1 (drop (n - 1) (carried j .faces)))) (size-is d)
+    ∙ ap (λ n. partOfFaces (carried j) (take 1 (drop (n - 1) (carried j .faces)))) (size-is d)
 
 pub of-held-spec : {M : Type 1} → statement M
 of-held-spec =
