@@ -14,8 +14,8 @@ use Rattle.page.specs.declared.Writing.the-variants.{Length, Refused}
 abbrev pub writing : List ℕ → List ℕ → Writing
 writing text buf = cond (leb (length text) (length buf)) (Length (length text)) (Refused (refusal 7 0))
 
--- the text at the start, and the bytes after it as they were; where it is refused, all as it was
-abbrev pub bufferAfter : List ℕ → List ℕ → List ℕ
+-- the text (or list) at the start, and what stood after it as it was; where it is refused, all as it was
+abbrev pub bufferAfter : {A : Type 0} → List A → List A → List A
 bufferAfter text buf = cond (leb (length text) (length buf)) (text ++ drop (length text) buf) buf
 
 -- A text put into the bytes `before` from the place `at` on, as far as there is room: `after` is what they are then,
