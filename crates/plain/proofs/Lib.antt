@@ -4,4 +4,4 @@ pub mod Keeping  -- what is kept of an earlier case and a later one
 pub mod Walks  -- every choice, face by face
 pub mod Rows  -- the forces of a job's faces, as the code is handed them
 pub mod EveryCase  -- every choice of every cell is every case
-pub mod Counting  -- how many faces have two alternatives
+pub mod AnyOf  -- whether one of a list has something

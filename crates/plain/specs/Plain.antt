@@ -1,9 +1,10 @@
 -- The plain reckoning of a job: that of its worst cases, where few of its faces have two alternatives.
 use mathlib.Core.Bool.{Bool, false, cond, _||_}
 use mathlib.Core.List.{List, [], _∷_}
-use Prim.Native.Nat.{ℕ, suc}
+use Prim.Native.Nat.{ℕ}
 use lib.Dec.{leb, eqb}
 use lib.ListN.{length}
+use Rattle.whole.specs.Lists.{howMany}
 use Rattle.verdict.specs.Verdict.{refusal}
 use Rattle.entry.specs.declared.Face.{Face}
 use Rattle.job.specs.declared.Job.{Job}
@@ -12,14 +13,10 @@ use Rattle.worst.specs.declared.Reckoning.{Reckoning}
 use Rattle.worst.specs.Forces.{Given, alternatives}
 use Rattle.worst.specs.Worst.{given, reckoned}
 
--- one of a list has it; and how many have
+-- one of a list has it
 unfoldable pub anyOf : {A : Type 0} → (A → Bool) → List A → Bool
 anyOf has [] = false
 anyOf has (x ∷ l) = has x || anyOf has l
-
-unfoldable pub howMany : {A : Type 0} → (A → Bool) → List A → ℕ
-howMany has [] = 0
-howMany has (x ∷ l) = cond (has x) (suc (howMany has l)) (howMany has l)
 
 -- a face has two alternatives under at least one of the winds
 abbrev pub twoSomewhere : Given → Face → Bool

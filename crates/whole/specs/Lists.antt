@@ -1,5 +1,6 @@
--- Lists: the first so many of one, and what holds of each of one.
+-- Lists: the first so many of one, what holds of each of one, and how many of one have something.
 use Prim.Native.Nat.{ℕ, zero, suc}
+use mathlib.Core.Bool.{Bool, cond}
 use mathlib.Core.List.{List, [], _∷_}
 
 -- the first n of a list, and d where it has fewer
@@ -12,3 +13,8 @@ firstOf d (suc n) (x ∷ l) = x ∷ firstOf d n l
 abbrev pub Every : {A : Type 0} → (A → Type 0) → List A → Type 0
 Every P [] = Unit
 Every P (x ∷ l) = P x × Every P l
+
+-- how many of a list have it
+unfoldable pub howMany : {A : Type 0} → (A → Bool) → List A → ℕ
+howMany has [] = 0
+howMany has (x ∷ l) = cond (has x) (suc (howMany has l)) (howMany has l)

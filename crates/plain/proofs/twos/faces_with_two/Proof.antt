@@ -6,12 +6,13 @@ use native.Mathlib.Omega.{arith}
 use borrow.Author.Needs.{needs}
 use lib.ListN.{take, length-take}
 use lib.Seq.{take-all}
+use Rattle.whole.specs.Lists.{howMany}
+use Rattle.whole.proofs.Counting.{many-next, many-few}
 use Rattle.job.specs.declared.Job.{Job}
 use Rattle.job.specs.Carried.{carried, noFace}
 use Rattle.worst.specs.Worst.{given}
-use Rattle.plain.specs.Plain.{howMany, twoSomewhere}
+use Rattle.plain.specs.Plain.{twoSomewhere}
 use Rattle.plain.proofs.Rows.{ready, faces-counted}
-use Rattle.plain.proofs.Counting.{many-next, many-few}
 use Rattle.plain.proofs.twos.faces_with_two.Statement.{statement}
 use Rattle.plain.proofs.twos.faces_with_two.Tie as tie
 
