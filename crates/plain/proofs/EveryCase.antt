@@ -1,19 +1,16 @@
 -- Every choice of every cell, in order, is every case: so what the walk finds is the worst of all cases.
 use mathlib.Core.Path.{_≡_, refl, sym, ap, _∙_}
-use mathlib.Core.Logic.{_⊎_, inl, inr, ⊎-elim}
 use mathlib.Core.Bool.{Bool, true, false, cond}
-use mathlib.Core.List.{List, [], _∷_, map, List·Memᴰ, List·Memᴰ·head, List·Memᴰ·tail, List·Memᴰ·cases-cons}
-use mathlib.Core.List.{List·Memᴰ·eq-of-singleton}
+use mathlib.Core.List.{List, [], _∷_, map, List·Memᴰ, List·Memᴰ·head, List·Memᴰ·tail}
 use Prim.Native.Nat.{ℕ, _-_, _≤_}
 use native.Mathlib.Omega.{arith}
 use lib.Dec.{eqb}
 use lib.IntN.{ℤ, _+ℤ_}
 use lib.ListN.{length, drop}
-use Rattle.whole.proofs.ByPlace.{getD-member}
 use Rattle.entry.specs.declared.Wind.{Wind}
 use Rattle.entry.specs.declared.Face.{Face}
 use Rattle.job.specs.declared.Job.{Job}
-use Rattle.job.specs.Carried.{Carried, carried, noWind}
+use Rattle.job.specs.Carried.{Carried, carried}
 use Rattle.job.specs.Walk.{judged}
 use Rattle.worst.specs.declared.Side.{Side}
 use Rattle.worst.specs.declared.Side.the-variants.{Greatest, Least}
@@ -29,14 +26,15 @@ use Rattle.worst.specs.Quick.{over}
 use Rattle.worst.specs.Forces.{Given, acts, outsides, alternatives, force, windAt, internalAt, loads}
 use Rattle.worst.specs.Shown.{shown}
 use Rattle.worst.specs.Worst.{given, extreme, sixExtremes, noSix}
-use Rattle.worst.specs.PerFace.{forceOf, faceForces, cellForces, forcesIn}
+use Rattle.worst.specs.PerFace.{faceForces, cellForces, forcesIn}
 use Rattle.worst.proofs.Better.{best-over, over-each, over-map, over-same, over-same-in}
 use Rattle.worst.proofs.Members.{choices-only}
 use Rattle.worst.proofs.OneFace.{OneOrTwo, alone, pair}
-use Rattle.worst.proofs.Accepted.{given-sound}
-use Rattle.plain.specs.Walked.{rows, alternativesIn, takenAt, alongAxis, forceIn, caseWith}
-use Rattle.plain.specs.Walked.{valued, walked, Taken, cellWalked, windWalked, extremeAt}
-use Rattle.plain.proofs.Rows.{winds-counted, faces-counted, cell-is, rows-are}
+use Rattle.worst.specs.Rows.{rows, forceIn}
+use Rattle.plain.specs.Walked.{alternativesIn, caseWith}
+use Rattle.worst.specs.Rows.{Taken}
+use Rattle.plain.specs.Walked.{valued, walked, cellWalked, windWalked, extremeAt}
+use Rattle.worst.proofs.Rows.{winds-counted, faces-counted, cell-is, rows-are, sound-at, force-same}
 
 -- ---- the worst of all cases, cell by cell
 
@@ -92,41 +90,6 @@ module _ (g : Given) (w : Wind) (i : ℤ) (f : Face) (sound : acts f (w .directi
         go true h = two (outsides g w f) (h refl)
         go false h = refl
 
-    -- an alternative is the first, or the second of two
-    first-or-second : (k : ℕ) → List·Memᴰ k (alternatives g w f)
-        → (k ≡ 1) ⊎ ((k ≡ 2) × (length (alternatives g w f) ≡ 2))
-    unfolding numbers
-    first-or-second k = go (acts f (w .direction)) sound
-      where
-        two : (outs : List ℤ) → OneOrTwo outs → List·Memᴰ k (numbers (length outs) 1)
-            → (k ≡ 1) ⊎ ((k ≡ 2) × (length (numbers (length outs) 1) ≡ 2))
-        two outs (alone v) m = inl (List·Memᴰ·eq-of-singleton m)
-        two outs (pair v u) m =
-            ⊎-elim inl (λ n. inr (List·Memᴰ·eq-of-singleton n, refl)) (List·Memᴰ·cases-cons m)
-
-        go : (t : Bool) → (t ≡ true → OneOrTwo (outsides g w f))
-            → let l = cond t (numbers (length (outsides g w f)) 1) (1 ∷ []) in
-            List·Memᴰ k l → (k ≡ 1) ⊎ ((k ≡ 2) × (length l ≡ 2))
-        go true h m = two (outsides g w f) (h refl) m
-        go false h m = inl (List·Memᴰ·eq-of-singleton m)
-
-    on-axis : (axis : Axis) (k : ℕ) → force axis g w i f k ≡ alongAxis axis (forceOf g w i f k)
-    on-axis X k = refl
-    on-axis Y k = refl
-    on-axis Z k = refl
-
-    -- and its force there is what is handed over
-    force-same : (axis : Axis) (k : ℕ) → List·Memᴰ k (alternatives g w f)
-        → force axis g w i f k ≡ forceIn axis (faceForces g w i f) k
-    unfolding faceForces
-    force-same axis k m = on-axis axis k ∙ ap (alongAxis axis) (⊎-elim first second (first-or-second k m))
-      where
-        first : k ≡ 1 → forceOf g w i f k ≡ takenAt (faceForces g w i f) k
-        first e = rw e
-
-        second : (k ≡ 2) × (length (alternatives g w f) ≡ 2) → forceOf g w i f k ≡ takenAt (faceForces g w i f) k
-        second e = rw (e .0) (ap (forceOf g w i f) (sym (e .1)))
-
 -- ---- one cell of a job
 
 module _ (j : Job) (t : Taken j) (axis : Axis) (s : Side) (w i : ℕ) (from : 1 ≤ w) (to : w ≤ j .winds .count) where
@@ -142,11 +105,6 @@ module _ (j : Job) (t : Taken j) (axis : Axis) (s : Side) (w i : ℕ) (from : 1 
   abbrev row : Face → FaceForces
   row = faceForces g u (internalAt g i)
 
-  sound-at : (f : Face) → List·Memᴰ f (g .faces) → acts f (u .direction) ≡ true → OneOrTwo (outsides g u f)
-  sound-at f m =
-      given-sound (carried j) (t .order) u f
-      (getD-member (g .winds) (w - 1) noWind (omega (arith, winds-counted j t))) m
-
   -- every choice for the faces is every choice for what is handed over, with the same total
   pub cell-walked
       : let all = rows (j .faces .count) (cellForces g u (internalAt g i)) in
@@ -158,12 +116,12 @@ module _ (j : Job) (t : Taken j) (axis : Axis) (s : Side) (w i : ℕ) (from : 1 
       over s (valued (total (forceIn axis) all) w i) (choices alternativesIn all))
       ∙ ap (over s (valued (total (forceIn axis) (map row (g .faces))) w i))
       (sym (choices-map row (l .alternatives w) alternativesIn (g .faces)
-      (λ f m. alternatives-same g u (internalAt g i) f (sound-at f m))))
+      (λ f m. alternatives-same g u (internalAt g i) f (sound-at j t w from to f m))))
       ∙ over-same-in s _ _ (choices (l .alternatives w) (g .faces))
       (λ ks m.
       ap (λ v. at v (caseWith w i ks))
       (sym (total-map row (l .alternatives w) alternativesIn (l .force w i) (forceIn axis) (g .faces)
-      (λ f mf k mk. force-same g u (internalAt g i) f (sound-at f mf) axis k mk) ks
+      (λ f mf k mk. force-same g u (internalAt g i) f (sound-at j t w from to f mf) axis k mk) ks
       (choices-only (l .alternatives w) (g .faces) ks m))))
 
 -- ---- all of them

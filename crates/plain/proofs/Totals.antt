@@ -18,7 +18,8 @@ use Rattle.worst.specs.declared.FaceForces.{FaceForces}
 use Rattle.worst.specs.declared.CellForces.{CellForces}
 use Rattle.worst.specs.Cases.{total}
 use Rattle.worst.specs.PerFace.{noFaceForces}
-use Rattle.plain.specs.Walked.{rows, takenAt, forceIn, plus, totalOf, ForceSmall, RowSmall}
+use Rattle.worst.specs.Rows.{rows, takenAt, forceIn}
+use Rattle.plain.specs.Walked.{plus, totalOf, ForceSmall, RowSmall}
 
 module _ {F A : Type 0} (force : F → A → ℤ) (f : F) (k : A) where
   total-snoc : (fs : List F) (ks : List A) → length fs ≡ length ks

@@ -21,7 +21,8 @@ use Rattle.worst.specs.Shown.{padded}
 use Rattle.worst.specs.PerFace.{noFaceForces}
 use Rattle.worst.proofs.Better.{better-none, better-assoc, over-each, over-map, over-same}
 use Rattle.worst.proofs.Padded.{padded-set}
-use Rattle.plain.specs.Walked.{rows, alternativesIn, caseWith, valued, walked, Keeps}
+use Rattle.worst.specs.Rows.{rows}
+use Rattle.plain.specs.Walked.{alternativesIn, caseWith, valued, walked, Keeps}
 
 module _ (s : Side) (value : List ℕ → ℤ) (w i : ℕ) where
   pub walked-end : (ks : List ℕ) → walked s value w i ks [] ≡ valued value w i ks

@@ -6,11 +6,7 @@ use Prim.Native.Nat.{ℕ, _*_, _≤_, _<_}
 use lib.Dec.{eqb}
 use lib.IntN.{ℤ, natAbs, _+ℤ_}
 use lib.ListN.{getD}
-use Rattle.whole.specs.Lists.{firstOf}
-use Rattle.job.specs.declared.Job.{Job}
-use Rattle.job.specs.Carried.{Carried, carried}
-use Rattle.job.specs.InOrder.{InOrder}
-use Rattle.job.specs.Walk.{Accepted, judged}
+use Rattle.job.specs.Carried.{Carried}
 use Rattle.worst.specs.declared.Side.{Side}
 use Rattle.worst.specs.declared.Side.the-variants.{Greatest, Least}
 use Rattle.worst.specs.declared.Axis.{Axis}
@@ -28,25 +24,12 @@ use Rattle.worst.specs.Forces.{loads}
 use Rattle.worst.specs.Worst.{given}
 use Rattle.worst.specs.Shown.{shown}
 use Rattle.worst.specs.PerFace.{noFaceForces}
+use Rattle.worst.specs.Rows.{forceIn}
 
--- ---- the forces of a cell: of its first n faces, each with its alternatives
-
-abbrev pub rows : ℕ → CellForces → List FaceForces
-rows n forces = firstOf noFaceForces n (forces .face)
+-- ---- the forces of a cell: each face with its alternatives
 
 abbrev pub alternativesIn : FaceForces → List ℕ
 alternativesIn f = cond (eqb (f .count) 2) (1 ∷ 2 ∷ []) (1 ∷ [])
-
-abbrev pub takenAt : FaceForces → ℕ → AxisForces
-takenAt f k = cond (eqb k 1) (f .first) (f .last)
-
-abbrev pub alongAxis : Axis → AxisForces → ℤ
-alongAxis X f = f .x
-alongAxis Y f = f .y
-alongAxis Z f = f .z
-
-abbrev pub forceIn : Axis → FaceForces → ℕ → ℤ
-forceIn axis f k = alongAxis axis (takenAt f k)
 
 abbrev pub plus : AxisForces → AxisForces → AxisForces
 plus a b = record { x = a .x +ℤ b .x; y = a .y +ℤ b .y; z = a .z +ℤ b .z }
@@ -114,11 +97,6 @@ pub record Underway (n left wind : ℕ) (forces : CellForces) : Type 0 where
   pub small : RowsSmall n forces
 
 -- ---- a job
-
--- accepted, as what it carries
-pub record Taken (j : Job) : Type 0 where
-  pub order : InOrder (carried j)
-  pub accepted : judged j ≡ Accepted (carried j)
 
 -- the best of all choices of a cell, and of all cells of a wind
 unfoldable pub cellWalked : {F : Type 0} → Side → Loads ℕ ℕ F ℕ → ℕ → ℕ → Best (Case ℕ ℕ ℕ)

@@ -2,7 +2,8 @@
 ghost use mathlib.Core.Path.{_≡_};
 ghost use Prim.Native.Nat.{_≤_};
 ghost use Rattle.whole.specs.Lists.{firstOf};
-ghost use Rattle.plain.specs.Walked.{rows, takenAt, plus, totalOf, ForceSmall, RowsSmall};
+ghost use Rattle.worst.specs.Rows.{rows, takenAt};
+ghost use Rattle.plain.specs.Walked.{plus, totalOf, ForceSmall, RowsSmall};
 use worst::AxisForces;
 use worst::CellForces;
 use worst::FaceForces;

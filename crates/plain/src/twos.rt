@@ -6,7 +6,7 @@ ghost use lib.ListN.{getD};
 ghost use Rattle.job.specs.Carried.{carried, noFace};
 ghost use Rattle.worst.specs.Worst.{given};
 ghost use Rattle.plain.specs.Plain.{twoSomewhere, facesWithTwo};
-ghost use Rattle.plain.specs.Walked.{Taken};
+ghost use Rattle.worst.specs.Rows.{Taken};
 use job::Job;
 
 // Whether a face, from 0, has two under one of them.

@@ -33,3 +33,4 @@ pub mod Parts  -- stored sums, by the parts of the faces
 pub mod Promises  -- the third demand, for accepted jobs
 pub mod Reckoned  -- refused, or accepted as what it carries
 pub mod PerFace  -- the forces of each face under a wind and an internal coefficient
+pub mod Rows  -- and these handed over, row by row

@@ -13,7 +13,7 @@ use Rattle.worst.specs.declared.Reckoning.{Reckoning}
 use Rattle.worst.specs.Worst.{given, reckoned}
 use Rattle.worst.proofs.Reckoned.{refused-is, taken-is}
 use Rattle.plain.specs.Plain.{facesWithTwo, mostWithTwo, plainly, plainOf}
-use Rattle.plain.specs.Walked.{Taken}
+use Rattle.worst.specs.Rows.{Taken}
 use Rattle.plain.proofs.EveryCase.{none-are}
 use Rattle.plain.proofs.plain_by.Statement.{statement}
 use Rattle.plain.proofs.plain_by.Tie as tie

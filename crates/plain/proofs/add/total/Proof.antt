@@ -8,7 +8,8 @@ use Rattle.whole.specs.Lists.{firstOf}
 use Rattle.worst.specs.declared.FaceForces.{FaceForces}
 use Rattle.worst.specs.Cases.{total}
 use Rattle.worst.specs.PerFace.{noFaceForces}
-use Rattle.plain.specs.Walked.{rows, plus, totalOf, ForceSmall}
+use Rattle.worst.specs.Rows.{rows}
+use Rattle.plain.specs.Walked.{plus, totalOf, ForceSmall}
 use Rattle.plain.proofs.Totals.{total-next, nothing-small, taken-small, plus-small, more-small}
 use Rattle.plain.proofs.add.total.Statement.{statement}
 use Rattle.plain.proofs.add.total.Tie as tie

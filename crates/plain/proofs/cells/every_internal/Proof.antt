@@ -16,7 +16,8 @@ use Rattle.worst.specs.Worst.{given}
 use Rattle.worst.specs.Shown.{padded}
 use Rattle.worst.proofs.Better.{better-none, over-after}
 use Rattle.plain.specs.Walked.{extremeAt, Keeps, RowsSmall, cellWalked}
-use Rattle.plain.proofs.Rows.{ready, internals-counted, cell-is, cell-small}
+use Rattle.worst.proofs.Rows.{ready, internals-counted, cell-is}
+use Rattle.plain.proofs.Rows.{cell-small}
 use Rattle.plain.proofs.EveryCase.{walked-here}
 use Rattle.plain.proofs.cells.every_internal.Statement.{statement}
 use Rattle.plain.proofs.cells.every_internal.Tie as tie

@@ -14,7 +14,7 @@ use Rattle.worst.specs.Quick.{over}
 use Rattle.worst.specs.Shown.{shown}
 use Rattle.worst.proofs.Better.{over-next}
 use Rattle.plain.specs.Walked.{extremeAt, Keeps, windWalked}
-use Rattle.plain.proofs.Rows.{ready}
+use Rattle.worst.proofs.Rows.{ready}
 use Rattle.plain.proofs.EveryCase.{extreme-is, six-are}
 use Rattle.plain.proofs.cells.every_wind.Statement.{statement}
 use Rattle.plain.proofs.cells.every_wind.Tie as tie

@@ -12,7 +12,7 @@ use Rattle.job.specs.declared.Job.{Job}
 use Rattle.job.specs.Carried.{carried, noFace}
 use Rattle.worst.specs.Worst.{given}
 use Rattle.plain.specs.Plain.{twoSomewhere}
-use Rattle.plain.proofs.Rows.{ready, faces-counted}
+use Rattle.worst.proofs.Rows.{ready, faces-counted}
 use Rattle.plain.proofs.twos.faces_with_two.Statement.{statement}
 use Rattle.plain.proofs.twos.faces_with_two.Tie as tie
 

@@ -17,7 +17,7 @@ use Rattle.worst.specs.Forces.{alternatives, windAt, internalAt}
 use Rattle.worst.specs.Worst.{given}
 use Rattle.worst.specs.PerFace.{faceForces, noFaceForces}
 use Rattle.plain.specs.Plain.{anyOf, twoSomewhere}
-use Rattle.plain.proofs.Rows.{ready, winds-counted, cell-is, row-is}
+use Rattle.worst.proofs.Rows.{ready, winds-counted, cell-is, row-is}
 use Rattle.plain.proofs.AnyOf.{any-found, any-on, any-none}
 use Rattle.plain.proofs.twos.has_two.Statement.{statement}
 use Rattle.plain.proofs.twos.has_two.Tie as tie

@@ -12,7 +12,8 @@ use Rattle.worst.specs.declared.Side.{Side}
 use Rattle.worst.specs.Best.{Best, better}
 use Rattle.worst.specs.Cases.{Case, total}
 use Rattle.worst.specs.Shown.{padded}
-use Rattle.plain.specs.Walked.{rows, forceIn, walked, extremeAt, Keeps, Underway}
+use Rattle.worst.specs.Rows.{rows, forceIn}
+use Rattle.plain.specs.Walked.{walked, extremeAt, Keeps, Underway}
 use Rattle.plain.proofs.Walks.{turn-end, next-chosen, next-length, turn-one, turn-two}
 use Rattle.plain.proofs.keep.with_case.Reads as with-case-reads
 use Rattle.plain.proofs.walk.walk.Reads as walk
