@@ -15,8 +15,7 @@ use Rattle.worst.specs.declared.Side.{Side}
 use Rattle.worst.specs.declared.Side.the-variants.{Greatest, Least}
 use Rattle.worst.specs.declared.Axis.{Axis}
 use Rattle.worst.specs.declared.Axis.the-variants.{X, Y, Z}
-use Rattle.worst.specs.Worst.{extreme, sixExtremes, reckoned, worstOf}
-use Rattle.claims.specs.Shown.{shownIn}
+use Rattle.worst.specs.Worst.{extreme, sixExtremes, shownIn, reckoned, worstOf}
 
 pub job-in-order : (j : Job) (c : Carried) → judged j ≡ Accepted c → InOrder c
 unfolding judged

@@ -17,12 +17,12 @@ use Rattle.worst.specs.declared.Extreme.{Extreme}
 use Rattle.worst.specs.declared.Reckoning.{Reckoning}
 use Rattle.worst.specs.Best.{NoFurther}
 use Rattle.worst.specs.Cases.{Permitted, Loads, Case, cases}
-use Rattle.worst.specs.Worst.{extreme, sixExtremes, worstOf}
+use Rattle.worst.specs.Worst.{extreme, sixExtremes, shownIn, lineNumber, worstOf}
 use Rattle.worst.proofs.Members.{case-permitted, permitted-case}
 use Rattle.report.specs.Report.{reportText}
 use Rattle.answers.specs.Answers.{hostText, hostExtreme, reportLine, hostLine, hostTotal}
 use Rattle.claims.specs.Contract.{Always}
-use Rattle.claims.specs.Shown.{Shows, ShowsSix, shownIn, lineNumber, Reported, More, Faster, OneSpeed}
+use Rattle.claims.specs.Shown.{Shows, ShowsSix, Reported, More, Faster, OneSpeed}
 use Rattle.claims.proofs.Contracts as of
 use Rattle.claims.proofs.Accepted.{job-in-order, sheet-in-order, six-is, one-is}
 use Rattle.claims.proofs.Shown as shown

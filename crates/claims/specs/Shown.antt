@@ -11,17 +11,15 @@ use Rattle.page.specs.declared.Writing.{Writing}
 use Rattle.entry.specs.declared.Wind.{Wind}
 use Rattle.job.specs.Carried.{Carried}
 use Rattle.worst.specs.declared.Side.{Side}
-use Rattle.worst.specs.declared.Side.the-variants.{Greatest, Least}
 use Rattle.worst.specs.declared.Axis.{Axis}
-use Rattle.worst.specs.declared.Axis.the-variants.{X, Y, Z}
+use Rattle.worst.specs.declared.Axis.the-variants.{X}
 use Rattle.worst.specs.declared.Extreme.{Extreme}
-use Rattle.worst.specs.declared.Extremes.{Extremes}
 use Rattle.worst.specs.declared.Six.{Six}
 use Rattle.worst.specs.Best.{IsBest}
 use Rattle.worst.specs.Cases.{Case, cases, caseTotal}
 use Rattle.worst.specs.Forces.{faceSpeed, loads}
 use Rattle.worst.specs.Shown.{padded}
-use Rattle.worst.specs.Worst.{given}
+use Rattle.worst.specs.Worst.{given, shownIn}
 use Rattle.report.specs.Lines.{sixText}
 use Rattle.claims.specs.Written.{Written}
 
@@ -39,29 +37,8 @@ pub record Shows (c : Carried) (axis : Axis) (side : Side) (e : Extreme) : Type 
 
 -- ---- all six
 
-abbrev pub onAxis : Axis → Six → Extremes
-onAxis X six = six .x
-onAxis Y six = six .y
-onAxis Z six = six .z
-
-abbrev pub onSide : Side → Extremes → Extreme
-onSide Greatest e = e .greatest
-onSide Least e = e .least
-
-abbrev pub shownIn : Six → Axis → Side → Extreme
-shownIn six axis side = onSide side (onAxis axis six)
-
 abbrev pub ShowsSix : Carried → Six → Type 0
 ShowsSix c six = (axis : Axis) (side : Side) → Shows c axis side (shownIn six axis side)
-
--- the lines of the report, in their order
-abbrev pub lineNumber : Axis → Side → ℕ
-lineNumber X Greatest = 1
-lineNumber X Least = 2
-lineNumber Y Greatest = 3
-lineNumber Y Least = 4
-lineNumber Z Greatest = 5
-lineNumber Z Least = 6
 
 -- the six lines of such extremes, written
 pub record Reported (c : Carried) (before after : List ℕ) (w : Writing) : Type 0 where

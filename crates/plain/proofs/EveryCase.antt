@@ -25,7 +25,7 @@ use Rattle.worst.specs.Cases.{Loads, numbers, each, choices, total, cases, case
 use Rattle.worst.specs.Quick.{over}
 use Rattle.worst.specs.Forces.{Given, acts, outsides, alternatives, force, windAt, internalAt, loads}
 use Rattle.worst.specs.Shown.{shown}
-use Rattle.worst.specs.Worst.{given, extreme, sixExtremes, noSix}
+use Rattle.worst.specs.Worst.{given, extreme, sixExtremes, noSix, shownIn}
 use Rattle.worst.specs.PerFace.{faceForces, cellForces, forcesIn}
 use Rattle.worst.proofs.Better.{best-over, over-each, over-map, over-same, over-same-in}
 use Rattle.worst.proofs.Members.{choices-only}
@@ -33,7 +33,7 @@ use Rattle.worst.proofs.OneFace.{OneOrTwo, alone, pair}
 use Rattle.worst.specs.Rows.{rows, forceIn}
 use Rattle.plain.specs.Walked.{alternativesIn, caseWith}
 use Rattle.worst.specs.Rows.{Taken}
-use Rattle.plain.specs.Walked.{valued, walked, cellWalked, windWalked, extremeAt}
+use Rattle.plain.specs.Walked.{valued, walked, cellWalked, windWalked}
 use Rattle.worst.proofs.Rows.{winds-counted, faces-counted, cell-is, rows-are, sound-at, force-same}
 
 -- ---- the worst of all cases, cell by cell
@@ -152,7 +152,7 @@ extreme-is j t axis s e h =
     ∙ ap (shown (length (carried j .faces))) (sym (worst-walked s (loads axis (given (carried j)))))
 
 -- six that are known one by one
-six-from : (e : Axis → Side → Extreme) (six : Six) → ((axis : Axis) (s : Side) → extremeAt axis s six ≡ e axis s)
+six-from : (e : Axis → Side → Extreme) (six : Six) → ((axis : Axis) (s : Side) → shownIn six axis s ≡ e axis s)
     → six ≡ record {
       x = record { greatest = e X Greatest; least = e X Least };
       y = record { greatest = e Y Greatest; least = e Y Least };
@@ -165,10 +165,10 @@ six-from e six h =
       z = record { greatest = h Z Greatest k; least = h Z Least k };
     }
 
-pub six-are : (c : Carried) (six : Six) → ((axis : Axis) (s : Side) → extremeAt axis s six ≡ extreme axis s c)
+pub six-are : (c : Carried) (six : Six) → ((axis : Axis) (s : Side) → shownIn six axis s ≡ extreme axis s c)
     → six ≡ sixExtremes c
 unfolding sixExtremes
 six-are c = six-from (λ axis s. extreme axis s c)
 
-pub none-are : (six : Six) → ((axis : Axis) (s : Side) → extremeAt axis s six ≡ shown 0 none) → six ≡ noSix
+pub none-are : (six : Six) → ((axis : Axis) (s : Side) → shownIn six axis s ≡ shown 0 none) → six ≡ noSix
 none-are = six-from (λ axis s. shown 0 none)

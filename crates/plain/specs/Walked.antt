@@ -8,15 +8,12 @@ use lib.IntN.{ℤ, natAbs, _+ℤ_}
 use lib.ListN.{getD}
 use Rattle.job.specs.Carried.{Carried}
 use Rattle.worst.specs.declared.Side.{Side}
-use Rattle.worst.specs.declared.Side.the-variants.{Greatest, Least}
 use Rattle.worst.specs.declared.Axis.{Axis}
 use Rattle.worst.specs.declared.Axis.the-variants.{X, Y, Z}
 use Rattle.worst.specs.declared.AxisForces.{AxisForces}
 use Rattle.worst.specs.declared.FaceForces.{FaceForces}
 use Rattle.worst.specs.declared.CellForces.{CellForces}
 use Rattle.worst.specs.declared.Extreme.{Extreme}
-use Rattle.worst.specs.declared.Extremes.{Extremes}
-use Rattle.worst.specs.declared.Six.{Six}
 use Rattle.worst.specs.Best.{Best, none, at}
 use Rattle.worst.specs.Cases.{Loads, Case, choices, total}
 use Rattle.worst.specs.Quick.{over}
@@ -66,18 +63,6 @@ unfoldable pub walked : Side → (List ℕ → ℤ) → ℕ → ℕ → List ℕ
 walked s value w i ks left = over s (λ js. valued value w i (ks ++ js)) (choices alternativesIn left)
 
 -- ---- what is kept
-
-abbrev pub sideOf : Side → Extremes → Extreme
-sideOf Greatest e = e .greatest
-sideOf Least e = e .least
-
-abbrev pub extremesAt : Axis → Six → Extremes
-extremesAt X s = s .x
-extremesAt Y s = s .y
-extremesAt Z s = s .z
-
-abbrev pub extremeAt : Axis → Side → Six → Extreme
-extremeAt axis s six = sideOf s (extremesAt axis six)
 
 -- winds are numbered from 1
 abbrev pub Numbered : Best (Case ℕ ℕ ℕ) → Type 0

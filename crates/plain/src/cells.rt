@@ -6,9 +6,9 @@ ghost use Rattle.worst.specs.declared.Side.{Side};
 ghost use Rattle.worst.specs.declared.Axis.{Axis};
 ghost use Rattle.worst.specs.Best.{Best, better};
 ghost use Rattle.worst.specs.Cases.{Case};
-ghost use Rattle.worst.specs.Worst.{sixExtremes};
+ghost use Rattle.worst.specs.Worst.{sixExtremes, shownIn};
 ghost use Rattle.worst.specs.Rows.{Taken};
-ghost use Rattle.plain.specs.Walked.{extremeAt, Keeps, windWalked};
+ghost use Rattle.plain.specs.Walked.{Keeps, windWalked};
 use crate::keep::nothing_yet;
 use crate::walk::walk;
 use job::Job;
@@ -18,8 +18,8 @@ use worst::Six;
 fn every_internal(six: Six, job: Job, wind: u32) -> Six
     requires { ⌜ Taken job × (0 < wind) × (wind ≤ job .winds .count) ⌝ }
     ensures { λ r. ⌜ ((axis : Axis) (s : Side) (b : Best (Case ℕ ℕ ℕ))
-        → Keeps (job .faces .count) (extremeAt axis s six) b
-        → Keeps (job .faces .count) (extremeAt axis s r) (better s b (windWalked axis s (carried job) wind))) ⌝ }
+        → Keeps (job .faces .count) (shownIn six axis s) b
+        → Keeps (job .faces .count) (shownIn r axis s) (better s b (windWalked axis s (carried job) wind))) ⌝ }
 {
     let faces = job.faces.count as usize;
     let count = job.internals.count;

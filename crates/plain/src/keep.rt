@@ -9,7 +9,8 @@ ghost use Rattle.worst.specs.Best.{short, Best, none, at, better};
 ghost use Rattle.worst.specs.Cases.{Case, total};
 ghost use Rattle.worst.specs.Shown.{padded, shown};
 ghost use Rattle.worst.specs.Rows.{rows, forceIn};
-ghost use Rattle.plain.specs.Walked.{caseWith, sideOf, extremeAt, Keeps, RowsSmall};
+ghost use Rattle.worst.specs.Worst.{onSide, shownIn};
+ghost use Rattle.plain.specs.Walked.{caseWith, Keeps, RowsSmall};
 use crate::add;
 use worst::CellForces;
 use worst::Extreme;
@@ -19,7 +20,7 @@ use worst::Six;
 
 // No case yet, for a job with so many faces: the number of the wind is 0.
 pub(crate) fn nothing_yet(faces: u32) -> Six
-    ensures { λ r. ⌜ ((axis : Axis) (s : Side) → extremeAt axis s r ≡ shown faces none) ⌝ }
+    ensures { λ r. ⌜ ((axis : Axis) (s : Side) → shownIn r axis s ≡ shown faces none) ⌝ }
 {
     let alternative = [0u8; 24];
     let none = Extreme {
@@ -76,7 +77,7 @@ fn kept(side: Side, e: Extreme, total: i64, choice: [u8; 24], wind: u32, interna
 fn both_kept(e: Extremes, total: i64, choice: [u8; 24], wind: u32, internal: u32) -> Extremes
     requires { ⌜ 0 < wind ⌝ }
     ensures { λ r. ⌜ ((s : Side) (n : ℕ) (ks : List ℕ) (b : Best (Case ℕ ℕ ℕ)) → choice ≡ padded 24 ks
-        → Keeps n (sideOf s e) b → Keeps n (sideOf s r) (better s b (at total (caseWith wind internal ks)))) ⌝ }
+        → Keeps n (onSide s e) b → Keeps n (onSide s r) (better s b (at total (caseWith wind internal ks)))) ⌝ }
 {
     let greatest = kept(Side::Greatest, e.greatest, total, choice, wind, internal);
     let least = kept(Side::Least, e.least, total, choice, wind, internal);
@@ -94,8 +95,8 @@ pub(crate) fn with_case(
 ) -> Six
     requires { ⌜ (faces ≤ 24) × (0 < wind) × RowsSmall faces forces ⌝ }
     ensures { λ r. ⌜ ((axis : Axis) (s : Side) (n : ℕ) (ks : List ℕ) (b : Best (Case ℕ ℕ ℕ)) → choice ≡ padded 24 ks
-        → Keeps n (extremeAt axis s six) b
-        → Keeps n (extremeAt axis s r)
+        → Keeps n (shownIn six axis s) b
+        → Keeps n (shownIn r axis s)
         (better s b (at (total (forceIn axis) (rows faces forces) (firstOf 0 faces choice))
         (caseWith wind internal ks)))) ⌝ }
 {

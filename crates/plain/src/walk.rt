@@ -10,7 +10,8 @@ ghost use Rattle.worst.specs.Best.{Best, better};
 ghost use Rattle.worst.specs.Cases.{Case, total};
 ghost use Rattle.worst.specs.Shown.{padded};
 ghost use Rattle.worst.specs.Rows.{rows, forceIn};
-ghost use Rattle.plain.specs.Walked.{walked, extremeAt, Keeps, Underway};
+ghost use Rattle.worst.specs.Worst.{shownIn};
+ghost use Rattle.plain.specs.Walked.{walked, Keeps, Underway};
 use crate::keep::with_case;
 use worst::CellForces;
 use worst::Six;
@@ -27,8 +28,8 @@ pub(crate) fn walk(
 ) -> Six
     requires { ⌜ Underway faces left wind forces ⌝ }
     ensures { λ r. ⌜ ((axis : Axis) (s : Side) (ks : List ℕ) (b : Best (Case ℕ ℕ ℕ)) → choice ≡ padded 24 ks
-        → length ks ≡ faces - left → Keeps faces (extremeAt axis s six) b
-        → Keeps faces (extremeAt axis s r)
+        → length ks ≡ faces - left → Keeps faces (shownIn six axis s) b
+        → Keeps faces (shownIn r axis s)
         (better s b (walked s (total (forceIn axis) (rows faces forces)) wind internal ks
         (drop (faces - left) (rows faces forces))))) ⌝ }
 {

@@ -12,10 +12,10 @@ use Rattle.worst.specs.Best.{Best, better}
 use Rattle.worst.specs.Cases.{Case, numbers}
 use Rattle.worst.specs.Quick.{over}
 use Rattle.worst.specs.Forces.{loads}
-use Rattle.worst.specs.Worst.{given}
+use Rattle.worst.specs.Worst.{given, shownIn}
 use Rattle.worst.specs.Shown.{padded}
 use Rattle.worst.proofs.Better.{better-none, over-after}
-use Rattle.plain.specs.Walked.{extremeAt, Keeps, RowsSmall, cellWalked}
+use Rattle.plain.specs.Walked.{Keeps, RowsSmall, cellWalked}
 use Rattle.worst.proofs.Rows.{ready, internals-counted, cell-is}
 use Rattle.plain.proofs.Rows.{cell-small}
 use Rattle.plain.proofs.EveryCase.{walked-here}
@@ -29,8 +29,8 @@ first axis s j w i = over s (cellWalked s (loads axis (given (carried j))) w) (n
 abbrev Inv-loop : tie.InvT-loop
 Inv-loop job wind faces count all₀ i₀ all i =
     (i ≤ count)
-    × ((axis : Axis) (s : Side) (b : Best (Case ℕ ℕ ℕ)) → Keeps faces (extremeAt axis s all₀) b
-    → Keeps faces (extremeAt axis s all) (better s b (first axis s job wind i)))
+    × ((axis : Axis) (s : Side) (b : Best (Case ℕ ℕ ℕ)) → Keeps faces (shownIn all₀ axis s) b
+    → Keeps faces (shownIn all axis s) (better s b (first axis s job wind i)))
 
 abbrev μ-loop : tie.MeasureT-loop
 μ-loop job wind faces count all₀ i₀ all i = count - i
@@ -84,7 +84,7 @@ loop-again c =
     let to : i d + 1 ≤ j d .internals .count = omega (arith, counted d) in (
       to,
       λ axis s b h.
-          subst (Keeps n (extremeAt axis s (c .walk .result)))
+          subst (Keeps n (shownIn (c .walk .result) axis s))
           (ap (better s (better s b (first axis s (j d) w (i d))))
           (walked-here (j d) t axis s w (i d + 1) (a d .pre .1) (a d .pre .2) from to (k .forces-of .result)
           (k .forces-of .ensures))
@@ -101,7 +101,7 @@ returns c =
     let left = c .loop-test .left in
     let e : l .i ≡ j .internals .count = omega (arith, l .inv .0) in
     λ axis s b h.
-    subst (λ n. Keeps (j .faces .count) (extremeAt axis s (l .all)) (better s b (first axis s j (a .args .wind) n)))
+    subst (λ n. Keeps (j .faces .count) (shownIn (l .all) axis s) (better s b (first axis s j (a .args .wind) n)))
     (e ∙ sym (internals-counted j (a .pre .0))) (l .inv .1 axis s b h)
 
 pub every-internal-spec : {M : Type 1} → statement M

@@ -13,7 +13,8 @@ use Rattle.worst.specs.Cases.{Case, numbers}
 use Rattle.worst.specs.Quick.{over}
 use Rattle.worst.specs.Shown.{shown}
 use Rattle.worst.proofs.Better.{over-next}
-use Rattle.plain.specs.Walked.{extremeAt, Keeps, windWalked}
+use Rattle.worst.specs.Worst.{shownIn}
+use Rattle.plain.specs.Walked.{Keeps, windWalked}
 use Rattle.worst.proofs.Rows.{ready}
 use Rattle.plain.proofs.EveryCase.{extreme-is, six-are}
 use Rattle.plain.proofs.cells.every_wind.Statement.{statement}
@@ -26,7 +27,7 @@ first axis s j w = over s (windWalked axis s (carried j)) (numbers w 1)
 abbrev Inv-loop : tie.InvT-loop
 Inv-loop job winds six₀ w₀ six w =
     (w ≤ winds)
-    × ((axis : Axis) (s : Side) → Keeps (job .faces .count) (extremeAt axis s six) (first axis s job w))
+    × ((axis : Axis) (s : Side) → Keeps (job .faces .count) (shownIn six axis s) (first axis s job w))
 
 abbrev μ-loop : tie.MeasureT-loop
 μ-loop job winds six₀ w₀ six w = winds - w
@@ -59,7 +60,7 @@ loop-again c =
     let t = counted d in (
       omega arith,
       λ axis s.
-          subst (Keeps n (extremeAt axis s (c .every-internal .result)))
+          subst (Keeps n (shownIn (c .every-internal .result) axis s))
           (over-next s (windWalked axis s (carried (j d))) (w d))
           (c .every-internal .ensures axis s (first axis s (j d) (w d)) (d .before .loop .inv .1 axis s)),
     )
@@ -73,7 +74,7 @@ returns c =
     let all : l .w ≡ j .winds .count = omega (arith, l .inv .0) in
     six-are (carried j) (l .six)
     (λ axis s.
-    extreme-is j (a .pre) axis s (extremeAt axis s (l .six))
+    extreme-is j (a .pre) axis s (shownIn (l .six) axis s)
     (l .inv .1 axis s .is ∙ ap (λ n. shown (j .faces .count) (first axis s j n)) all))
 
 pub every-wind-spec : {M : Type 1} → statement M

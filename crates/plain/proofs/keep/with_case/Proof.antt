@@ -14,14 +14,15 @@ use Rattle.worst.specs.Best.{Best, at, better}
 use Rattle.worst.specs.Cases.{Case}
 use Rattle.worst.specs.Shown.{padded}
 use Rattle.worst.proofs.Kept.{every-axis}
-use Rattle.plain.specs.Walked.{caseWith, sideOf, Keeps}
+use Rattle.worst.specs.Worst.{onSide}
+use Rattle.plain.specs.Walked.{caseWith, Keeps}
 use Rattle.plain.proofs.keep.with_case.Statement.{statement}
 use Rattle.plain.proofs.keep.with_case.Tie as tie
 
 -- what is kept at a total
 abbrev With : List ℕ → ℕ → ℕ → Extremes → Extremes → ℤ → Type 0
 With choice w i e r v = (s : Side) (n : ℕ) (ks : List ℕ) (b : Best (Case ℕ ℕ ℕ)) → choice ≡ padded 24 ks
-    → Keeps n (sideOf s e) b → Keeps n (sideOf s r) (better s b (at v (caseWith w i ks)))
+    → Keeps n (onSide s e) b → Keeps n (onSide s r) (better s b (at v (caseWith w i ks)))
 
 -- each total fits
 fits-x : (u : tie.After-struct-told) → SFits w64 (u .before .total .result .x)

@@ -13,7 +13,8 @@ use Rattle.worst.specs.Best.{Best, better}
 use Rattle.worst.specs.Cases.{Case, total}
 use Rattle.worst.specs.Shown.{padded}
 use Rattle.worst.specs.Rows.{rows, forceIn}
-use Rattle.plain.specs.Walked.{walked, extremeAt, Keeps, Underway}
+use Rattle.worst.specs.Worst.{shownIn}
+use Rattle.plain.specs.Walked.{walked, Keeps, Underway}
 use Rattle.plain.proofs.Walks.{turn-end, next-chosen, next-length, turn-one, turn-two}
 use Rattle.plain.proofs.keep.with_case.Reads as with-case-reads
 use Rattle.plain.proofs.walk.walk.Reads as walk
@@ -67,7 +68,7 @@ returns : (t : ℕ) → walk-lts.Need-returns (calls t) (walk-at t) walk.Post
 returns t c axis s ks b chosen long h =
     let n = c .before in
     let a = n .before .args in
-    subst (λ x. Keeps (a .faces) (extremeAt axis s (c .with-case .result)) (better s b x))
+    subst (λ x. Keeps (a .faces) (shownIn (c .with-case .result) axis s) (better s b x))
     (turn-end (a .faces) (a .left) (a .t2) (n .if1 .taken) s (total (forceIn axis) (rows (a .faces) (a .t2))) (a .wind)
     (a .internal) (a .choice) ks chosen long)
     (c .with-case .ensures axis s (a .faces) ks b chosen h)
@@ -86,9 +87,9 @@ module _ (t : ℕ) (c : walk-lts.After-walk (calls t) (walk-at t) walk.Post) whe
   after : (axis : Axis) (s : Side) (ks : List ℕ) (b : Best (Case ℕ ℕ ℕ))
       → a t e .args .choice ≡ padded 24 ks
       → length ks ≡ a t e .args .faces - a t e .args .left
-      → Keeps (a t e .args .faces) (extremeAt axis s (a t e .args .six)) b
+      → Keeps (a t e .args .faces) (shownIn (a t e .args .six) axis s) b
       → let m = a t e .args in
-      Keeps (m .faces) (extremeAt axis s (c .walk .result))
+      Keeps (m .faces) (shownIn (c .walk .result) axis s)
       (better s b
       (walked s (total (forceIn axis) (rows (m .faces) (m .t2))) (m .wind) (m .internal) (ks ++ (1 ∷ []))
       (drop (m .faces - (m .left - 1)) (rows (m .faces) (m .t2)))))
@@ -107,7 +108,7 @@ returns-2 t c axis s ks b chosen long h =
     let u = under t (e t w) in
     let value = total (forceIn axis) (rows (m .faces) (m .t2)) in
     turn-two (m .faces) (m .left) (m .t2) (some t (e t w)) (u .left≤) s value (m .wind) (m .internal) ks
-    (extremeAt axis s (c .walk2 .result)) b (eq-eqb _ 2 (k .if2 .taken))
+    (shownIn (c .walk2 .result) axis s) b (eq-eqb _ 2 (k .if2 .taken))
     (c .walk2 .ensures axis s (ks ++ (2 ∷ [])) _
     (next-chosen (m .faces) (m .left) (m .t2) (some t (e t w)) (u .left≤) (m .choice) ks 2 (u .few) chosen long)
     (next-length (m .faces) (m .left) (m .t2) (some t (e t w)) (u .left≤) ks 2 long)
@@ -119,7 +120,7 @@ returns-3 t c axis s ks b chosen long h =
     let m = a t (e t w) .args in
     turn-one (m .faces) (m .left) (m .t2) (some t (e t w)) (under t (e t w) .left≤) s
     (total (forceIn axis) (rows (m .faces) (m .t2))) (m .wind) (m .internal) ks
-    (extremeAt axis s (w .walk .result)) b (ne-eqb _ 2 (c .if2 .left)) (after t w axis s ks b chosen long h)
+    (shownIn (w .walk .result) axis s) b (ne-eqb _ 2 (c .if2 .left)) (after t w axis s ks b chosen long h)
 
 pub +walk-spec : {M : Type 1} → statement M
 +walk-spec =
