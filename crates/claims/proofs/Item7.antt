@@ -22,7 +22,7 @@ use Rattle.worst.specs.Cases.{Loads, caseTotal}
 use Rattle.worst.specs.Forces.{windAt, loads}
 use Rattle.worst.specs.Worst.{given}
 use Rattle.worst.specs.Stored.{bestChoice, valueOf, storedCells, noCell, counts, storedOf, storedAt, caseOf}
-use Rattle.worst.proofs.Lists.{Between, numbers-member, member-numbers}
+use Rattle.whole.proofs.Numbers.{Between, numbers-member, member-numbers}
 use Rattle.worst.proofs.Members.{cell-bound, cell-reached, cell-permitted}
 use Rattle.worst.proofs.Promises.{some-alternative}
 use Rattle.worst.proofs.JobSums.{own-sum, past-counts}

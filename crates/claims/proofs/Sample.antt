@@ -25,7 +25,8 @@ use Rattle.job.specs.Walk.{walk, readLines}
 use Rattle.sheet.specs.Sheet.{reading}
 use Rattle.worst.specs.Best.{better, best}
 use Rattle.worst.specs.Speed.{factorAt, speedAt}
-use Rattle.worst.specs.Cases.{numbers, each, choices, total, cases, caseTotal, worst}
+use Rattle.whole.specs.Lists.{numbers}
+use Rattle.worst.specs.Cases.{each, choices, total, cases, caseTotal, worst}
 use Rattle.worst.specs.Shown.{padded, shown}
 use Rattle.worst.specs.Worst.{sixExtremes}
 use Rattle.report.specs.Lines.{spaced, extremeText, axisText, sixText}

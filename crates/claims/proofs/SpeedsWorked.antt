@@ -7,7 +7,7 @@ use Prim.Native.Nat.{ℕ}
 use Prim.Native.String.{String, _++_ as _&_}
 use lib.IntN.{ℤ, pos, negℤ}
 use lib.Signed.{_≤ℤ_, leZ-yes, ltZ-yes}
-use Rattle.whole.specs.Lists.{Every}
+use Rattle.whole.specs.Lists.{Every, numbers}
 use Rattle.whole.proofs.Quoted.{bytes}
 use Rattle.whole.specs.Round.{halfUp, roundAway}
 use Rattle.whole.specs.Digits.{allDigits, valueAfter, value}
@@ -39,7 +39,7 @@ use Rattle.worst.specs.declared.Side.the-variants.{Greatest, Least}
 use Rattle.worst.specs.declared.Axis.{Axis}
 use Rattle.worst.specs.declared.Axis.the-variants.{X}
 use Rattle.worst.specs.Best.{short, NoFurther, better, best}
-use Rattle.worst.specs.Cases.{numbers, each, choices, total, cases, caseTotal, worst}
+use Rattle.worst.specs.Cases.{each, choices, total, cases, caseTotal, worst}
 use Rattle.worst.specs.Speed.{factorAt, speedAt}
 use Rattle.worst.specs.Shown.{padded, shown}
 use Rattle.worst.specs.Worst.{extreme}

@@ -23,7 +23,7 @@ use Rattle.worst.specs.Cases.{Permitted, Chosen, Case, total, caseTotal}
 use Rattle.worst.specs.Forces.{acts, alternatives, faceSpeed, pressure, area, force, windAt, internalAt, loads}
 use Rattle.worst.specs.Worst.{given}
 use Rattle.whole.proofs.ByPlace.{getD-all}
-use Rattle.worst.proofs.Lists.{numbers-member}
+use Rattle.whole.proofs.Numbers.{numbers-member}
 use Rattle.claims.specs.Total.{Force, acting, idle, Total, none, face}
 use Rattle.claims.proofs.Question.{clash, minus-values, net-got, net-unique}
 

@@ -21,7 +21,8 @@ use Rattle.worst.specs.declared.CellForces.{CellForces}
 use Rattle.worst.specs.declared.Extreme.{Extreme}
 use Rattle.worst.specs.declared.Six.{Six}
 use Rattle.worst.specs.Best.{none, at}
-use Rattle.worst.specs.Cases.{Loads, numbers, each, choices, total, cases, caseTotal, worst, Chosen}
+use Rattle.whole.specs.Lists.{numbers}
+use Rattle.worst.specs.Cases.{Loads, each, choices, total, cases, caseTotal, worst, Chosen}
 use Rattle.worst.specs.Quick.{over}
 use Rattle.worst.specs.Forces.{Given, acts, outsides, alternatives, force, windAt, internalAt, loads}
 use Rattle.worst.specs.Shown.{shown}

@@ -26,13 +26,14 @@ use Rattle.worst.specs.declared.Extremes.{Extremes}
 use Rattle.worst.specs.declared.Six.{Six}
 use Rattle.worst.specs.declared.Stored.{Stored}
 use Rattle.worst.specs.Best.{at}
-use Rattle.worst.specs.Cases.{Case, numbers, Chosen, Permitted}
+use Rattle.whole.specs.Lists.{numbers}
+use Rattle.worst.specs.Cases.{Case, Chosen, Permitted}
 use Rattle.worst.specs.Forces.{acts, alternatives, windAt, loads}
 use Rattle.worst.specs.Shown.{padded, shown}
 use Rattle.worst.specs.Worst.{given, extreme, sixExtremes}
 use Rattle.worst.specs.Stored.{extremeBy, sixBy}
 use Rattle.whole.proofs.ByPlace.{getD-member}
-use Rattle.worst.proofs.Lists.{Between, numbers-member}
+use Rattle.whole.proofs.Numbers.{Between, numbers-member}
 use Rattle.worst.proofs.Members.{case-permitted}
 use Rattle.worst.proofs.Meaning.{isBest-member}
 use Rattle.worst.proofs.OneFace.{OneOrTwo, alone, pair}

@@ -10,6 +10,7 @@ pub mod Newtons
 pub mod Tests
 pub mod Table
 pub mod Lists
+pub mod Numbers
 pub mod Counting
 pub mod Joined
 pub mod Digits

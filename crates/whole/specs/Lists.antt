@@ -1,4 +1,4 @@
--- Lists: the first so many of one, what holds of each of one, and how many of one have something.
+-- Lists: the first so many of one, what holds of each of one, how many of one have something; and numbers in order.
 use Prim.Native.Nat.{ℕ, zero, suc}
 use mathlib.Core.Bool.{Bool, cond}
 use mathlib.Core.List.{List, [], _∷_}
@@ -13,6 +13,11 @@ firstOf d (suc n) (x ∷ l) = x ∷ firstOf d n l
 abbrev pub Every : {A : Type 0} → (A → Type 0) → List A → Type 0
 Every P [] = Unit
 Every P (x ∷ l) = P x × Every P l
+
+-- n numbers from k on
+unfoldable pub numbers : ℕ → ℕ → List ℕ
+numbers zero k = []
+numbers (suc n) k = k ∷ numbers n (suc k)
 
 -- how many of a list have it
 unfoldable pub howMany : {A : Type 0} → (A → Bool) → List A → ℕ

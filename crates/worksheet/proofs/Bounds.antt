@@ -21,7 +21,7 @@ use Rattle.worst.specs.declared.Axis.{Axis}
 use Rattle.worst.specs.declared.Axis.the-variants.{X, Y, Z}
 use Rattle.worst.specs.declared.Span.{Span}
 use Rattle.worst.specs.declared.StoredCell.{StoredCell}
-use Rattle.worst.specs.Cases.{numbers}
+use Rattle.whole.specs.Lists.{numbers}
 use Rattle.worst.specs.Stored.{storedCells, noCell, cellsOf, noneStored, storedOf, sumsAt}
 use Rattle.worst.specs.Worst.{given}
 use Rattle.worst.proofs.StoredSums.{cells-at, up-to-none}

@@ -26,7 +26,8 @@ use Rattle.worst.specs.declared.Stored.{Stored}
 use Rattle.worst.specs.declared.tops.Top.{Top}
 use Rattle.worst.specs.declared.tops.Ends.{Ends}
 use Rattle.worst.specs.Best.{Best, at, best}
-use Rattle.worst.specs.Cases.{Loads, Case, numbers, worst}
+use Rattle.whole.specs.Lists.{numbers}
+use Rattle.worst.specs.Cases.{Loads, Case, worst}
 use Rattle.worst.specs.Forces.{Given, acts, outsides, factorOf, faceSpeed, pressure, area, windAt}
 use Rattle.worst.specs.Forces.{internalAt, loads}
 use Rattle.worst.specs.Shown.{padded, shown}
@@ -41,7 +42,7 @@ use Rattle.worst.specs.Engine.{windNumbered, internalNumbered, cellWith,
 use Rattle.worst.specs.Engine.{extremeWith, sixOf}
 use Rattle.worst.proofs.Better.{best-over, over-each, over-map, over-same, over-same-in, tagged-over}
 use Rattle.worst.proofs.Quick.{best-choice, worst-cells}
-use Rattle.worst.proofs.Lists.{numbers-member}
+use Rattle.whole.proofs.Numbers.{numbers-member}
 use Rattle.worst.proofs.CarriedFaces.{asCarried, axes-carried, picks-carried}
 use Rattle.worst.proofs.OneFace.{OneOrTwo, face-best, sum-parted}
 

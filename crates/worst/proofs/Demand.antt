@@ -14,7 +14,8 @@ use Rattle.worst.specs.declared.Axis.{Axis}
 use Rattle.entry.specs.declared.Wind.{Wind}
 use Rattle.entry.specs.declared.Face.{Face}
 use Rattle.worst.specs.Best.{NoFurther, at}
-use Rattle.worst.specs.Cases.{Case, numbers, worst}
+use Rattle.whole.specs.Lists.{numbers}
+use Rattle.worst.specs.Cases.{Case, worst}
 use Rattle.job.specs.Carried.{noWind}
 use Rattle.book.specs.Question.{net}
 use Rattle.worst.specs.declared.speeds.Factor.{Factor}
@@ -22,7 +23,7 @@ use Rattle.worst.specs.Speed.{speedAt}
 use Rattle.worst.specs.Forces.{Given, acts, factorOf, faceSpeed, pressure, area, force, windAt, internalAt}
 use Rattle.worst.specs.Forces.{loads}
 use Rattle.whole.proofs.ByPlace.{getD-member, member-getD}
-use Rattle.worst.proofs.Lists.{numbers-member, member-numbers}
+use Rattle.whole.proofs.Numbers.{numbers-member, member-numbers}
 use Rattle.worst.proofs.AtHeight.{speed-rises}
 use Rattle.worst.proofs.Scale.{Raised}
 use Rattle.worst.proofs.Growth.{worst-more, worst-faster}

@@ -10,7 +10,7 @@ use Rattle.worst.specs.declared.Axis.{Axis}
 use Rattle.worst.specs.declared.Stored.{Stored}
 use Rattle.worst.specs.declared.tops.Top.{Top}
 use Rattle.worst.specs.Best.{short, Best, none, at, better}
-use Rattle.worst.specs.Cases.{numbers}
+use Rattle.whole.specs.Lists.{numbers}
 use Rattle.worst.specs.Quick.{over}
 use Rattle.worst.specs.Engine.{Cell, cell, topOf, windBest, bestUpTo}
 use Rattle.worst.specs.Small.{Ready, OnJob}

@@ -28,7 +28,7 @@ use Rattle.worst.specs.Worst.{given, extreme, sixExtremes}
 use Rattle.worst.specs.Stored.{storedCells, bestChoice, valueOf, cellOf, noCell, counts, sumsAt, storedOf}
 use Rattle.worst.specs.Stored.{spanSide, spanOn, storedAt, extremeBy, sixBy}
 use Rattle.worst.specs.Engine.{facesOf, axesOf, axesUnder, cellWith, UpTo}
-use Rattle.worst.proofs.Lists.{numbers-member, member-numbers, at-number}
+use Rattle.whole.proofs.Numbers.{numbers-member, member-numbers, at-number}
 use Rattle.worst.proofs.StoredSums.{cells-at, up-to-more, up-to-all, sums-counted, internal-past, wind-past}
 use Rattle.worst.proofs.AllCells.{WindNumber, InternalNumber, cell-is, own-worst}
 use Rattle.worst.proofs.Accepted.{given-sound, last-reading}

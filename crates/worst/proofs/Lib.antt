@@ -9,7 +9,6 @@ pub mod Scale  -- the pressure number as a factor of a sum
 pub mod Growth  -- more winds, more internal coefficients, faster winds
 pub mod Quick  -- the quick way finds the worst of all cases
 -- ---- numbers and lists as the code has them
-pub mod Lists  -- numbers in order
 pub mod Padded  -- arrays filled from their start
 pub mod StoredSums  -- stored cells
 pub mod ReadBack  -- a signed result read back

@@ -12,7 +12,7 @@ use Rattle.book.specs.Question.{net}
 use Rattle.worst.specs.declared.Side.{Side}
 use Rattle.worst.specs.declared.outside.Outside.{Outside}
 use Rattle.worst.specs.Best.{short, Best, none, at, better, best}
-use Rattle.worst.specs.Cases.{numbers}
+use Rattle.whole.specs.Lists.{numbers}
 use Rattle.worst.specs.Quick.{sum}
 use Rattle.worst.specs.Table.{firstAndLast}
 use Rattle.worst.specs.Engine.{further, which, reach, pick}

@@ -20,7 +20,8 @@ use Rattle.worst.specs.declared.Side.the-variants.{Greatest, Least}
 use Rattle.worst.specs.declared.Axis.{Axis}
 use Rattle.worst.specs.declared.Axis.the-variants.{X, Y, Z}
 use Rattle.worst.specs.Best.{Best, none, at, better, best}
-use Rattle.worst.specs.Cases.{Loads, numbers, total, choices}
+use Rattle.whole.specs.Lists.{numbers}
+use Rattle.worst.specs.Cases.{Loads, total, choices}
 use Rattle.worst.specs.Forces.{Given, acts, outsides, force, windAt, internalAt, loads}
 use Rattle.worst.specs.Worst.{given}
 use Rattle.worst.specs.Stored.{bestChoice, valueOf, cellOf, noCell, counts, sumsAt, spanOn, spanSide}

@@ -3,7 +3,7 @@
 use mathlib.Core.Path.{_≡_, refl, sym, ap, _∙_, fun-ext, subst}
 use mathlib.Core.Bool.{Bool, true, false, cond, _&&_}
 use mathlib.Core.List.{List, [], _∷_, map, map-map, map-append, Memᴰ·map}
-use Prim.Native.Nat.{ℕ, zero, suc, _+_, _-_, _≤_, _<_}
+use Prim.Native.Nat.{ℕ, _+_, _-_, _≤_, _<_}
 use native.Mathlib.Omega.{arith}
 use lib.Dec.{leb}
 use lib.IntN.{ℤ, pos, natAbs, _*ℤ_}
@@ -24,7 +24,8 @@ use Rattle.job.specs.InOrder.{InOrder}
 use Rattle.worst.specs.declared.AxisForces.{AxisForces}
 use Rattle.worst.specs.declared.FaceForces.{FaceForces}
 use Rattle.worst.specs.declared.CellForces.{CellForces}
-use Rattle.worst.specs.Cases.{numbers}
+use Rattle.whole.specs.Lists.{numbers}
+use Rattle.whole.proofs.Numbers.{length-numbers}
 use Rattle.worst.specs.Forces.{Given, acts, factorOf, pressure, outsides, faceSpeed, windAt, internalAt}
 use Rattle.worst.specs.Worst.{given}
 use Rattle.worst.specs.Engine.{facesOf}
@@ -35,11 +36,6 @@ use Rattle.worst.proofs.CarriedFaces.{asCarried, same-factor}
 use Rattle.worst.proofs.Accepted.{given-in-range}
 
 -- ---- one face
-
-pub length-numbers : (n k : ℕ) → length (numbers n k) ≡ n
-unfolding numbers
-length-numbers zero k = refl
-length-numbers (suc n) k = ap suc (length-numbers n (suc k))
 
 module _ (c : Carried) (w : Wind) (internal : ℤ) (f : Face) where
   abbrev outs : List ℤ

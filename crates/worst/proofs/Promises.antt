@@ -18,13 +18,14 @@ use Rattle.worst.specs.declared.Side.{Side}
 use Rattle.worst.specs.declared.Axis.{Axis}
 use Rattle.worst.specs.declared.Stored.{Stored}
 use Rattle.worst.specs.Best.{NoFurther, Best, at, IsBest}
-use Rattle.worst.specs.Cases.{Case, numbers, cases, caseTotal, worst, Permitted}
+use Rattle.whole.specs.Lists.{numbers}
+use Rattle.worst.specs.Cases.{Case, cases, caseTotal, worst, Permitted}
 use Rattle.worst.specs.Forces.{acts, outsides, alternatives, windAt, loads}
 use Rattle.worst.specs.Shown.{shown}
 use Rattle.worst.specs.Worst.{given, extreme}
 use Rattle.worst.specs.Stored.{storedAt, extremeBy}
 use Rattle.whole.proofs.ByPlace.{getD-member}
-use Rattle.worst.proofs.Lists.{Between, numbers-member, member-numbers}
+use Rattle.whole.proofs.Numbers.{Between, numbers-member, member-numbers}
 use Rattle.worst.proofs.Members.{worst-found, worst-is, cell-shown}
 use Rattle.worst.proofs.OneFace.{OneOrTwo, alone, pair}
 use Rattle.worst.proofs.Demand.{SameSite, AllIn, OneFactor, Faster, given-more, given-faster}

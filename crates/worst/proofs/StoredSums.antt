@@ -9,42 +9,21 @@ use lib.Dec.{eqb, ltb}
 use lib.ListN.{length, getD, set, length-map, length-set}
 use lib.Seq.{getD-set-same, getD-set-other}
 use Rattle.whole.proofs.Tests.{by-test}
+use Rattle.whole.specs.Lists.{numbers}
 use Rattle.whole.proofs.Lists.{getD-map}
+use Rattle.whole.proofs.Numbers.{length-numbers, numbers-at, by-places}
 use Rattle.worst.specs.declared.StoredCell.{StoredCell}
-use Rattle.worst.specs.Cases.{numbers}
 use Rattle.worst.specs.Forces.{Given}
 use Rattle.worst.specs.Stored.{storedCells, noCell, cellsOf, cellOf, sumsAt}
 use Rattle.worst.specs.Engine.{UpTo}
 
 -- ---- what stands at a cell
 
-numbers-length : (n k : ℕ) → length (numbers n k) ≡ n
-unfolding numbers
-numbers-length zero k = refl
-numbers-length (suc n) k = ap suc (numbers-length n (suc k))
-
-numbers-at : (n k i d : ℕ) → i < n → getD (numbers n k) i d ≡ k + i
-unfolding numbers
-numbers-at zero k i d h = absurd (omega arith)
-numbers-at (suc n) k zero d h = omega arith
-numbers-at (suc n) k (suc i) d h = omega (arith, numbers-at n (suc k) i d (omega arith))
-
 pub cells-at : (h : ℕ → StoredCell) (k : ℕ) → k < storedCells → getD (cellsOf h .cell) k noCell ≡ h k
 cells-at h k t =
     let e : 0 + k ≡ k = omega arith in
-    getD-map h (numbers storedCells 0) k 0 noCell (omega (arith, numbers-length storedCells 0))
+    getD-map h (numbers storedCells 0) k 0 noCell (omega (arith, length-numbers storedCells 0))
     ∙ ap h (numbers-at storedCells 0 k 0 t ∙ e)
-
--- a list by what stands at each of its places
-by-places : {A : Type 0} (d : A) (h : ℕ → A) (l : List A) (k : ℕ)
-    → ((i : ℕ) → i < length l → getD l i d ≡ h (k + i)) → l ≡ map h (numbers (length l) k)
-unfolding numbers
-by-places d h [] k e = refl
-by-places d h (x ∷ l) k e =
-    let first : k + 0 ≡ k = omega arith in
-    let rest : (i : ℕ) → i < length l → getD l i d ≡ h (suc k + i) =
-    λ i t. let n : k + suc i ≡ suc k + i = omega arith in e (suc i) (omega arith) ∙ ap h n in
-    ap₂ _∷_ (e 0 (omega arith) ∙ ap h first) (by-places d h l (suc k) rest)
 
 pub cells-by : (h : ℕ → StoredCell) (l : List StoredCell) → length l ≡ storedCells
     → ((k : ℕ) → k < storedCells → getD l k noCell ≡ h k) → record { cell = l } ≡ cellsOf h
@@ -55,7 +34,7 @@ cells-by h l e t =
 
 pub cells-same : (h g : ℕ → StoredCell) → ((k : ℕ) → k < storedCells → h k ≡ g k) → cellsOf h ≡ cellsOf g
 cells-same h g e =
-    cells-by g (cellsOf h .cell) (length-map (numbers storedCells 0) h ∙ numbers-length storedCells 0)
+    cells-by g (cellsOf h .cell) (length-map (numbers storedCells 0) h ∙ length-numbers storedCells 0)
     (λ k t. cells-at h k t ∙ e k t)
 
 -- ---- cells stored one after the other
@@ -69,7 +48,7 @@ module _ (size : ℕ) (h : ℕ → StoredCell) where
   pub up-to-none : UpTo size h 0 (map (λ k. noCell) (numbers size 0))
   up-to-none =
       record {
-        all = length-map (numbers size 0) (λ i. noCell) ∙ numbers-length size 0;
+        all = length-map (numbers size 0) (λ i. noCell) ∙ length-numbers size 0;
         stand = λ k t. absurd (omega arith);
         rest = λ k t. none-at noCell (numbers size 0) k;
       }

@@ -6,7 +6,7 @@ use Prim.Native.Nat.{ℕ, _-_, _≤_, _<_}
 use lib.IntN.{ℤ, pos, _+ℤ_, _-ℤ_, _*ℤ_}
 use lib.ListN.{length, getD}
 use lib.Dec.{eqb}
-use Rattle.whole.specs.Lists.{firstOf}
+use Rattle.whole.specs.Lists.{firstOf, numbers}
 use Rattle.building.specs.declared.Building.{Building}
 use Rattle.job.specs.declared.Job.{Job}
 use Rattle.job.specs.declared.Winds.{Winds}
@@ -34,7 +34,6 @@ use Rattle.worst.specs.declared.tops.Top.{Top}
 use Rattle.worst.specs.declared.tops.Tops.{Tops}
 use Rattle.worst.specs.declared.tops.Ends.{Ends}
 use Rattle.worst.specs.Best.{short, Best, none, at}
-use Rattle.worst.specs.Cases.{numbers}
 use Rattle.worst.specs.Speed.{speedAt}
 use Rattle.worst.specs.Forces.{acts, factorOf, pressure, area}
 use Rattle.worst.specs.Factors.{profileOf}

@@ -15,7 +15,8 @@ use Rattle.entry.specs.declared.Face.{Face}
 use Rattle.job.specs.Carried.{noWind}
 use Rattle.entry.specs.Says.{both}
 use Rattle.worst.specs.declared.speeds.Factor.{Factor}
-use Rattle.worst.specs.Cases.{Loads, numbers}
+use Rattle.whole.specs.Lists.{numbers}
+use Rattle.worst.specs.Cases.{Loads}
 use Rattle.worst.specs.Speed.{factorAt, speedAt}
 
 -- what a job gives: of its building the air density, and the outside coefficients of a zone under a direction, in

@@ -21,7 +21,8 @@ use Rattle.worst.specs.declared.Extremes.{Extremes}
 use Rattle.worst.specs.declared.Six.{Six}
 use Rattle.worst.specs.declared.Reckoning.{Reckoning}
 use Rattle.worst.specs.Best.{Best, none, at, best}
-use Rattle.worst.specs.Cases.{Loads, Case, numbers, each, choices, total}
+use Rattle.whole.specs.Lists.{numbers}
+use Rattle.worst.specs.Cases.{Loads, Case, each, choices, total}
 use Rattle.worst.specs.Forces.{Given, loads}
 use Rattle.worst.specs.Shown.{shown}
 use Rattle.worst.specs.Worst.{given, noSix}

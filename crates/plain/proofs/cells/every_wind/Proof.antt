@@ -9,7 +9,8 @@ use Rattle.job.specs.Carried.{carried}
 use Rattle.worst.specs.declared.Axis.{Axis}
 use Rattle.worst.specs.declared.Side.{Side}
 use Rattle.worst.specs.Best.{Best}
-use Rattle.worst.specs.Cases.{Case, numbers}
+use Rattle.whole.specs.Lists.{numbers}
+use Rattle.worst.specs.Cases.{Case}
 use Rattle.worst.specs.Quick.{over}
 use Rattle.worst.specs.Shown.{shown}
 use Rattle.worst.proofs.Better.{over-next}

@@ -1,6 +1,6 @@
 -- `parts::none`: it is computed.
 use mathlib.Core.Path.{refl}
-use Rattle.worst.specs.Cases.{numbers}
+use Rattle.whole.specs.Lists.{numbers}
 use Rattle.worksheet.proofs.parts.none.Statement.{statement}
 use Rattle.worksheet.proofs.parts.none.Tie as tie
 

@@ -9,7 +9,7 @@ use Rattle.worst.specs.declared.Stored.{Stored}
 use Rattle.worst.specs.declared.StoredCell.{StoredCell}
 use Rattle.worst.specs.Stored.{noCell}
 use Rattle.worst.proofs.StoredSums.{cells-by}
-use Rattle.worst.proofs.Lists.{below-next}
+use Rattle.whole.proofs.Numbers.{below-next}
 use Rattle.worksheet.specs.Kept as kept
 use Rattle.worksheet.specs.Kept.{movedCell, cellAt}
 use Rattle.worksheet.proofs.sums.moved.Statement.{statement}

@@ -2,7 +2,7 @@
 use mathlib.Core.Path.{ap}
 use borrow.Author.Needs.{needs}
 use Rattle.worst.specs.declared.StoredCell.{StoredCell}
-use Rattle.worst.specs.Cases.{numbers}
+use Rattle.whole.specs.Lists.{numbers}
 use Rattle.worst.specs.Stored.{cellsOf}
 use Rattle.worst.proofs.cells.none_stored.Statement.{statement}
 use Rattle.worst.proofs.cells.none_stored.Tie as tie

@@ -9,7 +9,7 @@ use lib.ListN.{getD}
 use mir.Syntax.{w64}
 use Rattle.whole.proofs.Size.{Num, num≤, back, bound}
 use Rattle.worst.specs.declared.StoredCell.{StoredCell}
-use Rattle.worst.specs.Cases.{numbers}
+use Rattle.whole.specs.Lists.{numbers}
 use Rattle.worst.specs.Engine.{cellWith, UpTo}
 use Rattle.worst.proofs.StoredSums.{up-to-none, up-to-next}
 use Rattle.worst.proofs.cells.of_wind.Statement.{statement}

@@ -11,11 +11,11 @@ use Rattle.worst.specs.declared.Axis.the-variants.{X, Y, Z}
 use Rattle.worst.specs.declared.Side.{Side}
 use Rattle.worst.specs.declared.tops.Top.{Top}
 use Rattle.worst.specs.Best.{at, better}
-use Rattle.worst.specs.Cases.{numbers}
+use Rattle.whole.specs.Lists.{numbers}
 use Rattle.worst.specs.Quick.{over}
 use Rattle.worst.specs.Stored.{noCell, spanSide, spanOn}
 use Rattle.worst.specs.Engine.{cell, topOf, endOf, topAt, storedBest}
-use Rattle.worst.proofs.Lists.{at-number}
+use Rattle.whole.proofs.Numbers.{at-number}
 use Rattle.worst.proofs.Better.{better-none, over-after}
 use Rattle.worst.proofs.Kept.{every-axis}
 use Rattle.worst.proofs.furthest.over_internals.Statement.{statement}

@@ -6,7 +6,7 @@ use borrow.Author.Needs.{needs}
 use Rattle.worst.specs.declared.Axis.{Axis}
 use Rattle.worst.specs.declared.Side.{Side}
 use Rattle.worst.specs.Best.{better}
-use Rattle.worst.specs.Cases.{numbers}
+use Rattle.whole.specs.Lists.{numbers}
 use Rattle.worst.specs.Quick.{over}
 use Rattle.worst.specs.Engine.{topOf, topAt, windBest, bestUpTo}
 use Rattle.worst.proofs.Better.{over-next}

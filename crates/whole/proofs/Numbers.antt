@@ -1,14 +1,40 @@
--- Numbers in order, by which winds and internal coefficients are gone through.
-use mathlib.Core.Path.{_≡_, sym, ap, _∙_, subst}
+-- Numbers in order: which they are, and what holds of each.
+use mathlib.Core.Path.{_≡_, refl, sym, ap, ap₂, _∙_, subst}
 use mathlib.Core.Logic.{⊎-elim}
-use mathlib.Core.List.{[], _∷_, _++_, List·Memᴰ, List·Memᴰ·head, List·Memᴰ·tail, List·Memᴰ·not-nil}
+use mathlib.Core.List.{List, [], _∷_, _++_, map, List·Memᴰ, List·Memᴰ·head, List·Memᴰ·tail, List·Memᴰ·not-nil}
 use mathlib.Core.List.{List·Memᴰ·cases-cons}
 use Prim.Native.Nat.{ℕ, zero, suc, _+_, _-_, _≤_, _<_}
 use native.Mathlib.Omega.{arith}
 use borrow.Author.Tests.{eqb-true, eqb-false}
 use lib.Dec.{eqb}
+use lib.ListN.{length, getD}
 use Rattle.whole.proofs.Tests.{by-test}
-use Rattle.worst.specs.Cases.{numbers}
+use Rattle.whole.specs.Lists.{numbers}
+
+pub length-numbers : (n k : ℕ) → length (numbers n k) ≡ n
+unfolding numbers
+length-numbers zero k = refl
+length-numbers (suc n) k = ap suc (length-numbers n (suc k))
+
+pub numbers-at : (n k i d : ℕ) → i < n → getD (numbers n k) i d ≡ k + i
+unfolding numbers
+numbers-at zero k i d h = absurd (omega arith)
+numbers-at (suc n) k zero d h = omega arith
+numbers-at (suc n) k (suc i) d h = omega (arith, numbers-at n (suc k) i d (omega arith))
+
+-- a list by what stands at each of its places
+pub by-places : {A : Type 0} (d : A) (h : ℕ → A) (l : List A) (k : ℕ)
+    → ((i : ℕ) → i < length l → getD l i d ≡ h (k + i)) → l ≡ map h (numbers (length l) k)
+unfolding numbers
+by-places d h [] k e = refl
+by-places d h (x ∷ l) k e =
+    let first : k + 0 ≡ k = omega arith in
+    let rest : (i : ℕ) → i < length l → getD l i d ≡ h (suc k + i) =
+    λ i t. let n : k + suc i ≡ suc k + i = omega arith in e (suc i) (omega arith) ∙ ap h n in
+    ap₂ _∷_ (e 0 (omega arith) ∙ ap h first) (by-places d h l (suc k) rest)
+
+pub places : {A : Type 0} (d : A) (l : List A) → l ≡ map (λ i. getD l i d) (numbers (length l) 0)
+places d l = by-places d (λ i. getD l i d) l 0 (λ i h. let e : i ≡ 0 + i = omega arith in ap (λ n. getD l n d) e)
 
 pub record Between (k n w : ℕ) : Type 0 where
   pub low : k ≤ w
