@@ -6,7 +6,7 @@ pub mod Rounding
 pub mod Nearest
 pub mod NoHalf
 pub mod Lowest
-pub mod Newtons
+pub mod Newton
 pub mod Tests
 pub mod Table
 pub mod Lists

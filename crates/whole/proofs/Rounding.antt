@@ -3,13 +3,13 @@
 use mathlib.Core.Path.{_≡_, refl, sym, _∙_, ap}
 use mathlib.Core.Logic.{_⊎_, inl, inr}
 use Prim.Native.Nat.{ℕ, zero, suc, _+_, _-_, _*_, _/_, _%_, _≤_, _<_}
-use native.Mathlib.Nat.{div-eq-of-lt-le, div-le-of-le-mul, mul-le-mul-right, div-add-mod', mod-lt, zero-mul}
+use native.Mathlib.Nat.{div-eq-of-lt-le, div-le-of-le-mul, mul-le-mul-right, div-add-mod', mod-lt, zero-mul, zero-div}
 use native.Mathlib.Omega.{arith}
 use lib.IntN.{ℤ, pos, negsuc, negℤ, natAbs, _+ℤ_, _-ℤ_, _*ℤ_, +ℤ-idl}
-use lib.Signed.{_≤ℤ_, _<ℤ_}
+use lib.Signed.{quotZ, _≤ℤ_, _<ℤ_}
 use Rattle.whole.specs.Round.{halfUp, roundAway, roundDown, leftOver}
 use Rattle.whole.proofs.Parts.{order, add-law, up-neg, down-neg, up-scale, down-scale, le-by, lt-at, eq-by}
-use Rattle.whole.proofs.Parts.{eq-at}
+use Rattle.whole.proofs.Parts.{eq-at, sub-lawℤ}
 use Rattle.whole.proofs.Order.{≤ℤ-or-<ℤ, ≤ℤ-antisym}
 use Rattle.whole.proofs.Size.{div-mono}
 
@@ -90,6 +90,36 @@ down-and-left (negsuc n) d h =
       div-add-mod' n d,
       mod-lt n h,
     ))
+
+quot-neg : (n d : ℕ) → quotZ (negℤ (pos n)) (pos d) -ℤ pos 1 ≡ negsuc (n / d)
+quot-neg zero d = ap (λ (m : ℕ). pos m -ℤ pos 1) (zero-div d) ∙ sym (ap negsuc (zero-div d))
+quot-neg (suc n) d =
+    let m = suc n / d in
+    eq-by _ _ (omega (arith, sub-lawℤ (negℤ (pos m)) (pos 1), up-neg (pos m), down-neg (pos m)))
+
+-- the two branches of code that rounds down, and takes what is left: `quotZ` rounds towards zero
+pub down-below : (z : ℤ) (d : ℕ) → z <ℤ pos 0 → quotZ (z +ℤ pos 1) (pos d) -ℤ pos 1 ≡ roundDown z d
+unfolding roundDown
+down-below (pos n) d h = absurd (omega (arith, order))
+down-below (negsuc n) d h =
+    let e : negsuc n +ℤ pos 1 ≡ negℤ (pos n) =
+    eq-by _ _ (omega (arith, add-law (negsuc n) (pos 1), up-neg (pos n), down-neg (pos n))) in
+    ap (λ (x : ℤ). quotZ x (pos d) -ℤ pos 1) e ∙ quot-neg n d
+
+pub down-above : (z : ℤ) (d : ℕ) → pos 0 ≤ℤ z → quotZ z (pos d) ≡ roundDown z d
+unfolding roundDown
+down-above (pos n) d h = refl
+down-above (negsuc n) d h = absurd (omega (arith, order))
+
+pub left-below : (z : ℤ) (d : ℕ) → z <ℤ pos 0 → d - 1 - (natAbs z - 1) % d ≡ leftOver z d
+unfolding leftOver
+left-below (pos n) d h = absurd (omega (arith, order))
+left-below (negsuc n) d h = let e : suc n - 1 ≡ n = omega arith in ap (λ (m : ℕ). d - 1 - m % d) e
+
+pub left-above : (z : ℤ) (d : ℕ) → pos 0 ≤ℤ z → natAbs z % d ≡ leftOver z d
+unfolding leftOver
+left-above (pos n) d h = refl
+left-above (negsuc n) d h = absurd (omega (arith, order))
 
 -- no other quotient leaves less than the divisor
 quotient-le : (x y : ℤ) (r s d : ℕ) → s < d → x *ℤ pos d +ℤ pos r ≡ y *ℤ pos d +ℤ pos s → x ≤ℤ y
