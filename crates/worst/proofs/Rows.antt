@@ -9,7 +9,7 @@ use native.Mathlib.Omega.{arith}
 use borrow.Author.Tests.{le-leb}
 use lib.IntN.{ℤ, pos}
 use lib.ListN.{length, getD, length-map}
-use Rattle.whole.specs.Lists.{firstOf}
+use Rattle.whole.specs.Lists.{firstOf, numbers}
 use Rattle.whole.proofs.Lists.{firstOf-length, firstOf-getD, firstOf-all, firstOf-fewer, getD-map}
 use Rattle.whole.proofs.ByPlace.{getD-member}
 use Rattle.building.specs.Year.{hasHeights}
@@ -22,7 +22,6 @@ use Rattle.job.specs.Walk.{judged}
 use Rattle.worst.specs.declared.Axis.{Axis}
 use Rattle.worst.specs.declared.Axis.the-variants.{X, Y, Z}
 use Rattle.worst.specs.declared.FaceForces.{FaceForces}
-use Rattle.worst.specs.Cases.{numbers}
 use Rattle.worst.specs.Forces.{Given, acts, outsides, alternatives, force, windAt, internalAt}
 use Rattle.worst.specs.Worst.{given}
 use Rattle.worst.specs.PerFace.{forceOf, faceForces, noFaceForces, cellForces, forcesIn}
