@@ -11,11 +11,12 @@ use lib.IntN.{pos, natAbs}
 use lib.ListN.{length, take, drop, length-append, length-drop, length-map, List·getD-eq-default}
 use lib.Seq.{length-take-le}
 use borrow.Author.Tests.{ltb-true, ltb-false, eqb-true, ne-eqb}
-use Rattle.whole.specs.Lists.{firstOf, Every}
+use Rattle.whole.specs.Lists.{firstOf, takeOut, Every}
 use Rattle.whole.proofs.Tests.{by-test}
 use Rattle.whole.proofs.Lists.{every-by, every-both, every-at, getD-map, map-take, map-drop, firstOf-length}
 use Rattle.whole.proofs.Lists.{firstOf-take, firstOf-getD}
 use Rattle.whole.proofs.Pieces.{every-append, every-first, every-rest, map-append, firstOf-front}
+use Rattle.whole.proofs.TakenOut.{every-takeOut, takeOut-length}
 use Rattle.building.specs.Year.{hasHeights}
 use Rattle.building.proofs.Accepted as range
 use Rattle.rules.specs.declared.Section.the-variants.{F}
@@ -35,7 +36,7 @@ use Rattle.job.proofs.InOrder.{face-line, height-line, within-line, in-order-ac
 use Rattle.job.proofs.Lines.{face-back}
 use Rattle.job.proofs.Years.{later-heights}
 use Rattle.verdict.specs.Verdict.{Refuses}
-use Rattle.edits.specs.Faces.{add, replace, takeOut, facesIn, behind, holding}
+use Rattle.edits.specs.Faces.{add, replace, facesIn, behind, holding}
 use Rattle.edits.specs.Edits.{Edit, Add, Replace, TakeOut, heldJob, newFace, editVerdict, editFaces}
 use Rattle.edits.specs.Edits.{jobWith, editedJob}
 use Rattle.edits.proofs.Counts.{held-in-order, few-faces}
@@ -249,15 +250,9 @@ module _ (j : Job) (o : InOrder (carried j)) where
       let more = not-only j (p .third) in
       let few = few-faces j o in
       let n = natAbs k in
-      let first = length-take-le (n - 1) fs (omega (arith, many, there .to)) in
-      let rest = length-drop n fs in
-      let both = length-append (take (n - 1) fs) (drop n fs) in (
-        record {
-          low = omega (arith, first, rest, both, many, there .from, there .to);
-          high = omega (arith, first, rest, both, many, there .from, there .to, few .1);
-        },
-        every-append Fitting (take (n - 1) fs) (drop n fs) (every-first Fitting (n - 1) fs all)
-            (every-rest Fitting n fs all),
+      let left = takeOut-length n fs (omega (arith, there .from)) (omega (arith, many, there .to)) in (
+        record { low = omega (arith, left, many); high = omega (arith, left, many, few .1) },
+        every-takeOut Fitting n fs all,
       )
 
   pub edited-accepted : (e : Edit) → editVerdict e j .number ≡ 0 → judged (after e) ≡ Accepted (carried (after e))

@@ -2,11 +2,12 @@
 use mathlib.Core.List.{List, [], _∷_, _++_}
 use Prim.Native.Nat.{ℕ, _-_}
 use lib.ListN.{length, take, drop}
+use Rattle.whole.specs.Lists.{takeOut}
 use Rattle.entry.specs.declared.Face.{Face}
 use Rattle.job.specs.declared.Faces.{Faces}
 use Rattle.job.specs.Carried.{noFace}
 
--- ---- the faces themselves, counted from 1
+-- ---- the faces themselves, counted from 1; one is taken out by `takeOut`
 
 -- at the end
 abbrev pub add : Face → List Face → List Face
@@ -15,10 +16,6 @@ add f fs = fs ++ (f ∷ [])
 -- face k
 abbrev pub replace : ℕ → Face → List Face → List Face
 replace k f fs = take (k - 1) fs ++ (f ∷ drop k fs)
-
--- face k: later faces move up
-abbrev pub takeOut : ℕ → List Face → List Face
-takeOut k fs = take (k - 1) fs ++ drop k fs
 
 -- ---- in a record: the faces that count, and the entries behind them
 

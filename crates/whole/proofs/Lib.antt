@@ -22,4 +22,5 @@ pub mod FirstOf
 pub mod ByPlace
 pub mod Moved
 pub mod Pieces
+pub mod TakenOut
 pub mod Products

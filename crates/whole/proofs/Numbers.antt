@@ -36,6 +36,34 @@ by-places d h (x ∷ l) k e =
 pub places : {A : Type 0} (d : A) (l : List A) → l ≡ map (λ i. getD l i d) (numbers (length l) 0)
 places d l = by-places d (λ i. getD l i d) l 0 (λ i h. let e : i ≡ 0 + i = omega arith in ap (λ n. getD l n d) e)
 
+-- the first m, and those after them
+pub numbers-split : (m n k : ℕ) → numbers (m + n) k ≡ numbers m k ++ numbers n (k + m)
+unfolding numbers
+numbers-split zero n k =
+    let e : 0 + n ≡ n = omega arith in
+    let f : k ≡ k + 0 = omega arith in
+    ap₂ numbers e f
+numbers-split (suc m) n k =
+    let e : suc m + n ≡ suc (m + n) = omega arith in
+    let f : suc k + m ≡ k + suc m = omega arith in
+    ap (λ i. numbers i k) e
+    ∙ ap (λ l. k ∷ l) (numbers-split m n (suc k) ∙ ap (λ i. numbers m (suc k) ++ numbers n i) f)
+
+-- numbers that are each moved to their place among others
+pub map-numbers : (f : ℕ → ℕ) (n j k : ℕ) → ((i : ℕ) → i < n → f (j + i) ≡ k + i)
+    → map f (numbers n j) ≡ numbers n k
+unfolding numbers
+map-numbers f zero j k h = refl
+map-numbers f (suc n) j k h =
+    let a : j ≡ j + 0 = omega arith in
+    let b : k + 0 ≡ k = omega arith in
+    ap₂ _∷_ (ap f a ∙ h 0 (omega arith) ∙ b)
+    (map-numbers f n (suc j) (suc k)
+    (λ i l.
+    let c : suc j + i ≡ j + suc i = omega arith in
+    let d : k + suc i ≡ suc k + i = omega arith in
+    ap f c ∙ h (suc i) (omega arith) ∙ d))
+
 pub record Between (k n w : ℕ) : Type 0 where
   pub low : k ≤ w
   pub high : w < k + n

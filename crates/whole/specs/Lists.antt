@@ -1,13 +1,23 @@
--- Lists: the first so many of one, what holds of each of one, how many of one have something; and numbers in order.
-use Prim.Native.Nat.{ℕ, zero, suc}
+-- Lists: the first so many of one, one without one of its entries, what holds of each of one, how many of one have
+-- something; and numbers in order.
+use Prim.Native.Nat.{ℕ, zero, suc, _-_}
 use mathlib.Core.Bool.{Bool, cond}
-use mathlib.Core.List.{List, [], _∷_}
+use mathlib.Core.List.{List, [], _∷_, _++_}
+use lib.Dec.{ltb}
+use lib.ListN.{take, drop}
 
 -- the first n of a list, and d where it has fewer
 unfoldable pub firstOf : {A : Type 0} → A → ℕ → List A → List A
 firstOf d zero l = []
 firstOf d (suc n) [] = d ∷ firstOf d n []
 firstOf d (suc n) (x ∷ l) = x ∷ firstOf d n l
+
+-- a list without its entry k, counted from 1: later ones move up, and the number of each goes down by one
+abbrev pub takeOut : {A : Type 0} → ℕ → List A → List A
+takeOut k l = take (k - 1) l ++ drop k l
+
+abbrev pub renumbered : ℕ → ℕ → ℕ
+renumbered k n = cond (ltb k n) (n - 1) n
 
 -- P holds of each of a list
 abbrev pub Every : {A : Type 0} → (A → Type 0) → List A → Type 0
