@@ -30,6 +30,7 @@ pub mod Accepted  -- what an accepted job gives
 pub mod JobSums  -- the sums of a job
 pub mod Parts  -- stored sums, by the parts of the faces
 pub mod Promises  -- the third demand, for accepted jobs
+pub mod Dropped  -- a wind that no extreme names
 pub mod Reckoned  -- refused, or accepted as what it carries
 pub mod PerFace  -- the forces of each face under a wind and an internal coefficient
 pub mod Rows  -- and these handed over, row by row
