@@ -2,6 +2,7 @@
 // between calls.
 use building::Building;
 use building::Dated;
+use column::Setting;
 use entry::Face;
 use panel::Point;
 use verdict::Verdict;
@@ -19,6 +20,8 @@ ghost use Rattle.plain.specs.Plain.{plainly};
 ghost use Rattle.report.specs.Report.{reportText, storedText};
 ghost use Rattle.edits.specs.Edits.{Add, Replace, TakeOut};
 ghost use Rattle.worksheet.specs.Worksheet.{opened, edited};
+ghost use Rattle.column.specs.Setting.{judgedWith};
+ghost use Rattle.column.specs.Column.{columnVerdict, columnAfter};
 ghost use Rattle.answers.specs.Answers.{hostText, hostCoefficient, hostDouble, hostTotal};
 
 // ---- about a sheet
@@ -131,6 +134,18 @@ pub extern "C" fn aral_write(w: Worksheet, out: &mut [u8]) -> answers::Text
         × (now (out .exit) ≡ jobBuffer sheetText (judged (w .job)) (now (out .entry))) ⌝ }
 {
     answers::text_of(sheet_written::write_sheet(w.job, out))
+}
+
+// ---- a list of faces
+
+// The newton column of a line of the report, for the job of a setting with these faces.
+#[no_mangle]
+pub extern "C" fn aral_column(s: Setting, faces: &[Face], line: i64, column: &mut [i64]) -> Verdict
+    ensures { λ r. ⌜ (r ≡ columnVerdict (judgedWith s (now (faces .entry))) line (now (column .entry)))
+        × (now (column .exit) ≡ columnAfter (judgedWith s (now (faces .entry))) line (now (column .entry))) ⌝ }
+{
+    let listed = column::faces::gather(faces);
+    column::column_in(s, listed, line, column)
 }
 
 // ---- about one place of a building

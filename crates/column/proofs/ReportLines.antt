@@ -1,0 +1,50 @@
+-- A report line is that of an axis and a side, or there is none of its number.
+use mathlib.Core.Path.{_≡_, refl, ap}
+use mathlib.Core.Bool.{Bool, true, false, cond}
+use Prim.Native.Nat.{ℕ}
+use borrow.Author.Tests.{eqb-true}
+use lib.Dec.{eqb}
+use lib.IntN.{ℤ, pos, negsuc}
+use Rattle.verdict.specs.Verdict.{refusal}
+use Rattle.worst.specs.declared.Side.{Side}
+use Rattle.worst.specs.declared.Side.the-variants.{Greatest, Least}
+use Rattle.worst.specs.declared.Axis.{Axis}
+use Rattle.worst.specs.declared.Axis.the-variants.{X, Y, Z}
+use Rattle.worst.specs.declared.Six.{Six}
+use Rattle.worst.specs.Worst.{shownIn, lineNumber}
+use Rattle.answers.specs.declared.Extreme.{Extreme}
+use Rattle.answers.specs.Answers.{noHostExtreme, hostExtreme, reportLine, hostLine}
+use Rattle.column.specs.Column.{axisOf}
+
+pub data Told (six : Six) (line : ℤ) : Extreme → Type 0 where
+  one : (axis : Axis) (side : Side) → line ≡ pos (lineNumber axis side)
+      → Told six line (hostExtreme (shownIn six axis side))
+  none : Told six line (noHostExtreme (refusal 3 0))
+
+pub line-told : (six : Six) (line : ℤ) → Told six line (hostLine six line)
+unfolding reportLine
+line-told six (negsuc n) = none
+line-told six (pos n) =
+    pick 1 (is X Greatest) (pick 2 (is X Least) (pick 3 (is Y Greatest) (pick 4 (is Y Least) (pick 5 (is Z Greatest)
+    (pick 6 (is Z Least) none)))))
+  where
+    is : (axis : Axis) (side : Side) → n ≡ lineNumber axis side
+        → Told six (pos n) (hostExtreme (shownIn six axis side))
+    is axis side e = one axis side (ap (λ k. pos k) e)
+
+    pick : (k : ℕ) {x y : Extreme} → (n ≡ k → Told six (pos n) x) → Told six (pos n) y
+        → Told six (pos n) (cond (eqb n k) x y)
+    pick k {x} {y} this that = go (eqb n k) refl
+      where
+        go : (t : Bool) → eqb n k ≡ t → Told six (pos n) (cond t x y)
+        go true e = this (eqb-true n k e)
+        go false e = that
+
+-- and its axis is that of the line
+pub axis-told : (axis : Axis) (side : Side) → axisOf (pos (lineNumber axis side)) ≡ axis
+axis-told X Greatest = refl
+axis-told X Least = refl
+axis-told Y Greatest = refl
+axis-told Y Least = refl
+axis-told Z Greatest = refl
+axis-told Z Least = refl

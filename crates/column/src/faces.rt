@@ -1,0 +1,74 @@
+// The faces of a lent list, as a job's record holds them.
+ghost use mathlib.Core.Path.{_≡_};
+ghost use Prim.Native.Nat.{min, _<_};
+ghost use lib.ListN.{length, getD};
+ghost use Rattle.job.specs.Carried.{noFace};
+ghost use Rattle.column.specs.Listed.{noFaces, withOne, listed};
+use entry::Face;
+use job::Faces;
+
+// A record has room for so many.
+const MOST_FACES: u32 = 24;
+
+// One face of the list.
+fn face_at(faces: &[Face], i: usize) -> Face
+    requires { ⌜ i < length (now faces) ⌝ }
+    ensures { λ r. ⌜ r ≡ getD (now (faces .entry)) i noFace ⌝ }
+{
+    faces[i]
+}
+
+fn none() -> Faces
+    ensures { λ r. ⌜ r ≡ noFaces ⌝ }
+{
+    let f = Face {
+        zone: 0,
+        mark: 0,
+        height: 0,
+        x: 0,
+        y: 0,
+        z: 0,
+    };
+    let entry = [f; 24];
+    Faces { count: 0, entry }
+}
+
+// One face more. One that finds no room is counted the first time, and not kept.
+fn put(faces: Faces, f: Face) -> Faces
+    ensures { λ r. ⌜ r ≡ withOne faces f ⌝ }
+{
+    let mut all = faces;
+    let count = all.count;
+    if count < MOST_FACES {
+        let i = count as usize;
+        all.entry[i] = f;
+        all.count = count + 1;
+        return all;
+    }
+    all.count = MOST_FACES + 1;
+    all
+}
+
+// How many of n faces tell all that a record says of them.
+fn telling(n: usize) -> usize
+    ensures { λ r. ⌜ r ≡ min n 25 ⌝ }
+{
+    if n < 25 {
+        return n;
+    }
+    25
+}
+
+// All that a record says of the faces. Of a list that is longer it reads one more than there is room for.
+pub fn gather(faces: &[Face]) -> Faces
+    ensures { λ r. ⌜ r ≡ listed (now (faces .entry)) ⌝ }
+{
+    let n = telling(faces.len());
+    let mut all = none();
+    let mut i: usize = 0;
+    while i < n {
+        all = put(all, face_at(faces, i));
+        i += 1;
+    }
+    all
+}

@@ -1,0 +1,66 @@
+// The force of each face in the case of a report line.
+ghost use mathlib.Core.Path.{_≡_};
+ghost use Prim.Native.Nat.{_≤_};
+ghost use lib.IntN.{pos};
+ghost use Rattle.whole.specs.Lists.{firstOf};
+ghost use Rattle.worst.specs.Rows.{rows, alongAxis, forceIn};
+ghost use Rattle.column.specs.Column.{atChoice, axisOf};
+use worst::Axis;
+use worst::AxisForces;
+use worst::CellForces;
+use worst::FaceForces;
+
+// In the order of the faces, with zeros past the last.
+pub(crate) struct Forces {
+    pub(crate) face: [i64; 24],
+}
+
+pub(crate) fn axis_of(line: i64) -> Axis
+    ensures { λ r. ⌜ r ≡ axisOf line ⌝ }
+{
+    if line < 3 {
+        return Axis::X;
+    }
+    if line < 5 {
+        return Axis::Y;
+    }
+    Axis::Z
+}
+
+fn along(axis: Axis, f: AxisForces) -> i64
+    ensures { λ r. ⌜ r ≡ alongAxis axis f ⌝ }
+{
+    match axis {
+        Axis::X => f.x,
+        Axis::Y => f.y,
+        Axis::Z => f.z,
+    }
+}
+
+// The force of one face at its alternative k.
+fn force_at(axis: Axis, f: FaceForces, k: u8) -> i64
+    ensures { λ r. ⌜ r ≡ forceIn axis f k ⌝ }
+{
+    if k == 1 {
+        return along(axis, f.first);
+    }
+    along(axis, f.last)
+}
+
+// Of so many faces, each at its alternative.
+pub(crate) fn at_choice(axis: Axis, forces: CellForces, alternative: [u8; 24], faces: usize) -> Forces
+    requires { ⌜ faces ≤ 24 ⌝ }
+    ensures { λ r. ⌜ r .face ≡ firstOf (pos 0) 24 (atChoice (forceIn axis) (rows faces forces)
+        (firstOf 0 faces alternative)) ⌝ }
+{
+    let mut all = Forces { face: [0i64; 24] };
+    let mut i = 0;
+    while i < faces {
+        let f = forces.face[i];
+        let k = alternative[i];
+        let one = force_at(axis, f, k);
+        all.face[i] = one;
+        i += 1;
+    }
+    all
+}

@@ -1,0 +1,84 @@
+// The newton column of a job for one line of its report: whole newtons for each face that add up to the line's total,
+// rounded down. The faces may come as a lent list.
+ghost use mathlib.Core.Path.{_≡_};
+ghost use Rattle.page.specs.Writing.{bufferAfter};
+ghost use Rattle.job.specs.Carried.{carried};
+ghost use Rattle.job.specs.Walk.{judged};
+ghost use Rattle.worst.specs.Worst.{sixExtremes};
+ghost use Rattle.worst.specs.Rows.{Taken};
+ghost use Rattle.answers.specs.Answers.{hostLine};
+ghost use Rattle.sharing.specs.Column.{column, sharing};
+ghost use Rattle.column.specs.Column.{forcesOn, columnVerdict, columnAfter};
+ghost use Rattle.column.specs.Setting.{jobWith};
+use answers::Extreme;
+use building::Building;
+use job::Faces;
+use job::Internals;
+use job::Job;
+use job::Profile;
+use job::Winds;
+use verdict::Verdict;
+
+pub mod faces; // the faces of a lent list
+mod forces; // the force of each face in the case of a line
+
+// All of a job but its faces.
+#[repr(C)]
+pub struct Setting {
+    pub year: i64,
+    pub building: Building,
+    pub winds: Winds,
+    pub internals: Internals,
+    pub profile: Profile,
+}
+
+// The newtons of the faces, in the case that a line shows.
+fn share_case(job: Job, line: i64, shown: Extreme, list: &mut [i64]) -> Verdict
+    requires { ⌜ Taken job × (shown ≡ hostLine (sixExtremes (carried job)) line) × (shown .verdict .number ≡ 0) ⌝ }
+    ensures { λ r. ⌜ (r ≡ sharing (forcesOn line (judged job)) (now (list .entry)))
+        × (now (list .exit) ≡ bufferAfter (column (forcesOn line (judged job))) (now (list .entry))) ⌝ }
+{
+    let cell = worst::forces_of(job, shown.wind, shown.internal);
+    let axis = forces::axis_of(line);
+    let count = job.faces.count as usize;
+    let alternative = shown.alternative;
+    let all = forces::at_choice(axis, cell, alternative, count);
+    let own = all.face;
+    sharing::share(&own[..count], list)
+}
+
+// The column of a job, at the start of the list.
+pub fn column_of(job: Job, line: i64, list: &mut [i64]) -> Verdict
+    ensures { λ r. ⌜ (r ≡ columnVerdict (judged job) line (now (list .entry)))
+        × (now (list .exit) ≡ columnAfter (judged job) line (now (list .entry))) ⌝ }
+{
+    let w = worst::worst_cases(job);
+    if w.verdict.number != 0 {
+        return w.verdict;
+    }
+    let shown = answers::line_of(w.six, line);
+    if shown.verdict.number != 0 {
+        return shown.verdict;
+    }
+    share_case(job, line, shown, list)
+}
+
+// Of a setting with faces as a record.
+pub fn column_in(s: Setting, faces: Faces, line: i64, list: &mut [i64]) -> Verdict
+    ensures { λ r. ⌜ (r ≡ columnVerdict (judged (jobWith s faces)) line (now (list .entry)))
+        × (now (list .exit) ≡ columnAfter (judged (jobWith s faces)) line (now (list .entry))) ⌝ }
+{
+    let building = s.building;
+    let winds = s.winds;
+    let internals = s.internals;
+    let profile = s.profile;
+    let job = Job {
+        year: s.year,
+        building,
+        winds,
+        internals,
+        profile,
+        faces,
+    };
+    column_of(job, line, list)
+}
