@@ -12,6 +12,7 @@ pub mod Item4
 pub mod Item6
 pub mod Item7
 pub mod Item8
+pub mod Item11
 pub mod Item12
 pub mod Printed
 pub mod RowsWorked

@@ -8,4 +8,5 @@ pub mod Edit
 pub mod Sums
 pub mod Total
 pub mod Shown
+pub mod Dropped
 pub mod Doubles
