@@ -4,10 +4,13 @@
 -- sources.
 pub use Rattle.whole.proofs.magnitude.Reads as magnitude
 pub use Rattle.whole.proofs.common_divisor.Reads as common-divisor
+pub use Rattle.whole.proofs.newtons.Reads as newtons
+pub use Rattle.whole.proofs.remainder.Reads as remainder
 pub use Rattle.verdict.proofs.or_then.Reads as or-then
 pub use Rattle.page.proofs.put_byte.Reads as put-byte
 pub use Rattle.page.proofs.put_bytes.Reads as put-bytes
 pub use Rattle.page.proofs.emit.Reads as emit
+pub use Rattle.sharing.proofs.share.Reads as share
 pub use Rattle.digits.proofs.put_natural.Reads as put-natural
 pub use Rattle.digits.proofs.put_decimal.Reads as put-decimal
 pub use Rattle.digits.proofs.write_decimal.Reads as write-decimal

@@ -26,6 +26,12 @@ magnitude-determined κ a r r′ s s′ p q = same p q
 common-divisor-determined : OneAnswer of.common-divisor.Post
 common-divisor-determined κ a r r′ s s′ p q = same p q
 
+newtons-determined : OneAnswer of.newtons.Post
+newtons-determined κ a r r′ s s′ p q = same p q
+
+remainder-determined : OneAnswer of.remainder.Post
+remainder-determined κ a r r′ s s′ p q = same p q
+
 -- ---- verdict
 
 or-then-determined : OneAnswer of.or-then.Post
@@ -41,6 +47,11 @@ put-bytes-determined κ a r r′ s s′ p q = same-put p q
 
 emit-determined : OneAnswerAndBuffer of.emit.Post (λ κ s. now (s .1 .1 .0))
 emit-determined κ a r r′ s s′ p q = same-both p q
+
+-- ---- sharing
+
+share-determined : OneAnswerAndBuffer of.share.Post (λ κ s. now (s .1 .0))
+share-determined κ a r r′ s s′ p q = same-both p q
 
 -- ---- text
 

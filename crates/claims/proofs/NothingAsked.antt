@@ -10,6 +10,12 @@ magnitude-asks κ a = tt
 common-divisor-asks : AsksNothing of.common-divisor.Asked
 common-divisor-asks κ a = tt
 
+newtons-asks : AsksNothing of.newtons.Asked
+newtons-asks κ a = tt
+
+remainder-asks : AsksNothing of.remainder.Asked
+remainder-asks κ a = tt
+
 -- ---- verdict
 
 or-then-asks : AsksNothing of.or-then.Asked
@@ -25,6 +31,11 @@ put-bytes-asks κ a = tt
 
 emit-asks : AsksNothing of.emit.Asked
 emit-asks κ a = tt
+
+-- ---- sharing
+
+share-asks : AsksNothing of.share.Asked
+share-asks κ a = tt
 
 -- ---- text
 

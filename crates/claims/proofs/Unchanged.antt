@@ -6,13 +6,17 @@ use mathlib.Core.List.{List, _++_}
 use Prim.Native.Nat.{ℕ}
 use denote.Ref.{now}
 use lib.Dec.{leb}
+use lib.IntN.{ℤ}
 use lib.ListN.{length, take, drop}
 use Rattle.claims.specs.Contract.{RefusedUnchanged, IsRefused}
 use Rattle.claims.proofs.Contracts as of
-use Rattle.verdict.specs.Verdict.{refusal, Refuses}
+use Rattle.verdict.specs.declared.Verdict.{Verdict}
+use Rattle.verdict.specs.Verdict.{accepted, refusal, Refuses}
 use Rattle.page.specs.declared.Writing.{Writing}
 use Rattle.page.specs.declared.Writing.the-variants as written
 use Rattle.page.specs.Writing.{writing, bufferAfter}
+use Rattle.sharing.specs.Column.{column, sharing}
+use Rattle.sharing.proofs.Entries.{column-length}
 use Rattle.whole.specs.Digits.{decimal}
 use Rattle.job.specs.Carried.{Carried}
 use Rattle.job.specs.Walk.{Reading, Accepted, Refused, judged}
@@ -51,11 +55,28 @@ host-refused : {t : Text} (w : Writing) → t ≡ hostText w → Refuses (t .ver
 host-refused (written.Length n) e h = absurd (h (ap (λ x. x .verdict .number) e))
 host-refused (written.Refused v) e h = tt
 
+-- a column of newtons goes into a list of signed numbers
+share-kept : (fs old : List ℤ) {r : Verdict} {after : List ℤ}
+    → (r ≡ sharing fs old) × (after ≡ bufferAfter (column fs) old) → Refuses r → after ≡ old
+share-kept fs old p h =
+    p .1 ∙ ap (λ n. laid (leb n (length old))) (column-length fs)
+    ∙ go (leb (length fs) (length old)) (subst Refuses (p .0) h)
+  where
+    laid : Bool → List ℤ
+    laid t = cond t (column fs ++ drop (length (column fs)) old) old
+
+    go : (t : Bool) → Refuses (cond t accepted (refusal 7 0)) → laid t ≡ old
+    go true h = absurd (h refl)
+    go false h = refl
+
 -- ---- the list
 
 emit-unchanged : RefusedUnchanged of.emit.Post (λ κ r. IsRefused r) (λ κ a. now (a .1 .1 .0))
     (λ κ s. now (s .1 .1 .0))
 emit-unchanged κ a r s p h = text-kept (take (a .1 .0) (now (a .0))) (now (a .1 .1 .0)) p h
+
+share-unchanged : RefusedUnchanged of.share.Post (λ κ r. Refuses r) (λ κ a. now (a .1 .0)) (λ κ s. now (s .1 .0))
+share-unchanged κ a r s p h = share-kept (now (a .0)) (now (a .1 .0)) p h
 
 write-decimal-unchanged : RefusedUnchanged of.write-decimal.Post (λ κ r. IsRefused r) (λ κ a. now (a .1 .0))
     (λ κ s. now (s .1 .0))

@@ -1,8 +1,6 @@
 -- What is asked of a contract: that it asks nothing of its caller, that it leaves no choice, that a refused call
 -- changes nothing, and what whatever it allows must be.
 use mathlib.Core.Path.{_≡_}
-use mathlib.Core.List.{List}
-use Prim.Native.Nat.{ℕ}
 use Rattle.page.specs.declared.Writing.{Writing}
 use Rattle.page.specs.declared.Writing.the-variants.{Length, Refused}
 
@@ -29,7 +27,7 @@ module _ {L : Type 0} {A R S : L → Type 0} (Post : (κ : L) → A κ → R κ 
 
   -- where a call is refused, what the lent buffer holds after it is what it held before; `refused` tells it by the
   -- result
-  abbrev pub RefusedUnchanged : ((κ : L) → R κ → Type 0) → ((κ : L) → A κ → List ℕ) → ((κ : L) → S κ → List ℕ)
+  abbrev pub RefusedUnchanged : {B : Type 0} → ((κ : L) → R κ → Type 0) → ((κ : L) → A κ → B) → ((κ : L) → S κ → B)
       → Type 0
   RefusedUnchanged refused before after = Always (λ κ a r s. refused κ r → after κ s ≡ before κ a)
 
