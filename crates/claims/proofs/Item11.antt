@@ -11,10 +11,9 @@ use Rattle.job.proofs.InOrder.{in-order-accepted}
 use Rattle.whole.specs.Lists.{takeOut}
 use Rattle.worst.specs.declared.Six.{Six}
 use Rattle.worst.specs.declared.Reckoning.{Reckoning}
-use Rattle.worst.specs.Worst.{reckoned, worstOf}
+use Rattle.worst.specs.Worst.{shownIn, reckoned, worstOf}
 use Rattle.worst.proofs.Dropped.{dropped-extreme, dropped-in-order}
 use Rattle.claims.specs.Contract.{Always}
-use Rattle.claims.specs.Shown.{shownIn}
 use Rattle.claims.specs.Dropped.{WindTakenOut, Unnamed, renumberedExtreme, SameButNumbers}
 use Rattle.claims.proofs.Contracts as of
 use Rattle.claims.proofs.Accepted.{job-in-order, six-is, one-is}

@@ -8,7 +8,7 @@ use Rattle.worst.specs.declared.Side.{Side}
 use Rattle.worst.specs.declared.Axis.{Axis}
 use Rattle.worst.specs.declared.Extreme.{Extreme}
 use Rattle.worst.specs.declared.Six.{Six}
-use Rattle.claims.specs.Shown.{shownIn}
+use Rattle.worst.specs.Worst.{shownIn}
 
 -- d is c without its wind k, counted from 1, which is one of two or more
 pub record WindTakenOut (k : ℕ) (c d : Carried) : Type 0 where
