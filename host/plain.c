@@ -1,6 +1,6 @@
 /* The plain calculator: an ordinary C program for the same entry points, written from the papers alone. It shares no
    code and no table with the proved crates, so that where the two differ one of them misread the papers.
-   Worksheets are in plain_edits.c. */
+   Worksheets are in plain_edits.c, the column in plain_column.c. */
 #include "plain.h"
 #include "step.h"
 #include <string.h>
@@ -718,6 +718,23 @@ aral_text ENTRY(report_by)(const uint8_t *sheet, size_t n, const aral_sums *sums
     w.length = 0;
     put_report(&w, &j, &found);
     return hand_over(&w, out, room);
+}
+
+/* ---- The forces of a column ---- */
+
+void ENTRY(forces)(const uint8_t *sheet, size_t n, int64_t line, int64_t force[ARAL_FACES_MOST])
+{
+    job j;
+    worst found;
+    if (read_job(sheet, n, &j).number) return;
+    find_worst(&j, &found);
+    int k = (int)line - 1;
+    const best *b = &found.best[k];
+    for (int i = 0; i < j.faces; i++) {
+        const offer *o = &found.offer[i][turn_of(j.direction[b->wind])];
+        int net = o->count == 0 ? 0 : o->value[alternative(&j, &found, k, i) - 1] - 10 * j.internal[b->internal];
+        force[i] = net * found.weight[b->wind][i][k / 2];
+    }
 }
 
 /* ---- The entry points ---- */

@@ -1,5 +1,5 @@
 /* The entry points of the plain calculator: those of aralimogga.h, under another prefix. Worksheets are in
-   plain_edits.c, all others in plain.c. */
+   plain_edits.c, the column in plain_column.c, all others in plain.c. */
 #ifndef PLAIN_H
 #define PLAIN_H
 
@@ -17,6 +17,7 @@ aral_text plain_rewrite(const uint8_t *sheet, size_t n, uint8_t *out, size_t roo
 aral_text plain_report(const uint8_t *sheet, size_t n, uint8_t *out, size_t room);
 aral_text plain_plain(const uint8_t *sheet, size_t n, uint8_t *out, size_t room);
 aral_extreme plain_total(const uint8_t *sheet, size_t n, int64_t line);
+aral_answer plain_column(aral_setting s, const aral_face *faces, size_t n, int64_t line, int64_t *column, size_t room);
 aral_text plain_digits(int64_t number, uint8_t *out, size_t room);
 aral_coefficient plain_outside(int64_t year, int64_t h, int64_t a, int64_t b, int64_t density, int64_t kind, int64_t x,
                                int64_t direction, uint8_t place);
@@ -35,5 +36,8 @@ aral_point plain_chart(int64_t x, int64_t y, int64_t z);
    those of its faces or not. */
 aral_sums ENTRY(add_up)(const uint8_t *sheet, size_t n);
 aral_text ENTRY(report_by)(const uint8_t *sheet, size_t n, const aral_sums *sums, uint8_t *out, size_t room);
+
+/* For plain_column.c: the force of each face in the case that a report line of an accepted sheet names, in units. */
+void ENTRY(forces)(const uint8_t *sheet, size_t n, int64_t line, int64_t force[ARAL_FACES_MOST]);
 
 #endif

@@ -13,7 +13,7 @@
    4       h/b is over 6, or a/b is under 1 or over 4; in years 1 and 2 also where a/b is 1
    5       the roof number x is outside its kind's range
    6       the zone or local is not on this building; on one with roof kind 6 also a wall in another wind than 0 and 90
-   7       the lent buffer is too short (line 0)
+   7       the lent buffer or column is too short (line 0)
    8       the face's height is outside the profile
    9       there is no such face to be edited (line 0)
    10      more than 8 faces have two alternatives under at least one of the job's winds (line 0); by aral_plain alone
@@ -31,8 +31,9 @@
    `line` is the sheet's line, counted from 1: the first faulty line, and in it the lowest number. It is 0 where
    no line is at fault. The sheet is bytes, not a C string: a zero byte is a byte like another, and none ends it.
 
-   What a caller owes: a pointer and its length name bytes that may be read (`sheet`) or written (`out`), the two do
-   not overlap, and no other thread writes them during the call. Where the length is 0 the pointer may be null. */
+   What a caller owes: a pointer and its length name bytes or entries that may be read (`sheet`, `faces`) or written
+   (`out`, `column`), the two do not overlap, and no other thread writes them during the call. Where the length is 0 the
+   pointer may be null. */
 #ifndef ARALIMOGGA_H
 #define ARALIMOGGA_H
 
@@ -44,8 +45,8 @@ extern "C" {
 #endif
 
 /* The version of these shapes: it rises where a record or a call changes. 2: a coefficient names its rows. 3: a
-   question names its year. 4: worksheets. 5: a worksheet keeps its sums. 6: the plain engine. */
-#define ARAL_VERSION 6
+   question names its year. 4: worksheets. 5: a worksheet keeps its sums. 6: the plain engine. 7: newton columns. */
+#define ARAL_VERSION 7
 
 /* The refusals by name. */
 enum {
@@ -133,6 +134,15 @@ typedef struct {
     aral_faces faces;
 } aral_job;
 
+/* A job without its faces. */
+typedef struct {
+    int64_t year;
+    aral_building building;
+    aral_winds winds;
+    aral_internals internals;
+    aral_profile profile;
+} aral_setting;
+
 /* For each wind and internal coefficient, both counted from 0, cell[4 * wind + internal] has on each axis the greatest
    and the least total over every choice of the faces' alternatives, in the units of aral_extreme. Cells past the counts
    are no part of the sums. */
@@ -176,6 +186,17 @@ aral_text aral_plain(const uint8_t *sheet, size_t n, uint8_t *out, size_t room);
 /* Reads a sheet and answers one line of its report as numbers: line 1 is `x max`, 2 `x min`, to 6 `z min`.
    Refuses with 1 to 6 or 8 and the sheet's line as aral_read does; then with 3, line 0, for another report line. */
 aral_extreme aral_total(const uint8_t *sheet, size_t n, int64_t line);
+
+/* Shares out the total of one report line, named 1 to 6 as for aral_total, as whole newtons for each face. The job is
+   the setting with the n faces of the lent list, in their order.
+   In the case that the line names, each face gets its own force rounded down, towards minus infinity, to whole newtons
+   of 20,000,000,000 units. The newtons that are still missing to the total rounded down go one each to the faces with
+   the largest remainders, the earlier face first where equal. So column[0] to column[n - 1], face by face, add up to
+   the total rounded down, and each is less than 1 N from the face's force. Entries from column[n] on stay as they were.
+   Refuses, in this order: the job, with the number and line that its sheet would get, as for a worksheet: no face, or
+   more than 24, is 2 at the line of section F's count; another report line with 3, line 0; a column of `room` entries
+   that is shorter than the faces with 7, line 0. A refused call changes no entry of the column. */
+aral_answer aral_column(aral_setting s, const aral_face *faces, size_t n, int64_t line, int64_t *column, size_t room);
 
 /* Writes the decimal digits of any number, most significant first, after a `-` where it is negative.
    Refuses only with 7, line 0, where the text is longer than `room`. The buffer as for aral_rewrite.
