@@ -1,9 +1,11 @@
 /* aral: the calculator on the command line, for people. It links libaralimogga.a and reckons nothing itself: where it
-   shows each case it adds up the faces' forces. */
+   shows each case, or a column, it adds up the faces' forces. */
 #include "aralimogga.h"
 #include "cases.h"
 #include "edit.h"
+#include "handout.h"
 #include "rows.h"
+#include "winds.h"
 #include "words.h"
 #include <errno.h>
 #include <inttypes.h>
@@ -15,9 +17,12 @@ static const char help[] =
     "aral: the forces of wind on a building, by the tables of ROM 0.4-95\n"
     "\n"
     "  aral totals FILE   the six worst totals: axis, max or min, total, wind, internal, each face's alternative\n"
-    "  aral check FILE    whether the sheet is accepted, and if not, which line is wrong and what it may say\n"
+    "  aral check FILE    whether the sheet is accepted, and if not, which line is wrong and what it may say;\n"
+    "                     of an accepted one also which of its winds change nothing\n"
     "  aral plain FILE    the same six lines by the plain engine, which walks every case, and how many there were\n"
     "  aral plain --cases FILE   each of these cases, with its totals on x, y and z\n"
+    "  aral column FILE LINE     whole newtons for each face that add up to the total of one line, for the handout;\n"
+    "                            LINE is 1 to 6, or as the line begins: aral column FILE x max\n"
     "  aral panel FILE    the six totals in newtons, and the doubles that a panel shows for them\n"
     "  aral edit FILE     faces added, replaced and taken out line by line, with the six totals after each;\n"
     "                     its `help` says how, and its lines may come through a pipe\n"
@@ -85,6 +90,7 @@ static int check(void)
         return REFUSED;
     }
     describe(sheet, length);
+    tell_unnamed_winds(sheet, length);
     return ACCEPTED;
 }
 
@@ -103,7 +109,6 @@ static void print_newtons(int64_t total)
 
 static int panel(void)
 {
-    static const char *const name[] = {"x max", "x min", "y max", "y min", "z max", "z min"};
     for (int line = 1; line <= 6; line++) {
         aral_extreme e = aral_total(sheet, length, line);
         if (e.number) {
@@ -111,7 +116,7 @@ static int panel(void)
             return REFUSED;
         }
         aral_double d = aral_panel(e.total);
-        printf("%s ", name[line - 1]);
+        printf("%s ", line_name(line));
         print_newtons(e.total);
         if (d.exact) printf("   exactly %.0f units", d.low);
         else printf("   between %.0f and %.0f units", d.low, d.high);
@@ -124,16 +129,47 @@ static int panel(void)
     return ACCEPTED;
 }
 
-/* ---- Questions ---- */
-
-enum { YEAR, H, A, B, KIND, X, WIND, DENSITY, INTERNAL, NUMBERS };
-typedef struct { int64_t number[NUMBERS]; int given[NUMBERS]; uint8_t place; } question;
+/* ---- Words ---- */
 
 static int misused(const char *what, const char *word)
 {
     fprintf(stderr, "aral: %s %s; `aral help` shows how\n", what, word);
     return MISUSED;
 }
+
+/* Whether the word is a whole number, and which. */
+static int whole(const char *word, int64_t *number)
+{
+    char *end = "";
+    errno = 0;
+    *number = strtoll(word, &end, 10);
+    return end > word && !*end && !errno;
+}
+
+/* ---- Columns ---- */
+
+/* A line by its number or by its name, which is one word or two; any whole number, since the library refuses others. */
+static int line_of(int count, char **word, int64_t *line)
+{
+    char said[16];
+    if (count == 1 && whole(word[0], line)) return 1;
+    snprintf(said, sizeof said, count == 1 ? "%s" : "%s %s", word[0], word[count - 1]);
+    for (*line = 1; *line <= 6; ++*line)
+        if (!strcmp(said, line_name(*line))) return 1;
+    return 0;
+}
+
+static int column(const char *file, int count, char **word)
+{
+    int64_t line;
+    if (!line_of(count, word, &line)) return misused("not a line 1 to 6, or `x max` to `z min`:", word[0]);
+    return load(file) ? show_column(sheet, length, line) : MISUSED;
+}
+
+/* ---- Questions ---- */
+
+enum { YEAR, H, A, B, KIND, X, WIND, DENSITY, INTERNAL, NUMBERS };
+typedef struct { int64_t number[NUMBERS]; int given[NUMBERS]; uint8_t place; } question;
 
 static uint8_t place_of(const char *kind, const char *word)
 {
@@ -147,7 +183,6 @@ static int take_words(int count, char **word, question *q)
     static const char *const name[] = {"year", "h", "a", "b", "kind", "x", "wind", "density", "internal"};
     for (int i = 0; i < count; i += 2) {
         int k = 0;
-        char *end = "";
         if (i + 1 == count) return misused("nothing stands after", word[i]);
         if (!strcmp(word[i], "zone") || !strcmp(word[i], "local")) {
             q->place = place_of(word[i], word[i + 1]);
@@ -156,9 +191,7 @@ static int take_words(int count, char **word, question *q)
         }
         while (k < NUMBERS && strcmp(word[i], name[k])) k++;
         if (k == NUMBERS) return misused("not a word of a question:", word[i]);
-        errno = 0;
-        q->number[k] = strtoll(word[i + 1], &end, 10);
-        if (end == word[i + 1] || *end || errno) return misused("not a whole number:", word[i + 1]);
+        if (!whole(word[i + 1], &q->number[k])) return misused("not a whole number:", word[i + 1]);
         q->given[k] = 1;
     }
     for (int k = H; k <= WIND; k++)
@@ -294,6 +327,7 @@ int main(int argc, char **argv)
     if (argc >= 2 && !strcmp(argv[1], "ask")) return ask(argc - 2, argv + 2);
     if (argc == 3 && !strcmp(argv[1], "edit") && !strcmp(argv[2], "-"))
         return misused("standard input has the lines of the dialogue, and the sheet can't be", "-");
+    if ((argc == 4 || argc == 5) && !strcmp(argv[1], "column")) return column(argv[2], argc - 3, argv + 3);
     int each = argc > 2 && !strcmp(argv[1], "plain") && !strcmp(argv[2], "--cases");
     if (each && argc == 4) return load(argv[3]) ? show_cases(sheet, length) : MISUSED;
     for (size_t i = 0; argc == 3 && !each && i < sizeof command / sizeof *command; i++)

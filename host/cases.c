@@ -1,6 +1,7 @@
 /* Shows the plain engine at work: its six lines, how many cases it walked, and each case by itself. Every number comes
    from the library; what is done here is to name the cases in order and to add up the forces of their faces. */
 #include "cases.h"
+#include "alone.h"
 #include "aralimogga.h"
 #include "edit.h"
 #include "words.h"
@@ -44,8 +45,8 @@ static void explain_choosing(void)
     for (uint32_t i = 0; i < job.faces.count; i++)
         if (chooses(i)) face[count++] = i + 1;
     printf("refused with %d: more faces with two alternatives than the plain engine takes\n\n", ARAL_CASES);
-    printf("%u faces have two alternatives under at least one of the winds:", count);
-    for (uint32_t i = 0; i < count; i++) printf("%s %u", i == 0 ? "" : i + 1 < count ? "," : " and", face[i]);
+    printf("%u faces have two alternatives under at least one of the winds: ", count);
+    print_list(face, count);
     printf(".\n");
     printf("The plain engine takes at most %d such faces: it walks every case, and each of them doubles the cases.\n",
            ARAL_CHOICES_MOST);
@@ -108,16 +109,10 @@ typedef struct { uint32_t count; int64_t force[2][3]; } part;
    other has the same force. */
 static part part_of(uint32_t wind, uint32_t internal, uint32_t face)
 {
-    uint8_t sheet[ARAL_SHEET_MOST];
-    aral_worksheet one = {.job = job};
     part p = {.count = alternatives(wind, face)};
-    one.job.winds = (aral_winds){1, {job.winds.entry[wind]}};
-    one.job.internals = (aral_internals){1, {job.internals.entry[internal]}};
-    one.job.faces = (aral_faces){1, {job.faces.entry[face]}};
-    size_t length = aral_write(one, sheet, sizeof sheet).length;
+    aral_job one = alone(&job, wind, internal, face);
     for (int axis = 0; axis < 3; axis++) {
-        aral_extreme greatest = aral_total(sheet, length, 2 * axis + 1);
-        aral_extreme least = aral_total(sheet, length, 2 * axis + 2);
+        aral_extreme greatest = total_of(&one, 2 * axis + 1), least = total_of(&one, 2 * axis + 2);
         p.force[0][axis] = p.force[1][axis] = greatest.total;
         p.force[least.alternative[0] - 1][axis] = least.total;
     }

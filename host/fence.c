@@ -38,7 +38,7 @@ static void touched(int number, siginfo_t *info, void *context)
     (void)number;
     (void)context;
     if (around(output, info->si_addr)) fail("a page beside the buffer was touched");
-    if (around(input, info->si_addr)) fail("a page beside the sheet was touched, or the sheet written to");
+    if (around(input, info->si_addr)) fail("a page beside what was lent to be read was touched, or that written to");
     fail("memory was touched that was not lent");
 }
 

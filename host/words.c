@@ -422,6 +422,8 @@ void explain(const uint8_t *sheet, size_t n, aral_answer refusal)
     printf(".\n");
 }
 
+/* ---- What an accepted sheet holds ---- */
+
 static void describe_profile(const uint8_t *sheet, size_t n)
 {
     uint32_t opens = opening_of(sheet, n, P_COUNT), count = count_at(sheet, n, opens);
@@ -449,4 +451,17 @@ void describe(const uint8_t *sheet, size_t n)
     if (value[4] == 6)
         printf("Its winds may be %s; walls add nothing under 45, 135 and 180, where the book has none.\n", winds_of(6));
     if (later_year(sheet, n)) describe_profile(sheet, n);
+}
+
+/* ---- Shared words ---- */
+
+const char *line_name(int64_t line)
+{
+    static const char *const name[] = {"x max", "x min", "y max", "y min", "z max", "z min"};
+    return name[line - 1];
+}
+
+void print_list(const uint32_t *number, uint32_t count)
+{
+    for (uint32_t i = 0; i < count; i++) printf("%s%u", i == 0 ? "" : i + 1 < count ? ", " : " and ", number[i]);
 }

@@ -1,4 +1,4 @@
-/* What a refusal means, in words for a first-year student (words.c). */
+/* What a refusal means, in words for a first-year student, and words that the commands share (words.c). */
 #ifndef WORDS_H
 #define WORDS_H
 
@@ -19,5 +19,11 @@ const char *zones_of(int64_t kind);
 /* Whether a roof of this kind has the wind direction, and those that it has, as `0 or 90`. */
 int has_wind(int64_t kind, int64_t direction);
 const char *winds_of(int64_t kind);
+
+/* What a line of the report is called, 1 to 6: `x max` to `z min`. */
+const char *line_name(int64_t line);
+
+/* Numbers as `2, 5 and 6`, printed. */
+void print_list(const uint32_t *number, uint32_t count);
 
 #endif

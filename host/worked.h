@@ -18,13 +18,16 @@ typedef struct {
     aral_edited (*take_out)(aral_worksheet, int64_t);
     aral_text (*show)(aral_worksheet, uint8_t *, size_t);
     aral_text (*write)(aral_worksheet, uint8_t *, size_t);
+    aral_answer (*column)(aral_setting, const aral_face *, size_t, int64_t, int64_t *, size_t);
 } calculator;
 
 /* Counts the case, and says which does not hold. */
 void expect(const calculator *c, const char *what, int holds);
 
-/* The worked edits (worked_edits.c), and the worked cases of the plain engine (worked_engine.c). */
+/* The worked edits (worked_edits.c), and the worked cases of the plain engine (worked_engine.c) and of the newton column
+   (worked_column.c). */
 void check_edits(const calculator *c);
 void check_engine(const calculator *c);
+void check_newtons(const calculator *c);
 
 #endif
