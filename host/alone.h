@@ -1,4 +1,4 @@
-/* A job cut down to one wind, one internal coefficient and one face: its totals are the forces of that face (alone.c). */
+/* A job cut down to one wind, one internal coefficient and one face: its totals are that face's forces (alone.c). */
 #ifndef ALONE_H
 #define ALONE_H
 

@@ -148,21 +148,21 @@ static int whole(const char *word, int64_t *number)
 
 /* ---- Columns ---- */
 
-/* A line by its number or by its name, which is one word or two; any whole number, since the library refuses others. */
-static int line_of(int count, char **word, int64_t *line)
+/* A line by its name or its number: any whole one, since the library refuses those that are no line's. */
+static int line_of(const char *said, int64_t *line)
 {
-    char said[16];
-    if (count == 1 && whole(word[0], line)) return 1;
-    snprintf(said, sizeof said, count == 1 ? "%s" : "%s %s", word[0], word[count - 1]);
     for (*line = 1; *line <= 6; ++*line)
         if (!strcmp(said, line_name(*line))) return 1;
-    return 0;
+    return whole(said, line);
 }
 
+/* The line is said in one word or two. */
 static int column(const char *file, int count, char **word)
 {
+    char said[40];
     int64_t line;
-    if (!line_of(count, word, &line)) return misused("not a line 1 to 6, or `x max` to `z min`:", word[0]);
+    snprintf(said, sizeof said, count == 1 ? "%s" : "%s %s", word[0], word[count - 1]);
+    if (!line_of(said, &line)) return misused("not a line 1 to 6, or `x max` to `z min`:", said);
     return load(file) ? show_column(sheet, length, line) : MISUSED;
 }
 

@@ -68,7 +68,7 @@ static int64_t force_of(const aral_job *j, const aral_extreme *e, size_t face, i
     return total_of(&one, line).total;
 }
 
-/* Where one face got a newton more and another did not, the first one's remainder is larger, or as large and earlier. */
+/* Where one face got a newton more and another did not, its remainder is larger, or as large and the face earlier. */
 static void check_sharing(const list *l, int64_t line, const int64_t *more, const int64_t *remainder)
 {
     int tied = 0;

@@ -2,7 +2,6 @@
    case must stay, with later winds numbered one lower. It stops where they do not. */
 #include "aralimogga.h"
 #include "sheets.h"
-#include <inttypes.h>
 #include <stdio.h>
 #include <stdlib.h>
 #include <string.h>

@@ -72,11 +72,11 @@ static void tell_missing(int64_t missing)
 {
     if (missing == 0) printf("\nRounded down, the forces add up to the total rounded down: no newton is missing.\n");
     else if (missing == 1)
-        printf("\nRounded down, the forces add up to 1 N less than the total rounded down. It goes to the face with the\n"
-               "largest remainder, marked +1; of equal remainders to that of the earlier face.\n");
+        printf("\nRounded down, the forces add up to 1 N less than the total rounded down. It goes to the face\n"
+               "with the largest remainder, marked +1; of equal ones to that of the earlier face.\n");
     else
-        printf("\nRounded down, the forces add up to %" PRId64 " N less than the total rounded down. These go one each to\n"
-               "the faces with the largest remainders, marked +1; of equal remainders to that of the earlier face.\n",
+        printf("\nRounded down, the forces add up to %" PRId64 " N less than the total rounded down. They go one each\n"
+               "to the faces with the largest remainders, marked +1; of equal ones to that of the earlier face.\n",
                missing);
 }
 
@@ -84,8 +84,8 @@ static void tell_missing(int64_t missing)
 static int refuse(const uint8_t *sheet, size_t n, aral_answer answer, int64_t line)
 {
     if (answer.line) explain(sheet, n, answer);
-    else printf("refused with %u: there is no report line %" PRId64 "; they are 1 (%s) to 6 (%s)\n", answer.number, line,
-                line_name(1), line_name(6));
+    else printf("refused with %u: there is no report line %" PRId64 "; they are 1 (%s) to 6 (%s)\n", answer.number,
+                line, line_name(1), line_name(6));
     return REFUSED;
 }
 

@@ -24,8 +24,8 @@ typedef struct {
 /* Counts the case, and says which does not hold. */
 void expect(const calculator *c, const char *what, int holds);
 
-/* The worked edits (worked_edits.c), and the worked cases of the plain engine (worked_engine.c) and of the newton column
-   (worked_column.c). */
+/* The worked edits (worked_edits.c), and the worked cases of the plain engine (worked_engine.c) and of the newton
+   column (worked_column.c). */
 void check_edits(const calculator *c);
 void check_engine(const calculator *c);
 void check_newtons(const calculator *c);
