@@ -9,11 +9,11 @@
 #include "aralimogga.h"
 #include "plain.h"
 #include "records.h"
+#include "seconds.h"
 #include "sheets.h"
 #include <stdio.h>
 #include <stdlib.h>
 #include <string.h>
-#include <time.h>
 
 enum { SHEETS = 6, SPARES = 25 }; /* no number of faces divides 25, so that each place gets one after another */
 static struct { unsigned long edits; int faces, shown; } wanted;
@@ -76,13 +76,6 @@ static aral_text show(const held *w, uint8_t *out, size_t room) { return aral_sh
 
 static held worksheet[SHEETS];
 static aral_face spare[SHEETS][SPARES];
-
-static double seconds(void)
-{
-    struct timespec t;
-    clock_gettime(CLOCK_PROCESS_CPUTIME_ID, &t);
-    return (double)t.tv_sec + (double)t.tv_nsec / 1e9;
-}
 
 static void make_worksheets(void)
 {

@@ -8,20 +8,13 @@
 #define _POSIX_C_SOURCE 199309L
 #include "aralimogga.h"
 #include "plain.h"
+#include "seconds.h"
 #include "sheets.h"
 #include <stdio.h>
 #include <stdlib.h>
 #include <string.h>
-#include <time.h>
 
 typedef aral_text reports(const uint8_t *, size_t, uint8_t *, size_t);
-
-static double seconds(void)
-{
-    struct timespec t;
-    clock_gettime(CLOCK_PROCESS_CPUTIME_ID, &t);
-    return (double)t.tv_sec + (double)t.tv_nsec / 1e9;
-}
 
 static reports *named(const char *which)
 {
