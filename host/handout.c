@@ -15,18 +15,17 @@
 /* A line of the table: a force, what it is rounded down and what remains, and the newtons of the column. */
 typedef struct { int64_t force, down, remainder, newtons; } entry;
 
-/* The column of an accepted job. */
-static void column_of(const aral_job *j, int64_t line, int64_t column[ARAL_FACES_MOST])
+static aral_answer newtons_of(const aral_job *j, int64_t line, int64_t column[ARAL_FACES_MOST])
 {
-    aral_column(setting_of(j), j->faces.entry, j->faces.count, line, column, ARAL_FACES_MOST);
+    return aral_column(setting_of(j), j->faces.entry, j->faces.count, line, column, ARAL_FACES_MOST);
 }
 
 static entry entry_of(const aral_job *j, const aral_extreme *e, int64_t line, uint32_t face, int64_t newtons)
 {
-    int64_t down[ARAL_FACES_MOST];
+    int64_t down[ARAL_FACES_MOST] = {0};
     aral_job one = alone(j, e->wind - 1, e->internal - 1, face);
     int64_t force = total_of(&one, line).total;
-    column_of(&one, line, down);
+    newtons_of(&one, line, down);
     return (entry){force, down[0], force - NEWTON * down[0], newtons};
 }
 
@@ -92,11 +91,13 @@ static int refuse(const uint8_t *sheet, size_t n, aral_answer answer, int64_t li
 int show_column(const uint8_t *sheet, size_t n, int64_t line)
 {
     int64_t column[ARAL_FACES_MOST];
+    aral_edited opened = aral_open(sheet, n);
+    const aral_job *j = &opened.worksheet.job;
+    aral_answer answer = {opened.number, opened.line};
+    if (!answer.number) answer = newtons_of(j, line, column);
+    if (answer.number) return refuse(sheet, n, answer, line);
     aral_extreme e = aral_total(sheet, n, line);
-    if (e.number) return refuse(sheet, n, (aral_answer){e.number, e.line}, line);
-    aral_job j = aral_open(sheet, n).worksheet.job;
-    column_of(&j, line, column);
-    print_heading(&j, &e, line);
-    tell_missing(print_table(&j, &e, line, column));
+    print_heading(j, &e, line);
+    tell_missing(print_table(j, &e, line, column));
     return ACCEPTED;
 }
