@@ -8,6 +8,7 @@ pub mod Members  -- which cases there are
 pub mod Scale  -- the pressure number as a factor of a sum
 pub mod Growth  -- more winds, more internal coefficients, faster winds
 pub mod Quick  -- the quick way finds the worst of all cases
+pub mod Without  -- a wind that the worst case does not have, left out
 -- ---- numbers and lists as the code has them
 pub mod Padded  -- arrays filled from their start
 pub mod StoredSums  -- stored cells
