@@ -91,10 +91,14 @@ pub use Rattle.answers.proofs.coefficient_of.Reads as coefficient-of
 pub use Rattle.answers.proofs.double_of.Reads as double-of
 pub use Rattle.answers.proofs.no_extreme.Reads as no-extreme
 pub use Rattle.answers.proofs.line_of.Reads as line-of
+pub use Rattle.column.proofs.column_of.Reads as column-of
+pub use Rattle.column.proofs.column_in.Reads as column-in
+pub use Rattle.claims.proofs.LentFaces as gather
 pub use Rattle.aralimogga.proofs.aral_read.Reads as aral-read
 pub use Rattle.aralimogga.proofs.aral_rewrite.Reads as aral-rewrite
 pub use Rattle.aralimogga.proofs.aral_report.Reads as aral-report
 pub use Rattle.aralimogga.proofs.aral_plain.Reads as aral-plain
+pub use Rattle.claims.proofs.LentColumn as aral-column
 pub use Rattle.aralimogga.proofs.aral_total.Reads as aral-total
 pub use Rattle.aralimogga.proofs.aral_open.Reads as aral-open
 pub use Rattle.aralimogga.proofs.aral_add.Reads as aral-add

@@ -10,9 +10,7 @@ use Rattle.job.specs.Carried.{Carried}
 use Rattle.job.specs.Walk.{Accepted, judged}
 use Rattle.sheet.specs.Sheet.{reading, jobWriting}
 use Rattle.worst.specs.declared.Side.{Side}
-use Rattle.worst.specs.declared.Side.the-variants.{Greatest, Least}
 use Rattle.worst.specs.declared.Axis.{Axis}
-use Rattle.worst.specs.declared.Axis.the-variants.{X, Y, Z}
 use Rattle.worst.specs.declared.Extreme.{Extreme}
 use Rattle.worst.specs.declared.Reckoning.{Reckoning}
 use Rattle.worst.specs.Best.{NoFurther}
@@ -20,11 +18,12 @@ use Rattle.worst.specs.Cases.{Permitted, Loads, Case, cases}
 use Rattle.worst.specs.Worst.{extreme, sixExtremes, shownIn, lineNumber, worstOf}
 use Rattle.worst.proofs.Members.{case-permitted, permitted-case}
 use Rattle.report.specs.Report.{reportText}
-use Rattle.answers.specs.Answers.{hostText, hostExtreme, reportLine, hostLine, hostTotal}
+use Rattle.answers.specs.Answers.{hostText, hostExtreme, hostLine, hostTotal}
 use Rattle.claims.specs.Contract.{Always}
 use Rattle.claims.specs.Shown.{Shows, ShowsSix, Reported, More, Faster, OneSpeed}
 use Rattle.claims.proofs.Contracts as of
-use Rattle.claims.proofs.Accepted.{job-in-order, sheet-in-order, six-is, one-is}
+use Rattle.claims.proofs.Accepted.{job-in-order, sheet-in-order, six-is}
+use Rattle.column.proofs.ReportLines.{line-is, one-is}
 use Rattle.claims.proofs.Shown as shown
 
 -- ---- the statements
@@ -90,17 +89,6 @@ pub shows-worst : ShowsWorst
 shows-worst κ a r s p c e =
     subst (ShowsSix c) (sym (six-of (a .0) p c e)) (shown.six-shown c (job-in-order (a .0) c e))
 
--- a line of the report is its extreme
-line-is : (c : Carried) (axis : Axis) (side : Side)
-    → reportLine (sixExtremes c) (lineNumber axis side) ≡ hostExtreme (shownIn (sixExtremes c) axis side)
-unfolding reportLine
-line-is c X Greatest = refl
-line-is c X Least = refl
-line-is c Y Greatest = refl
-line-is c Y Least = refl
-line-is c Z Greatest = refl
-line-is c Z Least = refl
-
 pub reports-worst : ReportsWorst
 reports-worst =
     record {
@@ -116,7 +104,7 @@ reports-worst =
           let shows = shown.six-shown c (sheet-in-order (now (a .0)) c e) axis side in (
             shownIn six axis side,
             shows,
-            p ∙ ap (λ x. hostTotal x (a .1 .0)) e ∙ ap (hostLine six) n ∙ line-is c axis side,
+            p ∙ ap (λ x. hostTotal x (a .1 .0)) e ∙ ap (hostLine six) n ∙ line-is six axis side,
           );
     }
 

@@ -332,6 +332,17 @@ replace-determined κ a r r′ s s′ p q = same p q
 take-out-determined : OneAnswer of.take-out.Post
 take-out-determined κ a r r′ s s′ p q = same p q
 
+-- ---- column
+
+column-of-determined : OneAnswerAndBuffer of.column-of.Post (λ κ s. now (s .1 .1 .0))
+column-of-determined κ a r r′ s s′ p q = same-both p q
+
+column-in-determined : OneAnswerAndBuffer of.column-in.Post (λ κ s. now (s .1 .1 .1 .0))
+column-in-determined κ a r r′ s s′ p q = same-both p q
+
+gather-determined : OneAnswer of.gather.Post
+gather-determined κ a r r′ s s′ p q = same p q
+
 -- ---- aralimogga
 
 aral-read-determined : OneAnswer of.aral-read.Post
@@ -345,6 +356,9 @@ aral-report-determined κ a r r′ s s′ p q = same-both p q
 
 aral-plain-determined : OneAnswerAndBuffer of.aral-plain.Post (λ κ s. now (s .1 .0))
 aral-plain-determined κ a r r′ s s′ p q = same-both p q
+
+aral-column-determined : OneAnswerAndBuffer of.aral-column.Post (λ κ s. now (s .1 .1 .1 .0))
+aral-column-determined κ a r r′ s s′ p q = same-both p q
 
 aral-total-determined : OneAnswer of.aral-total.Post
 aral-total-determined κ a r r′ s s′ p q = same p q

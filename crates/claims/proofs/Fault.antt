@@ -41,6 +41,12 @@ module _ (xs : List (List Field)) where
   either r (in-order d none) = inl none
   either r (faulty n i f) = inr (_, at f)
 
+  pub lines-faulty : {v : Verdict} → Faulty xs v → readLines xs ≡ Refused v
+  lines-faulty f = faulty-answer (readLines xs) (lines-answer xs) f
+
+  pub lines-faultless : Faultless xs → (c : Carried) × (readLines xs ≡ Accepted c)
+  lines-faultless f = faultless-answer (readLines xs) (lines-answer xs) f
+
   pub faultless-or-faulty : Faultless xs ⊎ ((v : Verdict) × Faulty xs v)
   faultless-or-faulty = either (readLines xs) (lines-answer xs)
 
@@ -48,11 +54,11 @@ module _ (xs : List (List Field)) where
 
 pub sheet-faulty : (s : List ℕ) {v : Verdict} → Faulty (linesIn s) v → reading s ≡ Refused v
 unfolding reading
-sheet-faulty s f = faulty-answer (linesIn s) (readLines (linesIn s)) (lines-answer (linesIn s)) f
+sheet-faulty s f = lines-faulty (linesIn s) f
 
 pub sheet-faultless : (s : List ℕ) → Faultless (linesIn s) → (c : Carried) × (reading s ≡ Accepted c)
 unfolding reading
-sheet-faultless s f = faultless-answer (linesIn s) (readLines (linesIn s)) (lines-answer (linesIn s)) f
+sheet-faultless s f = lines-faultless (linesIn s) f
 
 pub sheet-accepted : (s : List ℕ) (c : Carried) → reading s ≡ Accepted c
     → Faultless (linesIn s) × (linesOf c ≡ linesIn s)
@@ -63,12 +69,12 @@ sheet-accepted s c e =
 module _ (j : Job) where
   pub job-faulty : {v : Verdict} → Faulty (linesOf (carried j)) v → judged j ≡ Refused v
   unfolding judged
-  job-faulty f = faulty-answer (linesOf (carried j)) (judged j) (lines-answer (linesOf (carried j))) f
+  job-faulty f = lines-faulty (linesOf (carried j)) f
 
   pub job-faultless : Faultless (linesOf (carried j)) → judged j ≡ Accepted (carried j)
   unfolding judged
   job-faultless f =
-      let r = faultless-answer (linesOf (carried j)) (judged j) (lines-answer (linesOf (carried j))) f in
+      let r = lines-faultless (linesOf (carried j)) f in
       r .1 ∙ ap Accepted (judged-carried j (r .0) (r .1))
 
   pub job-accepted : (c : Carried) → judged j ≡ Accepted c → Faultless (linesOf (carried j)) × (c ≡ carried j)

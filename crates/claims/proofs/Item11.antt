@@ -16,7 +16,8 @@ use Rattle.worst.proofs.Dropped.{dropped-extreme, dropped-in-order}
 use Rattle.claims.specs.Contract.{Always}
 use Rattle.claims.specs.Dropped.{WindTakenOut, Unnamed, renumberedExtreme, SameButNumbers}
 use Rattle.claims.proofs.Contracts as of
-use Rattle.claims.proofs.Accepted.{job-in-order, six-is, one-is}
+use Rattle.claims.proofs.Accepted.{job-in-order, six-is}
+use Rattle.column.proofs.ReportLines.{one-is}
 use Rattle.claims.proofs.Item8.{same-six-lines}
 
 -- ---- the statements

@@ -12,6 +12,7 @@ pub mod Item4
 pub mod Item6
 pub mod Item7
 pub mod Item8
+pub mod Item9
 pub mod Item11
 pub mod Item12
 pub mod Printed
@@ -19,6 +20,8 @@ pub mod RowsWorked
 pub mod Sample
 pub mod SpeedsWorked
 -- ---- the lists, with a line for each public function
+pub mod LentColumn
+pub mod LentFaces
 pub mod Contracts
 pub mod NothingAsked
 pub mod Determined

@@ -315,6 +315,17 @@ replace-asks κ a = tt
 take-out-asks : AsksNothing of.take-out.Asked
 take-out-asks κ a = tt
 
+-- ---- column
+
+column-of-asks : AsksNothing of.column-of.Asked
+column-of-asks κ a = tt
+
+column-in-asks : AsksNothing of.column-in.Asked
+column-in-asks κ a = tt
+
+gather-asks : AsksNothing of.gather.Asked
+gather-asks κ a = tt
+
 -- ---- aralimogga
 
 aral-read-asks : AsksNothing of.aral-read.Asked
@@ -328,6 +339,9 @@ aral-report-asks κ a = tt
 
 aral-plain-asks : AsksNothing of.aral-plain.Asked
 aral-plain-asks κ a = tt
+
+aral-column-asks : AsksNothing of.aral-column.Asked
+aral-column-asks κ a = tt
 
 aral-total-asks : AsksNothing of.aral-total.Asked
 aral-total-asks κ a = tt

@@ -6,7 +6,7 @@ use mathlib.Core.List.{List, [], _∷_, List·Memᴰ, List·Memᴰ·head, List·
 use mathlib.Core.List.{List·Memᴰ·cases-cons}
 use native.Mathlib.Omega.{arith}
 use Prim.Native.Nat.{ℕ, _≤_, _<_}
-use lib.IntN.{ℤ, pos, natAbs}
+use lib.IntN.{pos, natAbs}
 use lib.ListN.{getD}
 use lib.Signed.{_<ℤ_, leZ-yes}
 use Rattle.whole.specs.Lists.{Every}
@@ -48,14 +48,14 @@ use Rattle.claims.specs.Shown.{Shows, ShowsSix, Reported, Includes, More
 use Rattle.claims.specs.Shown.{OneSpeed}
 use Rattle.claims.specs.Shown as faster
 use Rattle.claims.specs.Written.{Written}
-use Rattle.claims.proofs.Accepted.{one-is}
+use Rattle.column.proofs.ReportLines.{one-is}
 use Rattle.claims.proofs.Written.{text-written, written-unique}
 use Rattle.claims.proofs.Again.{job-written}
 
 -- ---- one extreme
 
 module _ (c : Carried) (axis : Axis) (side : Side) where
-  extreme-is-shown : InOrder c → Shows c axis side (extreme axis side c)
+  unfoldable pub extreme-is-shown : InOrder c → Shows c axis side (extreme axis side c)
   unfolding shown
   extreme-is-shown o =
       let f = extreme-shows axis side c o in

@@ -5,7 +5,7 @@ use mathlib.Core.Bool.{Bool, true, false, cond}
 use mathlib.Core.List.{List, _++_}
 use Prim.Native.Nat.{ℕ}
 use denote.Ref.{now}
-use lib.Dec.{leb}
+use lib.Dec.{leb, eqb}
 use lib.IntN.{ℤ}
 use lib.ListN.{length, take, drop}
 use Rattle.claims.specs.Contract.{RefusedUnchanged, IsRefused}
@@ -24,7 +24,9 @@ use Rattle.sheet.specs.Sheet.{reading, sheetText, jobWriting, jobBuffer}
 use Rattle.plain.specs.Plain.{plainly}
 use Rattle.report.specs.Report.{reportText, storedText, totalsText}
 use Rattle.answers.specs.declared.Text.{Text}
-use Rattle.answers.specs.Answers.{hostText}
+use Rattle.answers.specs.Answers.{hostText, hostTotal}
+use Rattle.column.specs.Setting.{jobWith, judgedWith}
+use Rattle.column.specs.Column.{forcesOn, columnVerdict, columnAfter}
 
 -- ---- whatever text is put into a buffer, and whatever text about a job
 
@@ -68,6 +70,17 @@ share-kept fs old p h =
     go : (t : Bool) → Refuses (cond t accepted (refusal 7 0)) → laid t ≡ old
     go true h = absurd (h refl)
     go false h = refl
+
+column-kept : (x : Reading) (line : ℤ) (old : List ℤ) {r : Verdict} {after : List ℤ}
+    → (r ≡ columnVerdict x line old) × (after ≡ columnAfter x line old) → Refuses r → after ≡ old
+unfolding columnVerdict columnAfter
+column-kept x line old {r} {after} p h = go (eqb (hostTotal x line .verdict .number) 0) refl (p .0) (p .1)
+  where
+    go : (t : Bool) → eqb (hostTotal x line .verdict .number) 0 ≡ t
+        → r ≡ cond t (sharing (forcesOn line x) old) (hostTotal x line .verdict)
+        → after ≡ cond t (bufferAfter (column (forcesOn line x)) old) old → after ≡ old
+    go true e q b = share-kept (forcesOn line x) old (q, b) h
+    go false e q b = b
 
 -- ---- the list
 
@@ -145,3 +158,17 @@ unkept-show-unchanged : RefusedUnchanged of.unkept-show.Post (λ κ r. Refuses (
 unkept-show-unchanged κ a r s p h =
     let w = jobWriting reportText (judged (a .0)) (now (a .1 .0)) in
     job-kept reportText (judged (a .0)) (now (a .1 .0)) (refl, p .1) (host-refused w (p .0) h)
+
+column-of-unchanged : RefusedUnchanged of.column-of.Post (λ κ r. Refuses r) (λ κ a. now (a .1 .1 .0))
+    (λ κ s. now (s .1 .1 .0))
+column-of-unchanged κ a r s p h = column-kept (judged (a .0)) (a .1 .0) (now (a .1 .1 .0)) p h
+
+column-in-unchanged : RefusedUnchanged of.column-in.Post (λ κ r. Refuses r) (λ κ a. now (a .1 .1 .1 .0))
+    (λ κ s. now (s .1 .1 .1 .0))
+column-in-unchanged κ a r s p h =
+    column-kept (judged (jobWith (a .0) (a .1 .0))) (a .1 .1 .0) (now (a .1 .1 .1 .0)) p h
+
+aral-column-unchanged : RefusedUnchanged of.aral-column.Post (λ κ r. Refuses r) (λ κ a. now (a .1 .1 .1 .0))
+    (λ κ s. now (s .1 .1 .1 .0))
+aral-column-unchanged κ a r s p h =
+    column-kept (judgedWith (a .0) (now (a .1 .0))) (a .1 .1 .0) (now (a .1 .1 .1 .0)) p h

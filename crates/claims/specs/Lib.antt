@@ -10,3 +10,4 @@ pub mod Total
 pub mod Shown
 pub mod Dropped
 pub mod Doubles
+pub mod Column

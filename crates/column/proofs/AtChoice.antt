@@ -3,12 +3,13 @@ use mathlib.Core.Path.{_≡_, refl, sym, ap, _∙_}
 use mathlib.Core.List.{List, [], _∷_, _++_, map, List·Memᴰ, List·Memᴰ·head, List·Memᴰ·tail}
 use Prim.Native.Nat.{ℕ, suc, _+_, _≤_, _<_}
 use native.Mathlib.Omega.{arith}
-use lib.IntN.{ℤ, pos}
+use lib.IntN.{ℤ, pos, _+ℤ_}
 use lib.ListN.{length, getD, set}
 use Rattle.whole.specs.Lists.{firstOf}
 use Rattle.whole.proofs.Lists.{firstOf-length, firstOf-more}
 use Rattle.whole.proofs.FirstOf.{firstOf-next}
-use Rattle.worst.specs.Cases.{Chosen}
+use Rattle.worst.specs.Cases.{total, Chosen}
+use Rattle.sharing.specs.Column.{addedUp}
 use Rattle.column.specs.Column.{atChoice}
 
 module _ {F A : Type 0} (force : F → A → ℤ) where
@@ -70,3 +71,11 @@ chosen-length a [] [] c = refl
 chosen-length a [] (k ∷ ks) c = absurd c
 chosen-length a (f ∷ fs) [] c = absurd c
 chosen-length a (f ∷ fs) (k ∷ ks) c = ap suc (chosen-length a fs ks (c .1))
+
+-- the forces at a choice add up to its total
+pub total-added : {F A : Type 0} (force : F → A → ℤ) (fs : List F) (ks : List A)
+    → total force fs ks ≡ addedUp (atChoice force fs ks)
+unfolding total addedUp atChoice
+total-added force [] ks = refl
+total-added force (f ∷ fs) [] = refl
+total-added force (f ∷ fs) (k ∷ ks) = ap (λ z. force f k +ℤ z) (total-added force fs ks)

@@ -42,7 +42,8 @@ module _ (fs : List Face) where
   unfolding listed firstOf
   start = ap (λ (l : List Face). record { count = 0; entry = l }) (sym (firstOf-none noFace 24))
 
-  pub more : (s r : Faces) (f : Face) (i : ℕ) → s ≡ listed (firstOf noFace i fs) → f ≡ getD fs i noFace → r ≡ withOne s f
+  pub more : (s r : Faces) (f : Face) (i : ℕ) → s ≡ listed (firstOf noFace i fs) → f ≡ getD fs i noFace
+      → r ≡ withOne s f
       → r ≡ listed (firstOf noFace (i + 1) fs)
   more s r f i e d p =
       p ∙ ap₂ withOne e d ∙ one-more (firstOf noFace i fs) (getD fs i noFace) ∙ ap listed (firstOf-next noFace fs i)

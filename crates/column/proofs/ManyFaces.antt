@@ -6,9 +6,7 @@ use mathlib.Core.List.{List, [], _∷_, _++_, map, append-assoc}
 use Prim.Native.Nat.{ℕ, _+_, min, _≤_, _<_}
 use native.Mathlib.Omega.{arith}
 use lib.Dec.{eqb, leb, ltb}
-use lib.IntN.{pos}
 use lib.ListN.{length, length-map}
-use lib.Signed.{ltZ}
 use borrow.Author.Tests.{eqb-true, eqb-false, leb-true, leb-false, lt-ltb, le-ltb}
 use Rattle.whole.specs.Lists.{firstOf}
 use Rattle.whole.proofs.Tests.{by-test}
@@ -30,15 +28,14 @@ use Rattle.rules.specs.declared.Kind.the-variants.{Count, Entry}
 use Rattle.rules.specs.declared.FieldForm.the-variants.{Mark}
 use Rattle.rules.specs.Form.{hasForm, inForm, numberForms}
 use Rattle.rules.specs.Sections.{faultsOf, lineFault}
-use Rattle.job.specs.declared.Job.{Job}
 use Rattle.job.specs.Carried.{Carried, nothing, withFaces, before, carried, noFace}
 use Rattle.job.specs.Lines.{entriesOf, sectionOf, sectionsOf, sheetOf, linesOf}
-use Rattle.job.specs.Walk.{Reading, Refused, calls, learn, walk, sheet, readLines, judged}
+use Rattle.job.specs.Walk.{Refused, calls, learn, walk, sheet, readLines, judged}
 use Rattle.job.proofs.Walk.{walk-on, walk-refused}
 use Rattle.job.proofs.Sections.{countLine}
 use Rattle.column.specs.declared.Setting.{Setting}
 use Rattle.column.specs.Listed.{listed}
-use Rattle.column.specs.Setting.{jobWith, carriedWith, judgedWith}
+use Rattle.column.specs.Setting.{jobWith, judgedWith}
 
 -- ---- the count of too many faces
 
@@ -71,7 +68,8 @@ too-many n h (Entry P) b = refl
 too-many n h (Entry F) b = go (hasHeights (b .year)) (hasForm Mark (Plus n))
   where
     go : (heights mark : Bool)
-        → cond (mark && inForm (numberForms (cond heights 4 3)) []) (first (faultsOf (Entry F) b (countLine F n))) 1 ≡ 1
+        → cond (mark && inForm (numberForms (cond heights 4 3)) []) (first (faultsOf (Entry F) b
+        (countLine F n))) 1 ≡ 1
     go true true = refl
     go true false = refl
     go false true = refl
@@ -138,7 +136,8 @@ module _ (c : Carried) (fs gs : List Face) (hf : 24 < length fs) (hg : 24 < leng
   fronts-alike h ss same =
       ap (walk (sheet h) nothing 1)
       (faces-last (entriesOf (withFaces fs c)) ss ∙ ap (λ l. l ++ lines fs (F ∷ [])) same)
-      ∙ alike (length (written fs)) (length (written gs)) (many fs hf) (many gs hg) (written fs ++ []) (written gs ++ [])
+      ∙ alike (length (written fs)) (length (written gs)) (many fs hf) (many gs hg) (written fs ++ [])
+      (written gs ++ [])
       (sheet h) nothing 1 (lines gs ss)
       ∙ sym (ap (walk (sheet h) nothing 1) (faces-last (entriesOf (withFaces gs c)) ss))
 
@@ -171,7 +170,8 @@ module _ (s : Setting) (fs : List Face) where
       ap (λ m. firstOf noFace m (firstOf noFace 24 fs)) n
       ∙ firstOf-fewer noFace (length fs) 24 fs h ∙ firstOf-all noFace fs
 
-  lines-alike : 24 < length fs → readLines (linesOf (withFaces (kept counted) c)) ≡ readLines (linesOf (withFaces (kept fs) c))
+  lines-alike : 24 < length fs
+      → readLines (linesOf (withFaces (kept counted) c)) ≡ readLines (linesOf (withFaces (kept fs) c))
   unfolding linesOf
   lines-alike h =
       let n = firstOf-length noFace (min (length fs) 25) (firstOf noFace 24 fs) in

@@ -11,7 +11,8 @@ use Rattle.worst.specs.declared.Side.the-variants.{Greatest, Least}
 use Rattle.worst.specs.declared.Axis.{Axis}
 use Rattle.worst.specs.declared.Axis.the-variants.{X, Y, Z}
 use Rattle.worst.specs.declared.Six.{Six}
-use Rattle.worst.specs.Worst.{shownIn, lineNumber}
+use Rattle.job.specs.Carried.{Carried}
+use Rattle.worst.specs.Worst.{extreme, sixExtremes, shownIn, lineNumber}
 use Rattle.answers.specs.declared.Extreme.{Extreme}
 use Rattle.answers.specs.Answers.{noHostExtreme, hostExtreme, reportLine, hostLine}
 use Rattle.column.specs.Column.{axisOf}
@@ -48,3 +49,24 @@ axis-told Y Greatest = refl
 axis-told Y Least = refl
 axis-told Z Greatest = refl
 axis-told Z Least = refl
+
+-- ---- of six extremes that of a line, and of a job's six that of an axis and a side
+
+pub line-is : (six : Six) (axis : Axis) (side : Side)
+    → reportLine six (lineNumber axis side) ≡ hostExtreme (shownIn six axis side)
+unfolding reportLine
+line-is six X Greatest = refl
+line-is six X Least = refl
+line-is six Y Greatest = refl
+line-is six Y Least = refl
+line-is six Z Greatest = refl
+line-is six Z Least = refl
+
+pub one-is : (c : Carried) (axis : Axis) (side : Side) → shownIn (sixExtremes c) axis side ≡ extreme axis side c
+unfolding sixExtremes
+one-is c X Greatest = refl
+one-is c X Least = refl
+one-is c Y Greatest = refl
+one-is c Y Least = refl
+one-is c Z Greatest = refl
+one-is c Z Least = refl

@@ -1,10 +1,9 @@
--- The forces that are handed over for the case of an extreme, each at its alternative, are those of the faces; and they
--- add up to the total that is shown.
-use mathlib.Core.Path.{_≡_, refl, sym, ap, _∙_, subst}
-use mathlib.Core.List.{List, [], _∷_, _++_, map, List·Memᴰ}
+-- The forces that are handed over for the case of an extreme, each at its alternative, are those of the faces.
+use mathlib.Core.Path.{_≡_, sym, ap, _∙_, subst}
+use mathlib.Core.List.{List, _++_, map}
 use Prim.Native.Nat.{ℕ, _-_, _≤_}
 use native.Mathlib.Omega.{arith}
-use lib.IntN.{ℤ, pos, _+ℤ_}
+use lib.IntN.{ℤ, pos}
 use lib.ListN.{length, take, replicate}
 use Rattle.whole.specs.Lists.{firstOf}
 use Rattle.whole.proofs.Lists.{firstOf-length, firstOf-take, firstOf-fewer, firstOf-all}
@@ -12,31 +11,28 @@ use Rattle.whole.proofs.Pieces.{firstOf-front}
 use Rattle.entry.specs.declared.Wind.{Wind}
 use Rattle.entry.specs.declared.Face.{Face}
 use Rattle.job.specs.declared.Job.{Job}
-use Rattle.job.specs.Carried.{Carried, carried}
+use Rattle.job.specs.Carried.{carried}
 use Rattle.job.specs.Walk.{judged}
 use Rattle.worst.specs.declared.Side.{Side}
-use Rattle.worst.specs.declared.Side.the-variants.{Greatest, Least}
 use Rattle.worst.specs.declared.Axis.{Axis}
-use Rattle.worst.specs.declared.Axis.the-variants.{X, Y, Z}
 use Rattle.worst.specs.declared.FaceForces.{FaceForces}
 use Rattle.worst.specs.declared.CellForces.{CellForces}
 use Rattle.worst.specs.declared.Extreme.{Extreme}
-use Rattle.worst.specs.Cases.{Loads, Case, total, caseTotal, Permitted}
+use Rattle.worst.specs.Cases.{Case, total, Permitted}
 use Rattle.worst.specs.Forces.{Given, alternatives, force, windAt, internalAt, loads}
-use Rattle.worst.specs.Shown.{padded, shown}
-use Rattle.worst.specs.Worst.{given, extreme, sixExtremes, shownIn}
+use Rattle.worst.specs.Shown.{padded}
+use Rattle.worst.specs.Worst.{given, extreme, sixExtremes}
 use Rattle.worst.specs.PerFace.{faceForces, forcesIn}
 use Rattle.worst.specs.Rows.{Taken, rows, forceIn}
 use Rattle.whole.proofs.Numbers.{numbers-member}
-use Rattle.worst.proofs.Meaning.{isBest-member}
-use Rattle.worst.proofs.Members.{case-permitted}
-use Rattle.worst.proofs.Promises.{Shows, extreme-shows}
-use Rattle.worst.proofs.Rows.{winds-counted, internals-counted, faces-counted, ready, cell-is, rows-are, sound-at, force-same}
+use Rattle.worst.proofs.Rows.{winds-counted, internals-counted, faces-counted, ready, cell-is, rows-are, sound-at}
+use Rattle.worst.proofs.Rows.{force-same}
 use Rattle.answers.specs.declared.Extreme as host
 use Rattle.answers.specs.Answers.{hostExtreme, hostLine}
 use Rattle.column.specs.Column.{atChoice, forcesShown, axisOf, forcesOn}
-use Rattle.column.proofs.ReportLines.{Told, one, none, line-told, axis-told}
-use Rattle.column.proofs.AtChoice.{choice-length, choice-past, choice-map, chosen-length}
+use Rattle.column.proofs.ReportLines.{Told, one, none, line-told, axis-told, one-is}
+use Rattle.column.proofs.OfCase as shows
+use Rattle.column.proofs.AtChoice.{choice-length, choice-map}
 
 module _ (j : Job) (t : Taken j) (axis : Axis) (side : Side) where
   abbrev g : Given
@@ -45,14 +41,8 @@ module _ (j : Job) (t : Taken j) (axis : Axis) (side : Side) where
   abbrev e : Extreme
   e = extreme axis side (carried j)
 
-  abbrev s : Shows axis side (carried j)
-  s = extreme-shows axis side (carried j) (t .order)
-
   abbrev case : Case ℕ ℕ ℕ
-  case = s .case
-
-  permitted : Permitted (loads axis g) case
-  permitted = case-permitted (loads axis g) case (isBest-member side (caseTotal (loads axis g)) (s .best))
+  case = shows.case (carried j) (t .order) axis side
 
   abbrev u : Wind
   u = windAt g (case .wind)
@@ -60,9 +50,11 @@ module _ (j : Job) (t : Taken j) (axis : Axis) (side : Side) where
   abbrev n : ℤ
   n = internalAt g (case .internal)
 
-  -- the case's forces
   abbrev own : List ℤ
-  own = atChoice (force axis g u n) (g .faces) (case .chosen)
+  own = shows.own (carried j) (t .order) axis side
+
+  permitted : Permitted (loads axis g) case
+  permitted = shows.permitted (carried j) (t .order) axis side
 
   named : e ≡ record {
     total = e .total;
@@ -71,21 +63,10 @@ module _ (j : Job) (t : Taken j) (axis : Axis) (side : Side) where
     faces = length (carried j .faces);
     alternative = padded 24 (case .chosen);
   }
-  unfolding shown
-  named = s .named
+  named = shows.named (carried j) (t .order) axis side
 
   all-chosen : length (g .faces) ≡ length (case .chosen)
-  all-chosen = chosen-length (alternatives g u) (g .faces) (case .chosen) (permitted .chosen)
-
-  pub shown-own : forcesShown axis g (hostExtreme e) ≡ own
-  unfolding padded
-  shown-own =
-      (λ k.
-      let x = named k in
-      atChoice (force axis g (windAt g (x .wind)) (internalAt g (x .internal))) (g .faces) (x .alternative))
-      ∙ choice-past (force axis g u n) (g .faces) (case .chosen) (replicate (24 - length (case .chosen)) 0) all-chosen
-
-  -- ---- as they are handed over
+  all-chosen = shows.all-chosen (carried j) (t .order) axis side
 
   module _ (forces : CellForces) (is : forces ≡ forcesIn (e .wind) (e .internal) (judged j)) where
     abbrev count : ℕ
@@ -137,27 +118,19 @@ module _ (j : Job) (t : Taken j) (axis : Axis) (side : Side) where
         → take count l ≡ forcesShown axis g (hostExtreme e)
     handed-shown l h =
         let long : count ≡ length own =
-        sym (choice-length (force axis g u n) (g .faces) (case .chosen) (omega (arith, all-chosen)) ∙ faces-counted j t)
+        sym (choice-length (force axis g u n) (g .faces) (case .chosen) (omega
+        (arith, all-chosen)) ∙ faces-counted j t)
         in
         ap (take count) (h ∙ ap (firstOf (pos 0) 24) handed-own)
         ∙ sym (firstOf-take (pos 0) count (firstOf (pos 0) 24 own) (omega (arith, few, firstOf-length (pos 0) 24 own)))
         ∙ firstOf-fewer (pos 0) count 24 own few
         ∙ ap (λ m. firstOf (pos 0) m own) long
         ∙ firstOf-all (pos 0) own
-        ∙ sym shown-own
+        ∙ sym (shows.shown-own (carried j) (t .order) axis side)
 
 -- ---- the case of a report line
 
 module _ (j : Job) (t : Taken j) (line : ℤ) where
-  one-is : (axis : Axis) (side : Side) → shownIn (sixExtremes (carried j)) axis side ≡ extreme axis side (carried j)
-  unfolding sixExtremes
-  one-is X Greatest = refl
-  one-is X Least = refl
-  one-is Y Greatest = refl
-  one-is Y Least = refl
-  one-is Z Greatest = refl
-  one-is Z Least = refl
-
   -- of the forces of its cell one for each face
   by-told : (x : host.Extreme) → Told (sixExtremes (carried j)) line x → x .verdict .number ≡ 0 → (l : List ℤ)
       → (forces : CellForces) → forces ≡ forcesIn (x .wind) (x .internal) (judged j)
@@ -172,16 +145,19 @@ module _ (j : Job) (t : Taken j) (line : ℤ) where
       → l ≡ firstOf (pos 0) 24
       (atChoice (forceIn (x .0)) (rows (j .faces .count) forces) (firstOf 0 (j .faces .count) (x .1 .alternative)))
       → take (j .faces .count) l ≡ forcesShown (x .0) (given (carried j)) (hostExtreme (x .1)))
-      (λ i. (sym same i, sym (one-is axis side) i)) (λ forces is h. handed-shown j t axis side forces is l h)
+      (λ i. (sym same i, sym (one-is (carried j) axis side) i))
+      (λ forces is h. handed-shown j t axis side forces is l h)
   by-told x none z l = absurd (omega (arith, z))
 
-  pub line-forces : (x : host.Extreme) → x ≡ hostLine (sixExtremes (carried j)) line → x .verdict .number ≡ 0 → (l : List ℤ)
+  pub line-forces : (x : host.Extreme) → x ≡ hostLine (sixExtremes (carried j)) line → x .verdict .number ≡ 0
+      → (l : List ℤ)
       → (forces : CellForces) → forces ≡ forcesIn (x .wind) (x .internal) (judged j)
       → l ≡ firstOf (pos 0) 24
       (atChoice (forceIn (axisOf line)) (rows (j .faces .count) forces) (firstOf 0 (j .faces .count) (x .alternative)))
       → take (j .faces .count) l ≡ forcesOn line (judged j)
   line-forces x told z l forces is h =
-      by-told x (subst (Told (sixExtremes (carried j)) line) (sym told) (line-told (sixExtremes (carried j)) line)) z l forces
+      by-told x (subst (Told (sixExtremes (carried j)) line) (sym told) (line-told (sixExtremes
+      (carried j)) line)) z l forces
       is h
       ∙ ap (forcesShown (axisOf line) (given (carried j))) told
       ∙ ap (forcesOn line) (sym (t .accepted))

@@ -6,7 +6,6 @@ use lib.IntN.{ℤ, pos}
 use lib.Signed.{ltZ}
 use Rattle.verdict.specs.declared.Verdict.{Verdict}
 use Rattle.page.specs.Writing.{bufferAfter}
-use Rattle.job.specs.Carried.{Carried}
 use Rattle.job.specs.Walk.{Reading, Accepted, Refused}
 use Rattle.worst.specs.declared.Axis.{Axis}
 use Rattle.worst.specs.declared.Axis.the-variants.{X, Y, Z}
@@ -24,7 +23,8 @@ atChoice force (f ∷ fs) (k ∷ ks) = force f k ∷ atChoice force fs ks
 
 -- the forces of a job's faces on an axis, in the case that is shown
 abbrev pub forcesShown : Axis → Given → Extreme → List ℤ
-forcesShown axis g e = atChoice (force axis g (windAt g (e .wind)) (internalAt g (e .internal))) (g .faces) (e .alternative)
+forcesShown axis g e =
+    atChoice (force axis g (windAt g (e .wind)) (internalAt g (e .internal))) (g .faces) (e .alternative)
 
 -- lines 1 and 2 of the report are of x, 3 and 4 of y, 5 and 6 of z
 abbrev pub axisOf : ℤ → Axis

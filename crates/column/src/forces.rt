@@ -48,7 +48,12 @@ fn force_at(axis: Axis, f: FaceForces, k: u8) -> i64
 }
 
 // Of so many faces, each at its alternative.
-pub(crate) fn at_choice(axis: Axis, forces: CellForces, alternative: [u8; 24], faces: usize) -> Forces
+pub(crate) fn at_choice(
+    axis: Axis,
+    forces: CellForces,
+    alternative: [u8; 24],
+    faces: usize,
+) -> Forces
     requires { ⌜ faces ≤ 24 ⌝ }
     ensures { λ r. ⌜ r .face ≡ firstOf (pos 0) 24 (atChoice (forceIn axis) (rows faces forces)
         (firstOf 0 faces alternative)) ⌝ }

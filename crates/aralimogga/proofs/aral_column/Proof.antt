@@ -1,4 +1,5 @@
--- `aral_column` meets its contract: a walk of its code, by hand, since it is lent a list of records. It calls `gather` on
+-- `aral_column` meets its contract: a walk of its code, by hand, since it is lent a list of records. It calls `gather`
+-- on
 -- the faces, and `column_in` on what that gives. The faces' reference is copied and one copy kept for the exit; the
 -- column's borrow goes to the callee and is given up for good.
 use mathlib.Core.Path.{_≡_, _∙_, ap, refl}
@@ -41,7 +42,8 @@ use denote.Triple.Clauses.{ensured, lasts}
 use denote.Triple.Entry.{onEntry}
 use denote.Triple.Spec.{Meets, tripleOf}
 use denote.Triple.Table.{entered, cited}
-use denote.Triple.Walked.{says, Stays, stay-none, stay-none-slice, gave-slice, walkOf, Walks, ends-at, walked, goes-none}
+use denote.Triple.Walked.{says, Stays, stay-none, stay-none-slice, gave-slice, walkOf, Walks, ends-at, walked}
+use denote.Triple.Walked.{goes-none}
 use denote.Triple.Walked.{goes-none-slice, goes-gave-slice, walk-meets}
 use denote.Exit.{yes}
 use Rattle.verdict.specs.declared.Verdict.{Verdict}
@@ -75,9 +77,16 @@ use Rattle.aralimogga.proofs.aral_column.Code as code
 use Rattle.aralimogga.proofs.aral_column.Code.Mir as code-mir
 
 abbrev stayed : Stays (aral-column.ended .signature .params) (aral-column.ended .kept)
-stayed =
-    (stay-none (λ _. S.the-row) yes, (stay-none-slice (0 ∷ []) tt (plain (λ _. F.the-row)) yes, (stay-none (λ _. i64) yes,
-    (gave-slice (1 ∷ []) tt (plain (λ _. i64)), tt))))
+stayed = (
+  stay-none (λ _. S.the-row) yes,
+  (
+    stay-none-slice (0 ∷ []) tt (plain (λ _. F.the-row)) yes,
+    (
+      stay-none (λ _. i64) yes,
+      (gave-slice (1 ∷ []) tt (plain (λ _. i64)), tt),
+    ),
+  ),
+)
 
 -- the types of the locals
 abbrev facesTy : Ty
@@ -103,7 +112,8 @@ module _ {M : Type 1} (𝓤 : URA M) (H : Heap 𝓤) (A : Atoms 𝓤) (mem : Mem
   said : (κ : Lft) (x : RefT (List Face)) (r : Faces)
       → ent 𝓤 (ensured 𝓤 H A gather.ended (gather.clauses 𝓤 H A mem run) (κ, tt) (x, tt) tt r)
       (fact 𝓤 (r ≡ listed (x .now)))
-  said κ x r = exE 𝓤 _ (λ ws. snd∗ 𝓤 (sem 𝓤 H A (lasts gather.ended (κ, tt) (x, tt) ws)) (fact 𝓤 (r ≡ listed (x .now))))
+  said κ x r =
+      exE 𝓤 _ (λ ws. snd∗ 𝓤 (sem 𝓤 H A (lasts gather.ended (κ, tt) (x, tt) ws)) (fact 𝓤 (r ≡ listed (x .now))))
 
 module _ {M : Type 1} (𝓤 : URA M) (H : Heap 𝓤) (A : Atoms 𝓤) (W : Given 𝓤 H A) (mem : Memory → SProp 𝓤)
     (run : Routine → Fun 𝓤) (κ κ′ : Lft) (q q′ : Share) (g : Setting) (x : RefT (List Face)) (line : ℤ)
@@ -165,7 +175,8 @@ module _ {M : Type 1} (𝓤 : URA M) (H : Heap 𝓤) (A : Atoms 𝓤) (W : Given
       ∷ []) ∵
       move ! (1 ∷ []) $ fsplit ! $ drop ! $ fsplit ! $
       use1 W (‵ Own ⊛ ‵ Own) (shr-slice-copy 𝓤 H A W (named 0) κ F.the-row .twice x (faces ∷ [])) $ split ! $
-      nothing ! $ move ! (1 ∷ 0 ∷ []) $ fjoin ! $ move ! (3 ∷ []) $ split ! $ nothing ! $ move ! (1 ∷ 0 ∷ []) $ join ! $
+      nothing ! $ move ! (1 ∷ 0 ∷ []) $ fjoin ! $ move ! (3 ∷ []) $ split ! $ nothing ! $ move ! (1 ∷ 0 ∷ []) $
+      join ! $
       move ! (0 ∷ 2 ∷ []) $ use2 W (raw (Gather 𝓤 H A mem run .pre to-gather)) asked $ frame ! $ move ! (1 ∷ []) $
       frame ! $ move ! (1 ∷ []) $ fsplit ! $ drop ! $ fsplit ! $ frame ! $ drop ! $ done !
 
@@ -174,9 +185,25 @@ module _ {M : Type 1} (𝓤 : URA M) (H : Heap 𝓤) (A : Atoms 𝓤) (W : Given
   module _ (own : Is S.the-row g (setting ∷ [])) (signed : Is i64 line (number ∷ [])) where
     module _ (l : Faces) (u : Val) (is : Is L.the-row l (u ∷ [])) where
       abbrev to-inner : Inner 𝓤 H A mem run .Ghost
-      to-inner =
-          (((κ′, tt), (q′, tt), tt, (g, (l, (line, (y, tt)))), (setting ∷ [], (u ∷ [], (number ∷ [], (column ∷ [], tt))))),
-          tt)
+      to-inner = (
+        (
+          (κ′, tt),
+          (q′, tt),
+          tt,
+          (g, (l, (line, (y, tt)))),
+          (
+            setting ∷ [],
+            (
+              u ∷ [],
+              (
+                number ∷ [],
+                (column ∷ [], tt),
+              ),
+            ),
+          ),
+        ),
+        tt,
+      )
 
       goes : ent 𝓤 (⋆ 𝓤 H A (Token′ ∷ ‵ Lent ∷ [])) (Inner 𝓤 H A mem run .pre to-inner)
       goes =
@@ -216,7 +243,8 @@ module _ {M : Type 1} (𝓤 : URA M) (H : Heap 𝓤) (A : Atoms 𝓤) (W : Given
         )
 
     module _ (C : Calls 𝓤 H) (Λ : Loops 𝓤 H) (fm : FmC 𝓤 H (W .laws) C)
-        (known : Triple 𝓤 (C #gather) (Gather 𝓤 H A mem run)) (known′ : Triple 𝓤 (C #inner) (Inner 𝓤 H A mem run)) where
+        (known : Triple 𝓤 (C #gather) (Gather 𝓤 H A mem run)) (known′ : Triple 𝓤 (C #inner)
+        (Inner 𝓤 H A mem run)) where
       module _ (l₀ l₁ l₂ l₃ l₄ l₅ l₆ l₇ : ℕ) where
         abbrev En : Env 𝓤 H
         En =
@@ -225,10 +253,13 @@ module _ {M : Type 1} (𝓤 : URA M) (H : Heap 𝓤) (A : Atoms 𝓤) (W : Given
 
         abbrev Begun : List (Item 𝓤)
         Begun =
-            ‵ (froom lentTy l₇ 0) ∷ ‵ (fdies lentTy l₇) ∷ ‵ (froom refTy l₆ 0) ∷ ‵ (fdies refTy l₆) ∷ ‵ (froom L′.mir l₅ 0)
+            ‵ (froom lentTy l₇ 0) ∷ ‵ (fdies lentTy l₇) ∷ ‵ (froom refTy l₆ 0) ∷ ‵ (fdies refTy l₆) ∷ ‵
+            (froom L′.mir l₅ 0)
             ∷ ‵ (fdies L′.mir l₅) ∷ ‵ (fat fullShare columnTy l₄ 0 column) ∷ ‵ (fdies columnTy l₄)
-            ∷ ‵ (fat fullShare (tyInt w64) l₃ 0 number) ∷ ‵ (fdies (tyInt w64) l₃) ∷ ‵ (fat fullShare facesTy l₂ 0 faces)
-            ∷ ‵ (fdies facesTy l₂) ∷ ‵ (fat fullShare S′.mir l₁ 0 setting) ∷ ‵ (fdies S′.mir l₁) ∷ ‵ (froom R′.mir l₀ 0)
+            ∷ ‵ (fat fullShare (tyInt w64) l₃ 0 number) ∷ ‵ (fdies (tyInt w64) l₃) ∷ ‵
+            (fat fullShare facesTy l₂ 0 faces)
+            ∷ ‵ (fdies facesTy l₂) ∷ ‵ (fat fullShare S′.mir l₁ 0 setting) ∷ ‵ (fdies S′.mir l₁) ∷ ‵
+            (froom R′.mir l₀ 0)
             ∷ ‵ (fdies R′.mir l₀) ∷ raw entry ∷ []
 
         begins : Sq W Begun (runs C Λ En code-mir.t-1 (atRet En Post))
@@ -253,8 +284,10 @@ module _ {M : Type 1} (𝓤 : URA M) (H : Heap 𝓤) (A : Atoms 𝓤) (W : Given
             (from ! (stop !)) (init ! 4 refl (tt, (tt, (record { fits = room′ .0 }, tt)))) $
             move ! (3 ∷ 2 ∷ []) $ use2 W (raw (Inner 𝓤 H A mem run .pre (to-inner l u isl))) (goes l u isl) $
             calls-at ! fm (Inner 𝓤 H A mem run) known′ (to-inner l u isl)
-            (and-then ! (load ! (from ! (stop !)) (look ! 15 refl)) (and-then ! (load ! (from ! (stop !)) (look ! 7 refl))
-            (and-then ! (load ! (from ! (stop !)) (look ! 11 refl)) (and-then ! (load ! (from ! (stop !)) (look ! 3 refl))
+            (and-then ! (load ! (from ! (stop !)) (look ! 15 refl)) (and-then ! (load ! (from ! (stop !))
+            (look ! 7 refl))
+            (and-then ! (load ! (from ! (stop !)) (look ! 11 refl)) (and-then ! (load ! (from ! (stop !))
+            (look ! 3 refl))
             (no-more !))))) (λ w.
             use1 W (later (some (λ (r : Verdict). (Token′ ⊛ ‵ (R.the-row .own r (w ∷ [])))
             ⊛ raw (ensured 𝓤 H A inner.ended (inner.clauses 𝓤 H A mem run) (κ′, tt) (g, (l, (line, (y, tt)))) tt r))))
@@ -267,7 +300,8 @@ module _ {M : Type 1} (𝓤 : URA M) (H : Heap 𝓤) (A : Atoms 𝓤) (W : Given
             split ! $ move ! (1 ∷ []) $
             heard ! ((r ≡ columnVerdict (judged (jobWith g l)) line (y .now))
             × (zs .1 .1 .1 .0 ≡ columnAfter (judged (jobWith g l)) line (y .now))) (λ e.
-            fsplit ! $ move ! (1 ∷ []) $ fsplit ! $ move ! (1 ∷ []) $ fsplit ! $ move ! (1 ∷ []) $ fsplit ! $ fsplit ! $
+            fsplit ! $ move ! (1 ∷ []) $ fsplit ! $ move ! (1 ∷ []) $ fsplit ! $ move ! (1 ∷ []) $ fsplit ! $
+            fsplit ! $
             move ! (1 ∷ []) $ feqL ! (λ long.
             move ! (1 ∷ []) $ drop ! $ move ! (1 ∷ []) $ drop ! $ move ! (1 ∷ []) $ drop ! $ move ! (1 ∷ []) $ drop ! $
             move ! (1 ∷ []) $ split ! $ move ! (1 ∷ []) $
@@ -285,7 +319,8 @@ module _ {M : Type 1} (𝓤 : URA M) (H : Heap 𝓤) (A : Atoms 𝓤) (W : Given
       walk : ent 𝓤 entry (WpFn 𝓤 H C Λ code.function (setting ∷ faces ∷ number ∷ column ∷ []) Post)
       walk =
           qed W (raw entry ∷ []) ∵ enter ! C Λ code.function (setting ∷ faces ∷ number ∷ column ∷ []) _ $
-          alloc1 ! (λ l₀. alloc1 ! (λ l₁. alloc1 ! (λ l₂. alloc1 ! (λ l₃. alloc1 ! (λ l₄. alloc1 ! (λ l₅. alloc1 ! (λ l₆.
+          alloc1 ! (λ l₀. alloc1 ! (λ l₁. alloc1 ! (λ l₂. alloc1 ! (λ l₃. alloc1 ! (λ l₄. alloc1 ! (λ l₅. alloc1 !
+          (λ l₆.
           alloc1 ! (λ l₇. alloc0 ! $ params1 ! $
           pass1 ! (init ! 12 refl (LL.lawful S.the-type S′.the-laws 𝓤 H A W .typed g _ own .0)) $
           pass1 ! (init ! 10 refl (tt, (tt, (record { fits = room .0 }, tt)))) $
@@ -303,8 +338,16 @@ module _ {M : Type 1} (𝓤 : URA M) (H : Heap 𝓤) (A : Atoms 𝓤) (W : Given
   walks =
       walked 𝓤 H A aral-column.ended stayed (aral-column.clauses 𝓤 H A mem run) wp
       (λ κs. (LL.vals S.the-type S′.the-laws, (slice-vals, (sint-vals w64, (slice-vals, tt)))))
-      (λ κs. (LL.tells S.the-type S′.the-laws, (shr-slice-tells (named 0) (κs .0) F.the-row, (sint-tells w64,
-      (mut-slice-tells (named 1) (κs .1 .0) i64, tt)))))
+      (λ κs. (
+        LL.tells S.the-type S′.the-laws,
+        (
+          shr-slice-tells (named 0) (κs .0) F.the-row,
+          (
+            sint-tells w64,
+            (mut-slice-tells (named 1) (κs .1 .0) i64, tt),
+          ),
+        ),
+      ))
       (λ κs qs bounds a g are. via 𝓤 _ (fst∗ 𝓤 _ (emp 𝓤))
       (walk 𝓤 H A W mem run (κs .0) (κs .1 .0) (qs .0) (qs .1 .0) (a .0) (a .1 .0) (a .1 .1 .0) (a .1 .1 .1 .0)
       (are .1 .0 .0 .1) (are .1 .1 .1 .0 .0 .1) (are .0) (are .1 .1 .0) (𝓣 .C) (𝓣 .Λ) (fmOf 𝓤 H (W .laws) 𝓣) known
@@ -312,11 +355,16 @@ module _ {M : Type 1} (𝓤 : URA M) (H : Heap 𝓤) (A : Atoms 𝓤) (W : Given
 
   meets : Meets 𝓤 H A aral-column.signature wp (aral-column.spec 𝓤 H A mem run)
   meets =
-      walk-meets 𝓤 H A aral-column.ended stayed W
-      (goes-none 𝓤 H A W 2 (λ _. S.the-row) yes (λ κs x f. refl),
-      (goes-none-slice 𝓤 H A W 2 (0 ∷ []) tt (plain (λ _. F.the-row)) yes,
-      (goes-none 𝓤 H A W 2 (λ _. i64) yes (λ κs x f. refl),
-      (goes-gave-slice 𝓤 H A W 2 1 tt (plain (λ _. i64)), tt))))
+      walk-meets 𝓤 H A aral-column.ended stayed W (
+        goes-none 𝓤 H A W 2 (λ _. S.the-row) yes (λ κs x f. refl),
+        (
+          goes-none-slice 𝓤 H A W 2 (0 ∷ []) tt (plain (λ _. F.the-row)) yes,
+          (
+            goes-none 𝓤 H A W 2 (λ _. i64) yes (λ κs x f. refl),
+            (goes-gave-slice 𝓤 H A W 2 1 tt (plain (λ _. i64)), tt),
+          ),
+        ),
+      )
       (aral-column.clauses 𝓤 H A mem run) wp (WpFn-mono 𝓤 H (W .laws) 𝓣 code.function) walks
 
 pub aral-column-spec : {M : Type 1} → stated.statement M

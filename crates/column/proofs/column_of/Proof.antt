@@ -9,7 +9,6 @@ use Rattle.verdict.specs.Verdict.{Refuses}
 use Rattle.job.specs.declared.Job.{Job}
 use Rattle.job.specs.Carried.{carried}
 use Rattle.job.specs.Walk.{Reading, Accepted, Refused, verdict, judged}
-use Rattle.worst.specs.declared.Six.{Six}
 use Rattle.worst.specs.declared.Reckoning.{Reckoning}
 use Rattle.worst.specs.Worst.{sixExtremes, reckoned, worstOf}
 use Rattle.worst.specs.Rows.{Taken}

@@ -1,10 +1,9 @@
 -- `share_case` meets its contract: the forces of the line's cell, of which each face has the one at its alternative.
-use mathlib.Core.Path.{_≡_, sym, ap, _∙_}
-use mathlib.Core.List.{List}
-use Prim.Native.Nat.{ℕ, _≤_}
+use mathlib.Core.Path.{_≡_, ap, _∙_}
+use Prim.Native.Nat.{_≤_}
 use native.Mathlib.Omega.{arith}
 use borrow.Author.Needs.{needs}
-use lib.IntN.{ℤ, pos}
+use lib.IntN.{pos}
 use lib.ListN.{length, take, length-take}
 use mir.Syntax.{w64}
 use mir.ValLaws.{toZ-ofZ}
@@ -35,7 +34,8 @@ module _ (c : tie.After-at-choice) where
   part : s .args .job .faces .count ≡ length (take (s .args .job .faces .count) (c .at-choice .result .face))
   part = simp length-take (omega (arith, long, few s))
 
-  own : take (s .args .job .faces .count) (c .at-choice .result .face) ≡ forcesOn (s .args .line) (judged (s .args .job))
+  own : take (s .args .job .faces .count) (c .at-choice .result .face) ≡ forcesOn (s .args .line) (judged
+      (s .args .job))
   own =
       let a = s .args in
       let axis = c .before .before .before .axis-of in

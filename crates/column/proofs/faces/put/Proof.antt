@@ -2,8 +2,6 @@ use borrow.Author.Needs.{needs}
 use borrow.Author.Tests.{lt-ltb, le-ltb}
 use Rattle.column.proofs.faces.put.Statement.{statement}
 use Rattle.column.proofs.faces.put.Tie as tie
-use Rattle.column.proofs.faces.put.Reads as reads
-use Rattle.column.proofs.faces.put.Lts as lts
 
 -- src/faces.rt:43:17
 cast-i : tie.Need-cast-i

@@ -1,6 +1,6 @@
 -- `forces::axis_of` meets its contract: two lines to an axis.
 use mathlib.Core.Path.{_≡_}
-use mathlib.Core.Bool.{true, false}
+use mathlib.Core.Bool.{false}
 use lib.IntN.{pos}
 use lib.Signed.{ltZ}
 use Rattle.whole.proofs.Order.{true-lt, false-lt}

@@ -1,5 +1,5 @@
 -- `forces::force_at` meets its contract: at the first alternative, or at the last.
-use mathlib.Core.Path.{_∙_, sym}
+use mathlib.Core.Path.{_∙_}
 use mir.Syntax.{w64}
 use mir.ValLaws.{toZ-ofZ}
 use borrow.Author.Needs.{needs}
