@@ -4,6 +4,7 @@ use building::Building;
 use building::Dated;
 use column::Setting;
 use entry::Face;
+use mend::Mending;
 use panel::Point;
 use verdict::Verdict;
 use worksheet::Edited;
@@ -17,6 +18,7 @@ ghost use Rattle.panel.specs.Chart.{pointOf};
 ghost use Rattle.job.specs.Walk.{verdict, judged};
 ghost use Rattle.sheet.specs.Sheet.{reading, sheetText, jobWriting, jobBuffer};
 ghost use Rattle.plain.specs.Plain.{plainly};
+ghost use Rattle.mend.specs.Mending.{mendingOf, textAfter, listAfter};
 ghost use Rattle.report.specs.Report.{reportText, storedText};
 ghost use Rattle.edits.specs.Edits.{Add, Replace, TakeOut};
 ghost use Rattle.worksheet.specs.Worksheet.{opened, edited};
@@ -72,6 +74,16 @@ pub extern "C" fn aral_plain(sheet: &[u8], out: &mut [u8]) -> answers::Text
         return answers::no_text(walked.verdict);
     }
     answers::text_of(report::write_plain(walked.job, out))
+}
+
+// The sheet mended: its text into `out`, and into `list` three numbers for each change, line, kind and place.
+#[no_mangle]
+pub extern "C" fn aral_mend(sheet: &[u8], out: &mut [u8], list: &mut [u64]) -> Mending
+    ensures { λ r. ⌜ (r ≡ mendingOf (now (sheet .entry)) (now (out .entry)) (now (list .entry)))
+        × (now (out .exit) ≡ textAfter (now (sheet .entry)) (now (out .entry)) (now (list .entry)))
+        × (now (list .exit) ≡ listAfter (now (sheet .entry)) (now (out .entry)) (now (list .entry))) ⌝ }
+{
+    mend::mend(sheet, out, list)
 }
 
 // One line of its report: 1 is x max, 2 x min, up to 6, z min.
