@@ -66,6 +66,7 @@ pub use Rattle.job.proofs.entry_count.Reads as entry-count
 pub use Rattle.job.proofs.judge.judge.Reads as judge
 pub use Rattle.job.proofs.judge.new_face_fault.Reads as new-face-fault
 pub use Rattle.sheet.proofs.read.read_sheet.Reads as read-sheet
+pub use Rattle.mend.proofs.mend.Reads as mend
 pub use Rattle.sheet_written.proofs.write_sheet.Reads as write-sheet
 pub use Rattle.worst.proofs.worst_cases.Reads as worst-cases
 pub use Rattle.worst.proofs.sums_of.Reads as sums-of
@@ -99,6 +100,7 @@ pub use Rattle.aralimogga.proofs.aral_rewrite.Reads as aral-rewrite
 pub use Rattle.aralimogga.proofs.aral_report.Reads as aral-report
 pub use Rattle.aralimogga.proofs.aral_plain.Reads as aral-plain
 pub use Rattle.claims.proofs.LentColumn as aral-column
+pub use Rattle.aralimogga.proofs.aral_mend.Reads as aral-mend
 pub use Rattle.aralimogga.proofs.aral_total.Reads as aral-total
 pub use Rattle.aralimogga.proofs.aral_open.Reads as aral-open
 pub use Rattle.aralimogga.proofs.aral_add.Reads as aral-add

@@ -15,6 +15,11 @@ same p q = p ∙ sym q
 same-both : {A B : Type 0} {v r r′ : A} {w s s′ : B} → (r ≡ v) × (s ≡ w) → (r′ ≡ v) × (s′ ≡ w) → (r ≡ r′) × (s ≡ s′)
 same-both p q = (same (p .0) (q .0), same (p .1) (q .1))
 
+-- and two results and two pairs of buffers
+same-three : {A B C : Type 0} {v r r′ : A} {w s s′ : B} {x t t′ : C} → (r ≡ v) × (s ≡ w) × (t ≡ x)
+    → (r′ ≡ v) × (s′ ≡ w) × (t′ ≡ x) → (r ≡ r′) × (_≡_ {A = B × C} (s, t) (s′, t′))
+same-three p q = (same (p .0) (q .0), λ i. (same (p .1) (q .1) i, same (p .2) (q .2) i))
+
 same-put : {b t m m′ : List ℕ} {i r r′ : ℕ} → Put b i t m r → Put b i t m′ r′ → (r ≡ r′) × (m ≡ m′)
 same-put p q = (same (p .end) (q .end), same (p .bytes) (q .bytes))
 
@@ -241,6 +246,12 @@ judge-determined κ a r r′ s s′ p q = same p q
 read-sheet-determined : OneAnswer of.read-sheet.Post
 read-sheet-determined κ a r r′ s s′ p q = same p q
 
+-- ---- mend
+
+mend-determined : OneAnswerAndBuffer of.mend.Post {B = List ℕ × List ℕ}
+    (λ κ s. (now (s .1 .0), now (s .1 .1 .0)))
+mend-determined κ a r r′ s s′ p q = same-three p q
+
 -- ---- written
 
 write-sheet-determined : OneAnswerAndBuffer of.write-sheet.Post (λ κ s. now (s .1 .0))
@@ -359,6 +370,10 @@ aral-plain-determined κ a r r′ s s′ p q = same-both p q
 
 aral-column-determined : OneAnswerAndBuffer of.aral-column.Post (λ κ s. now (s .1 .1 .1 .0))
 aral-column-determined κ a r r′ s s′ p q = same-both p q
+
+aral-mend-determined : OneAnswerAndBuffer of.aral-mend.Post {B = List ℕ × List ℕ}
+    (λ κ s. (now (s .1 .0), now (s .1 .1 .0)))
+aral-mend-determined κ a r r′ s s′ p q = same-three p q
 
 aral-total-determined : OneAnswer of.aral-total.Post
 aral-total-determined κ a r r′ s s′ p q = same p q

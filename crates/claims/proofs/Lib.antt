@@ -13,6 +13,7 @@ pub mod Item6
 pub mod Item7
 pub mod Item8
 pub mod Item9
+pub mod Item10
 pub mod Item11
 pub mod Item12
 pub mod Printed
@@ -34,6 +35,7 @@ pub mod Edit
 pub mod Session
 pub mod Total
 pub mod Written
+pub mod Mended
 pub mod Decimal
 pub mod Again
 pub mod Shown

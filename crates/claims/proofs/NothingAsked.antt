@@ -224,6 +224,11 @@ judge-asks κ a = tt
 read-sheet-asks : AsksNothing of.read-sheet.Asked
 read-sheet-asks κ a = tt
 
+-- ---- mend
+
+mend-asks : AsksNothing of.mend.Asked
+mend-asks κ a = tt
+
 -- ---- written
 
 write-sheet-asks : AsksNothing of.write-sheet.Asked
@@ -342,6 +347,9 @@ aral-plain-asks κ a = tt
 
 aral-column-asks : AsksNothing of.aral-column.Asked
 aral-column-asks κ a = tt
+
+aral-mend-asks : AsksNothing of.aral-mend.Asked
+aral-mend-asks κ a = tt
 
 aral-total-asks : AsksNothing of.aral-total.Asked
 aral-total-asks κ a = tt

@@ -12,6 +12,7 @@ use Rattle.claims.specs.Contract.{RefusedUnchanged, IsRefused}
 use Rattle.claims.proofs.Contracts as of
 use Rattle.verdict.specs.declared.Verdict.{Verdict}
 use Rattle.verdict.specs.Verdict.{accepted, refusal, Refuses}
+use Rattle.whole.proofs.Tests.{by-test}
 use Rattle.page.specs.declared.Writing.{Writing}
 use Rattle.page.specs.declared.Writing.the-variants as written
 use Rattle.page.specs.Writing.{writing, bufferAfter}
@@ -21,6 +22,8 @@ use Rattle.whole.specs.Digits.{decimal}
 use Rattle.job.specs.Carried.{Carried}
 use Rattle.job.specs.Walk.{Reading, Accepted, Refused, judged}
 use Rattle.sheet.specs.Sheet.{reading, sheetText, jobWriting, jobBuffer}
+use Rattle.mend.specs.declared.Mending.{Mending}
+use Rattle.mend.specs.Mending.{roomFor, hasRoom, mendingOf, textAfter, listAfter}
 use Rattle.plain.specs.Plain.{plainly}
 use Rattle.report.specs.Report.{reportText, storedText, totalsText}
 use Rattle.answers.specs.declared.Text.{Text}
@@ -82,6 +85,22 @@ column-kept x line old {r} {after} p h = go (eqb (hostTotal x line .verdict .num
     go true e q b = share-kept (forcesOn line x) old (q, b) h
     go false e q b = b
 
+-- ---- a text and a list put into two buffers
+
+module _ (text out list : List ℕ) where
+  both-kept : {r : Mending} {out′ list′ : List ℕ}
+      → (r ≡ mendingOf text out list) × (out′ ≡ textAfter text out list) × (list′ ≡ listAfter text out list)
+      → Refuses (r .verdict) → _≡_ {A = List ℕ × List ℕ} (out′, list′) (out, list)
+  both-kept {r} {out′} {list′} p h =
+      by-test (roomFor text out list)
+      (λ t.
+      let e : r ≡ hasRoom text = p .0 ∙ rw t in
+      absurd (h (ap (λ (m : Mending). m .verdict .number) e)))
+      (λ t.
+      let o : out′ ≡ out = p .1 ∙ rw t in
+      let l : list′ ≡ list = p .2 ∙ rw t in
+      λ i. (o i, l i))
+
 -- ---- the list
 
 emit-unchanged : RefusedUnchanged of.emit.Post (λ κ r. IsRefused r) (λ κ a. now (a .1 .1 .0))
@@ -94,6 +113,10 @@ share-unchanged κ a r s p h = share-kept (now (a .0)) (now (a .1 .0)) p h
 write-decimal-unchanged : RefusedUnchanged of.write-decimal.Post (λ κ r. IsRefused r) (λ κ a. now (a .1 .0))
     (λ κ s. now (s .1 .0))
 write-decimal-unchanged κ a r s p h = text-kept (decimal (a .0)) (now (a .1 .0)) p h
+
+mend-unchanged : RefusedUnchanged of.mend.Post {B = List ℕ × List ℕ} (λ κ r. Refuses (r .verdict))
+    (λ κ a. (now (a .1 .0), now (a .1 .1 .0))) (λ κ s. (now (s .1 .0), now (s .1 .1 .0)))
+mend-unchanged κ a r s p h = both-kept (now (a .0)) (now (a .1 .0)) (now (a .1 .1 .0)) p h
 
 write-sheet-unchanged : RefusedUnchanged of.write-sheet.Post (λ κ r. IsRefused r) (λ κ a. now (a .1 .0))
     (λ κ s. now (s .1 .0))
@@ -133,6 +156,10 @@ aral-plain-unchanged κ a r s p h =
     let x = plainly (reading (now (a .0))) in
     let w = jobWriting reportText x (now (a .1 .0)) in
     job-kept reportText x (now (a .1 .0)) (refl, p .1) (host-refused w (p .0) h)
+
+aral-mend-unchanged : RefusedUnchanged of.aral-mend.Post {B = List ℕ × List ℕ} (λ κ r. Refuses (r .verdict))
+    (λ κ a. (now (a .1 .0), now (a .1 .1 .0))) (λ κ s. (now (s .1 .0), now (s .1 .1 .0)))
+aral-mend-unchanged κ a r s p h = both-kept (now (a .0)) (now (a .1 .0)) (now (a .1 .1 .0)) p h
 
 aral-show-unchanged : RefusedUnchanged of.aral-show.Post (λ κ r. Refuses (r .verdict)) (λ κ a. now (a .1 .0))
     (λ κ s. now (s .1 .0))

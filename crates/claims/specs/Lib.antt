@@ -1,6 +1,7 @@
 -- What the demands speak of, beside the definitions of the other crates.
 pub mod Contract
 pub mod Written
+pub mod Mended
 pub mod Decimal
 pub mod Fault
 pub mod Question
