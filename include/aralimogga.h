@@ -13,7 +13,7 @@
    4       h/b is over 6, or a/b is under 1 or over 4; in years 1 and 2 also where a/b is 1
    5       the roof number x is outside its kind's range
    6       the zone or local is not on this building; on one with roof kind 6 also a wall in another wind than 0 and 90
-   7       the lent buffer or column is too short (line 0)
+   7       a lent buffer, column or list is too short (line 0)
    8       the face's height is outside the profile
    9       there is no such face to be edited (line 0)
    10      more than 8 faces have two alternatives under at least one of the job's winds (line 0); by aral_plain alone
@@ -32,8 +32,8 @@
    no line is at fault. The sheet is bytes, not a C string: a zero byte is a byte like another, and none ends it.
 
    What a caller owes: a pointer and its length name bytes or entries that may be read (`sheet`, `faces`) or written
-   (`out`, `column`), the two do not overlap, and no other thread writes them during the call. Where the length is 0 the
-   pointer may be null. */
+   (`out`, `column`, `list`), no two of a call overlap, and no other thread writes them during the call. Where the length
+   is 0 the pointer may be null. */
 #ifndef ARALIMOGGA_H
 #define ARALIMOGGA_H
 
@@ -45,8 +45,9 @@ extern "C" {
 #endif
 
 /* The version of these shapes: it rises where a record or a call changes. 2: a coefficient names its rows. 3: a
-   question names its year. 4: worksheets. 5: a worksheet keeps its sums. 6: the plain engine. 7: newton columns. */
-#define ARAL_VERSION 7
+   question names its year. 4: worksheets. 5: a worksheet keeps its sums. 6: the plain engine. 7: newton columns.
+   8: sheets mended. */
+#define ARAL_VERSION 8
 
 /* The refusals by name. */
 enum {
@@ -75,6 +76,23 @@ typedef struct { uint32_t number, line; } aral_answer;
 
 /* Accepted (0, 0) with the length of the text now at the start of the buffer; or the refusal, with length 0. */
 typedef struct { uint32_t number, line; uint64_t length; } aral_text;
+
+/* What mending changes: the kinds of its list. ARAL_MEND_END is a byte added, the others are bytes taken out. */
+enum {
+    ARAL_MEND_RETURN = 1,
+    ARAL_MEND_SPACE = 2,
+    ARAL_MEND_PLUS = 3,
+    ARAL_MEND_ZERO = 4,
+    ARAL_MEND_END = 5
+};
+
+/* The call's own answer, (0, 0) or (7, 0); then the length of the mended text, how many changes the list has, and what
+   aral_read answers of the mended text: (0, 0), or its refusal. Everything after `line` is 0 where refused with 7. */
+typedef struct {
+    uint32_t number, line;
+    uint64_t length, changes;
+    uint32_t refused_number, refused_line;
+} aral_mended;
 
 /* `count` coefficients in thousandths, a zone's alternatives in order; entries past the count are 0. Only zone F of a
    flat roof has two.
@@ -168,6 +186,24 @@ aral_answer aral_read(const uint8_t *sheet, size_t n);
    The text stands at the buffer's start and the bytes after it stay as they were; a refused call changes no byte.
    No text is longer than ARAL_SHEET_MOST bytes. */
 aral_text aral_rewrite(const uint8_t *sheet, size_t n, uint8_t *out, size_t room);
+
+/* Mends the slips of the keyboard in the n bytes of a text, whatever they are. Writes the mended text, and lists each
+   byte taken out or added, in the order received. Taken out are, each over what the one before it left,
+     1  every carriage return;
+     2  every space that follows a space, or has only spaces up to its line's end;
+     3  a plus that opens a field and stands directly before a digit;
+     4  in a field of digits with at most one minus before them, every leading zero with a digit after it.
+   Lines end with LF or with the text, and fields with a space or their line. If what is left is not empty and does not
+   end in LF, one is added, which is kind 5. Nothing else changes: `++5`, `-0`, a lone plus and a tab stay.
+   A change is three numbers of the list: the line, the kind, and the place in the line, both as received and counted
+   from 1; an added end stands one past the last byte of its line. Lines and places rise from change to change, so text
+   and list give back what was received. Mended text mended again, and a sheet whose every line is in form, stay as they
+   are, with no change.
+   Refuses only with 7, line 0, where the text is longer than `room` or the list than `list_room`, which counts numbers
+   and not changes; n + 1 and 3 * (n + 1) always suffice. Text and list stand at their buffers' starts and what is after
+   them stays as it was; a refused call changes no byte of either. A refusal of the mended text is no refusal of the
+   call: the text and the list stand beside it. */
+aral_mended aral_mend(const uint8_t *sheet, size_t n, uint8_t *out, size_t room, uint64_t *list, size_t list_room);
 
 /* Reads a sheet and writes the report of its worst cases: six lines, `x max`, `x min`, `y max`, `y min`, `z max`,
    `z min`, each followed by the total in units, the wind, the internal coefficient and each face's alternative.
