@@ -4,6 +4,7 @@
 #include "cases.h"
 #include "edit.h"
 #include "handout.h"
+#include "mend.h"
 #include "rows.h"
 #include "winds.h"
 #include "words.h"
@@ -18,7 +19,10 @@ static const char help[] =
     "\n"
     "  aral totals FILE   the six worst totals: axis, max or min, total, wind, internal, each face's alternative\n"
     "  aral check FILE    whether the sheet is accepted, and if not, which line is wrong and what it may say;\n"
-    "                     of an accepted one also which of its winds change nothing\n"
+    "                     of an accepted one also which of its winds change nothing, of another also whether mending\n"
+    "                     would help\n"
+    "  aral mend FILE     the sheet without slips of the keyboard; on standard error what was taken out, at which byte\n"
+    "                     of which line, and what is refused all the same: aral mend FILE >NEW\n"
     "  aral plain FILE    the same six lines by the plain engine, which walks every case, and how many there were\n"
     "  aral plain --cases FILE   each of these cases, with its totals on x, y and z\n"
     "  aral column FILE LINE     whole newtons for each face that add up to the total of one line, for the handout;\n"
@@ -44,16 +48,20 @@ static const char help[] =
     "A sheet of year 2 opens with `V 1` and the line `2`. After I it has a section P, the wind's profile: heights in\n"
     "cm, each with its part of the speed in thousandths; and each face has a height in cm after its mark.\n"
     "One of year 3 opens with `V 1` and `3`, is written in the same way, and may have a square plan, a equal to b.\n"
+    "`mend` takes out carriage returns, spaces that follow a space or end a line, a plus before a number and zeros\n"
+    "that lead it, and ends the last line. It changes nothing else, and a sheet in form not at all.\n"
     "\n"
     "The exit status is 0, or 1 where the sheet or the question is refused, or 2 where the command is none of these.\n"
     "That of `edit` is the worst of its lines: 1 where an edit was refused or a file could not be written, 2 where a\n"
-    "line was none of its own.\n";
+    "line was none of its own. That of `mend` is 1 where the mended sheet is refused or could not be written.\n";
 
 /* ---- Sheets ---- */
 
-/* No acceptable sheet is so long (ARAL_SHEET_MOST), so what lies past this much of a text changes no answer. */
-static uint8_t sheet[1 << 16];
+/* No acceptable sheet is so long (ARAL_SHEET_MOST), so what lies past this much of a text changes no answer. But then
+   it can't be mended. */
+static uint8_t sheet[1 << 24];
 static size_t length;
+static int longer;
 
 static int load(const char *name)
 {
@@ -63,6 +71,7 @@ static int load(const char *name)
         return 0;
     }
     length = fread(sheet, 1, sizeof sheet, file);
+    longer = length == sizeof sheet && getc(file) != EOF;
     int good = !ferror(file);
     if (!good) fprintf(stderr, "aral: %s can't be read\n", name);
     if (file != stdin) fclose(file);
@@ -87,11 +96,19 @@ static int check(void)
     aral_answer answer = aral_read(sheet, length);
     if (answer.number) {
         explain(sheet, length, answer);
+        if (!longer) tell_mending(sheet, length, answer);
         return REFUSED;
     }
     describe(sheet, length);
     tell_unnamed_winds(sheet, length);
     return ACCEPTED;
+}
+
+static int mend(void)
+{
+    if (!longer) return show_mended(sheet, length);
+    fprintf(stderr, "aral: what has more than %zu bytes is not mended\n", sizeof sheet);
+    return MISUSED;
 }
 
 static int edit_sheet(void) { return edit(sheet, length); }
@@ -319,7 +336,7 @@ static int ask(int count, char **word)
 int main(int argc, char **argv)
 {
     static const struct { const char *name; int (*run)(void); } command[] = {
-        {"totals", totals}, {"check", check}, {"plain", plain}, {"panel", panel}, {"edit", edit_sheet}};
+        {"totals", totals}, {"check", check}, {"mend", mend}, {"plain", plain}, {"panel", panel}, {"edit", edit_sheet}};
     if (argc == 2 && (!strcmp(argv[1], "help") || !strcmp(argv[1], "--help"))) {
         fputs(help, stdout);
         return ACCEPTED;

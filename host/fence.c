@@ -60,13 +60,13 @@ const uint8_t *lend(const uint8_t *bytes, size_t n, int after)
     return at;
 }
 
-/* The bytes that are looked at round a lent room. */
-static uint8_t *watched(int after) { return after ? output.end - WATCHED : output.start; }
+/* The bytes that are looked at round a room lent at one end of a fence. */
+static uint8_t *watched_in(fence f, size_t watched, int after) { return after ? f.end - watched : f.start; }
 
-uint8_t *lend_room(size_t room, int after)
+uint8_t *lend_within(fence f, size_t watched, size_t room, int after)
 {
-    memset(watched(after), FILL, WATCHED);
-    return after ? output.end - room : output.start;
+    memset(watched_in(f, watched, after), FILL, watched);
+    return after ? f.end - room : f.start;
 }
 
 static int filled(const uint8_t *from, const uint8_t *to)
@@ -76,9 +76,16 @@ static int filled(const uint8_t *from, const uint8_t *to)
     return 1;
 }
 
+void check_within(fence f, size_t watched, const uint8_t *at, int after, const void *held, size_t length)
+{
+    const uint8_t *from = watched_in(f, watched, after);
+    if (memcmp(at, held, length)) fail("the text at an edge");
+    if (!filled(from, at) || !filled(at + length, from + watched)) fail("a byte that should have stayed");
+}
+
+uint8_t *lend_room(size_t room, int after) { return lend_within(output, WATCHED, room, after); }
+
 void check_room(const uint8_t *at, int after, const uint8_t *text, size_t length)
 {
-    const uint8_t *from = watched(after);
-    if (memcmp(at, text, length)) fail("the text at an edge");
-    if (!filled(from, at) || !filled(at + length, from + WATCHED)) fail("a byte that should have stayed");
+    check_within(output, WATCHED, at, after, text, length);
 }

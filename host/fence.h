@@ -22,4 +22,8 @@ uint8_t *lend_room(size_t room, int after);
 /* Fails where the lent room does not begin with the text, or where a byte outside the text is not as it was. */
 void check_room(const uint8_t *at, int after, const uint8_t *text, size_t length);
 
+/* The same for a room within a fence of one's own, with so many bytes looked at from its page on. */
+uint8_t *lend_within(fence f, size_t watched, size_t room, int after);
+void check_within(fence f, size_t watched, const uint8_t *at, int after, const void *held, size_t length);
+
 #endif

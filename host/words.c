@@ -398,17 +398,22 @@ static const char *allowed_at(const uint8_t *sheet, size_t n, role r)
     return r == WIND ? winds_of(value[4]) : marks_of(value[4]);
 }
 
-void explain(const uint8_t *sheet, size_t n, aral_answer refusal)
+const char *title_of(uint32_t number)
 {
     static const char *const title[] = {
         "", "not in form", "a count outside its limits", "a number outside its range",
         "proportions that the tables do not cover", "a roof number that its kind does not allow",
         "a zone that this building has not, or not in this wind", "no room", "a height outside the profile"};
+    return title[number];
+}
+
+void explain(const uint8_t *sheet, size_t n, aral_answer refusal)
+{
     char field[FIELDS][FIELD_ROOM];
     uint32_t item, count;
     role r = role_at(sheet, n, refusal.line, &item, &count);
     line_text t = line_at(sheet, n, refusal.line);
-    printf("refused with %u at line %u: %s\n", refusal.number, refusal.line, title[refusal.number]);
+    printf("refused with %u at line %u: %s\n", refusal.number, refusal.line, title_of(refusal.number));
     show_line(refusal.line, &t);
     cut(&t, field);
     if (refusal.number == 1) explain_form(&t, r);

@@ -7,6 +7,9 @@
 /* Prints the refusal of a sheet: the line it names, what is wrong with it, and what would be allowed there. */
 void explain(const uint8_t *sheet, size_t n, aral_answer refusal);
 
+/* What a refusal of a sheet is, in a few words: of 3, `a number outside its range`. */
+const char *title_of(uint32_t number);
+
 /* Prints what an accepted sheet holds. */
 void describe(const uint8_t *sheet, size_t n);
 

@@ -7,9 +7,9 @@
 
 static const calculator both[] = {
     {"library", aral_read, aral_report, aral_plain, aral_outside, aral_net, aral_panel, aral_open, aral_add,
-     aral_replace, aral_take_out, aral_show, aral_write, aral_column},
+     aral_replace, aral_take_out, aral_show, aral_write, aral_column, aral_mend},
     {"plain", plain_read, plain_report, plain_plain, plain_outside, plain_net, plain_panel, plain_open, plain_add,
-     plain_replace, plain_take_out, plain_show, plain_write, plain_column}};
+     plain_replace, plain_take_out, plain_show, plain_write, plain_column, plain_mend}};
 static int cases, failures;
 
 void expect(const calculator *c, const char *what, int holds)
@@ -497,6 +497,7 @@ int main(void)
         check_edits(&both[i]);
         check_engine(&both[i]);
         check_newtons(&both[i]);
+        check_mending(&both[i]);
     }
     printf("%d worked cases on both calculators, %d failed\n", cases, failures);
     return failures != 0;

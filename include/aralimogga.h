@@ -32,8 +32,8 @@
    no line is at fault. The sheet is bytes, not a C string: a zero byte is a byte like another, and none ends it.
 
    What a caller owes: a pointer and its length name bytes or entries that may be read (`sheet`, `faces`) or written
-   (`out`, `column`, `list`), no two of a call overlap, and no other thread writes them during the call. Where the length
-   is 0 the pointer may be null. */
+   (`out`, `column`, `list`), no two of a call overlap, and no other thread writes them during the call. Where the
+   length is 0 the pointer may be null. */
 #ifndef ARALIMOGGA_H
 #define ARALIMOGGA_H
 
