@@ -1,7 +1,7 @@
-/* Mends texts by the library and by the plain calculator: mends SEED TEXTS LENGTH. First every text up to LENGTH over
-   the bytes that matter, then TEXTS sheets with slips put in and as many others, then texts of a megabyte. All three
-   buffers are lent against pages that can't be touched. Answer, text and list must be the same, and must keep what
-   mending promises. It stops where something is not so. */
+/* Mends texts by the library and by the plain calculator: mends SEED TEXTS LENGTH BYTES. First every text up to LENGTH
+   over the bytes that matter, then TEXTS sheets with slips put in and as many others, then texts of so many BYTES, at
+   most a megabyte. All three buffers are lent against pages that can't be touched. Answer, text and list must be the
+   same, and must keep what mending promises. It stops where something is not so. */
 #define _POSIX_C_SOURCE 199309L
 #include "aralimogga.h"
 #include "fence.h"
@@ -265,22 +265,23 @@ static void check_linear(const char *name, const uint8_t *small, const uint8_t *
     exit(1);
 }
 
-static void try_long(void)
+static void try_long(size_t n)
 {
     static uint8_t small[1 << 13], large[1 << 16], byte[MOST];
     for (size_t i = 0; i < sizeof long_texts / sizeof *long_texts; i++) {
         long_text(i, sizeof small, small);
         long_text(i, sizeof large, large);
         check_linear(long_texts[i].name, small, large, sizeof small);
-        try_text(byte, long_text(i, MOST, byte));
+        try_text(byte, long_text(i, n, byte));
     }
-    for (int i = 0; i < 4; i++) try_text(byte, soup(byte, MOST));
+    for (int i = 0; i < 4; i++) try_text(byte, soup(byte, n));
 }
 
 int main(int argc, char **argv)
 {
-    if (argc != 4) {
-        fprintf(stderr, "mends SEED TEXTS LENGTH\n");
+    size_t longest = argc == 5 ? strtoul(argv[4], NULL, 10) : 0;
+    if (longest < 10 || longest > MOST) {
+        fprintf(stderr, "mends SEED TEXTS LENGTH BYTES\n");
         return 2;
     }
     die.state = strtoull(argv[1], NULL, 10);
@@ -291,7 +292,7 @@ int main(int argc, char **argv)
     list_room = make_fence(32 * MOST);
     unsigned long every = every_text(strtoul(argv[3], NULL, 10));
     for (unsigned long i = 0, count = strtoul(argv[2], NULL, 10); i < count; i++) try_sheet();
-    try_long();
+    try_long(longest);
     printf("%lu texts, %lu of them every one up to length %s; changed %lu and given back from text and list\n",
            tally.texts, every, argv[3], tally.undone);
     printf("sheets accepted and unchanged %lu, refused and accepted once mended %lu, slips all taken back %lu\n",
