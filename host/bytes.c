@@ -1,8 +1,8 @@
 /* Mends a text over and over, for the benchmark:
      bytes library|plain sheet|spaces|zeros BYTES TIMES [timed]
    The text has so many bytes: a sheet with slips repeated and cut off there, or one byte. The buffers always suffice
-   and are not cleared between times. Prints a sum over text and list, which is the same for both; or with `timed` how often
-   in a second of processor time. */
+   and are not cleared between times. Prints a sum over text and list, which is the same for both; or with `timed` how
+   often in a second of processor time. */
 #define _POSIX_C_SOURCE 199309L
 #include "aralimogga.h"
 #include "plain.h"
