@@ -25,7 +25,7 @@ static int mended(const uint8_t *sheet, size_t n, mending *m)
     return m->answer.number == 0;
 }
 
-static void give_back(mending *m)
+static void release(mending *m)
 {
     free(m->text);
     free(m->list);
@@ -187,7 +187,7 @@ int show_mended(const uint8_t *sheet, size_t n)
     printf(m.answer.changes ? "Mended, the sheet is " : "There was nothing to mend: the sheet is ");
     if (refusal.number) explain(m.text, m.answer.length, refusal);
     else printf("accepted.\n");
-    give_back(&m);
+    release(&m);
     return written && !refusal.number ? ACCEPTED : REFUSED;
 }
 
@@ -207,5 +207,5 @@ void tell_mending(const uint8_t *sheet, size_t n, aral_answer refusal)
     mending m;
     int known = mended(sheet, n, &m);
     if (known && (m.answer.refused_number != refusal.number || m.answer.refused_line != refusal.line)) tell_help(&m);
-    give_back(&m);
+    release(&m);
 }

@@ -31,7 +31,7 @@ static left all_of(const uint8_t *sheet, size_t n)
     return t;
 }
 
-static void give_back(left *t)
+static void release(left *t)
 {
     free(t->byte);
     free(t->from);
@@ -138,13 +138,13 @@ aral_mended ENTRY(mend)(const uint8_t *sheet, size_t n, uint8_t *out, size_t roo
     int added = t.length > 0 && t.byte[t.length - 1] != '\n';
     aral_mended m = {.length = t.length + (size_t)added, .changes = list_changes(&t, sheet, n, added, NULL)};
     if (m.length > room || 3 * m.changes > list_room) {
-        give_back(&t);
+        release(&t);
         return (aral_mended){.number = ROOM};
     }
     if (t.length > 0) memcpy(out, t.byte, t.length);
     if (added) out[t.length] = '\n';
     if (m.changes > 0) list_changes(&t, sheet, n, added, list);
-    give_back(&t);
+    release(&t);
     aral_answer read = ENTRY(read)(out, m.length);
     m.refused_number = read.number;
     m.refused_line = read.line;
