@@ -195,9 +195,9 @@ aral_text aral_rewrite(const uint8_t *sheet, size_t n, uint8_t *out, size_t room
      4  in a field of digits with at most one minus before them, every leading zero with a digit after it.
    Lines end with LF or with the text, and fields with a space or their line. If what is left is not empty and does not
    end in LF, one is added, which is kind 5. Nothing else changes: `++5`, `-0`, a lone plus and a tab stay.
-   A change is three numbers of the list: the line, the kind, and the place in the line, both as received and counted
-   from 1; an added end stands one past the last byte of its line. Lines and places rise from change to change, so text
-   and list give back what was received. Mended text mended again, and a sheet whose every line is in form, stay as they
+   A change is three numbers of the list: line, kind, and place in the line. Line and place are those received, counted
+   from 1; an added end stands one past the last byte of its line. They rise from change to change, and text and list
+   give back what was received. Mended text mended again, and a sheet whose every line is in form, stay as they
    are, with no change.
    Refuses only with 7, line 0, where the text is longer than `room` or the list than `list_room`, which counts numbers
    and not changes; n + 1 and 3 * (n + 1) always suffice. Text and list stand at their buffers' starts and what is after
