@@ -18,7 +18,7 @@ use Rattle.job.specs.Walk.{Accepted, verdict}
 use Rattle.sheet.specs.Sheet.{reading}
 use Rattle.mend.specs.declared.Mending.{Mending}
 use Rattle.mend.specs.Mended.{ended, mended}
-use Rattle.mend.specs.Changes.{Change, changes, numbers}
+use Rattle.mend.specs.Changes.{Change, changes, asNumbers}
 use Rattle.mend.specs.Mending.{roomFor, noRoom}
 use Rattle.mend.specs.Told.{PlacesRise, Tells, unnamed}
 use Rattle.mend.specs.Restored.{restored}
@@ -134,14 +134,14 @@ module _ (s out list : List ℕ) where
   short-room : (length out < length (mended s)) ⊎ (length list < 3 * length (changes s)) → roomFor s out list ≡ false
   short-room (inl h) = rw (lt-leb (length (mended s)) (length out) h)
   short-room (inr h) =
-      rw (lt-leb (length (numbers (changes s))) (length list) (omega (arith, numbers-length (changes s))))
+      rw (lt-leb (length (asNumbers (changes s))) (length list) (omega (arith, numbers-length (changes s))))
       (bool.and-false (leb (length (mended s)) (length out)))
 
   enough-room : length (mended s) ≤ length out → 3 * length (changes s) ≤ length list → roomFor s out list ≡ true
   enough-room h k =
       rw (
         le-leb (length (mended s)) (length out) h,
-        le-leb (length (numbers (changes s))) (length list) (omega (arith, numbers-length (changes s))),
+        le-leb (length (asNumbers (changes s))) (length list) (omega (arith, numbers-length (changes s))),
       )
 
 pub refused-for-room : RefusedForRoom

@@ -33,7 +33,7 @@ use Rattle.sharing.proofs.AddsUp.{adds-up}
 use Rattle.sharing.proofs.Near.{near}
 use Rattle.sharing.proofs.Fairly.{column-is, column-only}
 use Rattle.column.specs.declared.Setting.{Setting}
-use Rattle.column.specs.Setting.{jobWith, carriedWith, judgedWith}
+use Rattle.column.specs.Setting.{recordWith, carriedWith, judgedWith}
 use Rattle.column.specs.Column.{axisOf, forcesShown, forcesOn, columnVerdict, columnAfter}
 use Rattle.column.proofs.AtChoice.{choice-length}
 use Rattle.column.proofs.OfCase as case
@@ -105,7 +105,7 @@ module _ (g : Setting) (faces : List Face) (c : Carried) (e : judgedWith g faces
   many : length (c .faces) ≡ length faces
   unfolding listed
   many =
-      let j = jobWith g (listed faces) in
+      let j = recordWith g (listed faces) in
       let a = judged-listed g faces ∙ e in
       let is = judged-carried j c a in
       let t : Taken j = record { order = subst InOrder is o; accepted = a ∙ ap Accepted is } in

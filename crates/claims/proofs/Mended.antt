@@ -11,13 +11,13 @@ use Rattle.verdict.specs.declared.Verdict.{Verdict}
 use Rattle.verdict.specs.Verdict.{accepted}
 use Rattle.mend.specs.declared.Mending.{Mending}
 use Rattle.mend.specs.Mended.{mended}
-use Rattle.mend.specs.Changes.{Change, changes, numbers}
+use Rattle.mend.specs.Changes.{Change, changes, asNumbers}
 use Rattle.mend.specs.Mending.{roomFor, hasRoom, mendingOf, textAfter, listAfter}
 use Rattle.mend.proofs.Counted.{numbers-length}
 use Rattle.claims.specs.Mended.{textIn, changesIn, listIn}
 
-changes-read : (cs : List Change) → changesIn (numbers cs) ≡ cs
-unfolding changesIn numbers
+changes-read : (cs : List Change) → changesIn (asNumbers cs) ≡ cs
+unfolding changesIn asNumbers
 changes-read [] = refl
 changes-read (c ∷ cs) = ap (λ (l : List Change). c ∷ l) (changes-read cs)
 
@@ -39,13 +39,13 @@ module _ (s out list : List ℕ) {r : Mending} {out′ list′ : List ℕ}
   text-long : length (mended s) ≡ r .length
   text-long = sym (ap (λ (m : Mending). m .length) answer-is)
 
-  list-long : length (numbers (changes s)) ≡ 3 * r .changes
+  list-long : length (asNumbers (changes s)) ≡ 3 * r .changes
   list-long = numbers-length (changes s) ∙ ap (λ (m : Mending). 3 * m .changes) (sym answer-is)
 
   text-there : out′ ≡ mended s ++ drop (length (mended s)) out
   text-there = p .1 ∙ rw has-room
 
-  list-there : list′ ≡ numbers (changes s) ++ drop (length (numbers (changes s))) list
+  list-there : list′ ≡ asNumbers (changes s) ++ drop (length (asNumbers (changes s))) list
   list-there = p .2 ∙ rw has-room
 
   text-is : textIn r out′ ≡ mended s
@@ -55,7 +55,7 @@ module _ (s out list : List ℕ) {r : Mending} {out′ list′ : List ℕ}
 
   list-is : listIn r list′ ≡ changes s
   list-is =
-      let ns = numbers (changes s) in
+      let ns = asNumbers (changes s) in
       ap (λ (l : List ℕ). changesIn (take (3 * r .changes) l)) list-there
       ∙ ap changesIn (take-at ns (drop (length ns) list) (3 * r .changes) list-long)
       ∙ changes-read (changes s)
@@ -69,5 +69,5 @@ module _ (s out list : List ℕ) {r : Mending} {out′ list′ : List ℕ}
   rest-is = (
     rw (sym text-long) (ap (drop (length (mended s))) text-there ∙ drop-append-seam (mended s) _),
     rw (sym list-long)
-        (ap (drop (length (numbers (changes s)))) list-there ∙ drop-append-seam (numbers (changes s)) _),
+        (ap (drop (length (asNumbers (changes s)))) list-there ∙ drop-append-seam (asNumbers (changes s)) _),
   )

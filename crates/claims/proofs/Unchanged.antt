@@ -28,7 +28,7 @@ use Rattle.plain.specs.Plain.{plainly}
 use Rattle.report.specs.Report.{reportText, storedText, totalsText}
 use Rattle.answers.specs.declared.Text.{Text}
 use Rattle.answers.specs.Answers.{hostText, hostTotal}
-use Rattle.column.specs.Setting.{jobWith, judgedWith}
+use Rattle.column.specs.Setting.{recordWith, judgedWith}
 use Rattle.column.specs.Column.{forcesOn, columnVerdict, columnAfter}
 
 -- ---- whatever text is put into a buffer, and whatever text about a job
@@ -193,7 +193,7 @@ column-of-unchanged κ a r s p h = column-kept (judged (a .0)) (a .1 .0) (now (a
 column-in-unchanged : RefusedUnchanged of.column-in.Post (λ κ r. Refuses r) (λ κ a. now (a .1 .1 .1 .0))
     (λ κ s. now (s .1 .1 .1 .0))
 column-in-unchanged κ a r s p h =
-    column-kept (judged (jobWith (a .0) (a .1 .0))) (a .1 .1 .0) (now (a .1 .1 .1 .0)) p h
+    column-kept (judged (recordWith (a .0) (a .1 .0))) (a .1 .1 .0) (now (a .1 .1 .1 .0)) p h
 
 aral-column-unchanged : RefusedUnchanged of.aral-column.Post (λ κ r. Refuses r) (λ κ a. now (a .1 .1 .1 .0))
     (λ κ s. now (s .1 .1 .1 .0))

@@ -35,7 +35,7 @@ use Rattle.job.proofs.Walk.{walk-on, walk-refused}
 use Rattle.job.proofs.Sections.{countLine}
 use Rattle.column.specs.declared.Setting.{Setting}
 use Rattle.column.specs.Listed.{listed}
-use Rattle.column.specs.Setting.{jobWith, judgedWith}
+use Rattle.column.specs.Setting.{recordWith, judgedWith}
 
 -- ---- the count of too many faces
 
@@ -151,7 +151,7 @@ module _ (c : Carried) (fs gs : List Face) (hf : 24 < length fs) (hg : 24 < leng
 
 module _ (s : Setting) (fs : List Face) where
   abbrev c : Carried
-  c = carried (jobWith s (listed []))
+  c = carried (recordWith s (listed []))
 
   abbrev kept : List Face → List Face
   kept l = map (carriedFace (hasHeights (s .year))) l
@@ -160,7 +160,7 @@ module _ (s : Setting) (fs : List Face) where
   abbrev counted : List Face
   counted = firstOf noFace (min (length fs) 25) (firstOf noFace 24 fs)
 
-  record-carries : carried (jobWith s (listed fs)) ≡ withFaces (kept counted) c
+  record-carries : carried (recordWith s (listed fs)) ≡ withFaces (kept counted) c
   unfolding carried listed
   record-carries = refl
 
@@ -180,7 +180,7 @@ module _ (s : Setting) (fs : List Face) where
       (omega (arith, length-map fs (carriedFace (hasHeights (s .year)))))
       (hasHeights (c .year))
 
-  pub judged-listed : judged (jobWith s (listed fs)) ≡ judgedWith s fs
+  pub judged-listed : judged (recordWith s (listed fs)) ≡ judgedWith s fs
   unfolding judged judgedWith
   judged-listed =
       ap (λ d. readLines (linesOf d)) record-carries

@@ -12,8 +12,8 @@ use Rattle.column.specs.declared.Setting.{Setting}
 use Rattle.column.specs.Listed.{listed}
 
 -- with faces as a record
-abbrev pub jobWith : Setting → Faces → Job
-jobWith s faces =
+abbrev pub recordWith : Setting → Faces → Job
+recordWith s faces =
     record {
       year = s .year;
       building = s .building;
@@ -25,7 +25,7 @@ jobWith s faces =
 
 -- all that the sheet of a setting with these faces carries: what it carries without a face, and the faces
 abbrev pub carriedWith : Setting → List Face → Carried
-carriedWith s fs = withFaces (map (carriedFace (hasHeights (s .year))) fs) (carried (jobWith s (listed [])))
+carriedWith s fs = withFaces (map (carriedFace (hasHeights (s .year))) fs) (carried (recordWith s (listed [])))
 
 -- it gets the number and line that its sheet would get
 unfoldable pub judgedWith : Setting → List Face → Reading

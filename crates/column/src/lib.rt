@@ -9,7 +9,7 @@ ghost use Rattle.worst.specs.Rows.{Taken};
 ghost use Rattle.answers.specs.Answers.{hostLine};
 ghost use Rattle.sharing.specs.Column.{column, sharing};
 ghost use Rattle.column.specs.Column.{forcesOn, columnVerdict, columnAfter};
-ghost use Rattle.column.specs.Setting.{jobWith};
+ghost use Rattle.column.specs.Setting.{recordWith};
 use answers::Extreme;
 use building::Building;
 use job::Faces;
@@ -65,8 +65,8 @@ pub fn column_of(job: Job, line: i64, list: &mut [i64]) -> Verdict
 
 // Of a setting with faces as a record.
 pub fn column_in(s: Setting, faces: Faces, line: i64, list: &mut [i64]) -> Verdict
-    ensures { λ r. ⌜ (r ≡ columnVerdict (judged (jobWith s faces)) line (now (list .entry)))
-        × (now (list .exit) ≡ columnAfter (judged (jobWith s faces)) line (now (list .entry))) ⌝ }
+    ensures { λ r. ⌜ (r ≡ columnVerdict (judged (recordWith s faces)) line (now (list .entry)))
+        × (now (list .exit) ≡ columnAfter (judged (recordWith s faces)) line (now (list .entry))) ⌝ }
 {
     let building = s.building;
     let winds = s.winds;

@@ -19,7 +19,7 @@ use Rattle.sheet.proofs.Answered.{read-verdict}
 use Rattle.mend.specs.declared.tally.Tally.{Tally}
 use Rattle.mend.specs.declared.Mending.{Mending}
 use Rattle.mend.specs.Mended.{left, final, withEnd, mended}
-use Rattle.mend.specs.Changes.{Change, listed, changes, numbers}
+use Rattle.mend.specs.Changes.{Change, changesFrom, changes, asNumbers}
 use Rattle.mend.specs.Mending.{roomFor, noRoom, mendingOf, textAfter, listAfter}
 use Rattle.mend.specs.OneWalk.{atStart, fatesFrom, tallied, nothingTallied, tallyEnded}
 use Rattle.mend.proofs.Counted.{tallied-kept, tallied-last, tallied-listed, numbers-length}
@@ -42,7 +42,7 @@ module _ (s : List ℕ) (t all : Tally) (ht : t ≡ tallied nothingTallied (fate
   unfolding mended
   text-is = rw (fates-walked s, last-is)
 
-  list-is : changes s ≡ listed added 1 1 (fatesFrom atStart s)
+  list-is : changes s ≡ changesFrom added 1 1 (fatesFrom atStart s)
   unfolding changes
   list-is = rw (fates-walked s, last-is)
 
@@ -62,7 +62,7 @@ module _ (s : List ℕ) (t all : Tally) (ht : t ≡ tallied nothingTallied (fate
       ∙ by-test (eqb (t .last) 10) (λ e. rw (ha, e) (omega (arith, rw e at k)))
       (λ e. rw (ha, e) (omega (arith, rw e at k)))
 
-  numbers-many : length (numbers (changes s)) ≡ 3 * all .taken
+  numbers-many : length (asNumbers (changes s)) ≡ 3 * all .taken
   numbers-many = omega (arith, numbers-length (changes s), list-length)
 
   module _ (out list : List ℕ) where
@@ -76,16 +76,16 @@ module _ (s : List ℕ) (t all : Tally) (ht : t ≡ tallied nothingTallied (fate
       pub no-list-room : length list / 3 < all .taken → Meets s out list r out list
       no-list-room h =
           refused
-          (rw (lt-leb (length (numbers (changes s))) (length list) (omega (arith, numbers-many)))
+          (rw (lt-leb (length (asNumbers (changes s))) (length list) (omega (arith, numbers-many)))
           (bool.and-false (leb (length (mended s)) (length out))))
 
     module _ (h : all .kept ≤ length out) (k : all .taken ≤ length list / 3) {out′ list′ : List ℕ}
         (w : (out′ ≡ sets out 0 (withEnd added (left (fatesFrom atStart s))))
-        × (list′ ≡ sets list 0 (numbers (listed added 1 1 (fatesFrom atStart s))))) where
+        × (list′ ≡ sets list 0 (asNumbers (changesFrom added 1 1 (fatesFrom atStart s))))) where
       text-fits : length (mended s) ≤ length out
       text-fits = omega (arith, text-length)
 
-      list-fits : length (numbers (changes s)) ≤ length list
+      list-fits : length (asNumbers (changes s)) ≤ length list
       list-fits = omega (arith, numbers-many)
 
       out-is : out′ ≡ mended s ++ drop (length (mended s)) out
@@ -93,10 +93,10 @@ module _ (s : List ℕ) (t all : Tally) (ht : t ≡ tallied nothingTallied (fate
           put-start {l = out} {s = mended s} (record { end = refl; bytes = w .0 ∙ ap (sets out 0) (sym text-is) })
           text-fits
 
-      list′-is : list′ ≡ numbers (changes s) ++ drop (length (numbers (changes s))) list
+      list′-is : list′ ≡ asNumbers (changes s) ++ drop (length (asNumbers (changes s))) list
       list′-is =
-          put-start {l = list} {s = numbers (changes s)}
-          (record { end = refl; bytes = w .1 ∙ ap (λ (cs : List Change). sets list 0 (numbers cs)) (sym list-is) })
+          put-start {l = list} {s = asNumbers (changes s)}
+          (record { end = refl; bytes = w .1 ∙ ap (λ (cs : List Change). sets list 0 (asNumbers cs)) (sym list-is) })
           list-fits
 
       -- the text stands whole at the start of the buffer, and is read there

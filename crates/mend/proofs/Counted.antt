@@ -12,7 +12,7 @@ use borrow.Author.Tests.{ne-eqb}
 use Rattle.mend.specs.declared.walk.Seen.{Seen}
 use Rattle.mend.specs.declared.tally.Tally.{Tally}
 use Rattle.mend.specs.Mended.{Fate, stays, goes, left, final}
-use Rattle.mend.specs.Changes.{Change, listed, numbers, nextLine, nextPlace}
+use Rattle.mend.specs.Changes.{Change, changesFrom, asNumbers, nextLine, nextPlace}
 use Rattle.mend.specs.OneWalk.{clean, seenWith, fateOf, fatesFrom, tallied, tallyWith}
 
 -- ---- the walk
@@ -66,8 +66,8 @@ tallied-last z (goes k b ∷ fs) = tallied-last _ fs
 
 -- a change for each byte that goes, and for an end
 pub tallied-listed : (added : Bool) (z : Tally) (line place : ℕ) (fs : List Fate)
-    → length (listed added line place fs) + z .taken ≡ tallied z fs .taken + cond added 1 0
-unfolding tallied listed
+    → length (changesFrom added line place fs) + z .taken ≡ tallied z fs .taken + cond added 1 0
+unfolding tallied changesFrom
 tallied-listed true z line place [] = omega arith
 tallied-listed false z line place [] = omega arith
 tallied-listed added z line place (stays b ∷ fs) =
@@ -78,7 +78,7 @@ tallied-listed added z line place (goes k b ∷ fs) =
     omega (arith, tallied-listed added t (nextLine b line) (nextPlace b place) fs)
 
 -- three numbers for a change
-pub numbers-length : (cs : List Change) → length (numbers cs) ≡ 3 * length cs
-unfolding numbers
+pub numbers-length : (cs : List Change) → length (asNumbers cs) ≡ 3 * length cs
+unfolding asNumbers
 numbers-length [] = omega arith
 numbers-length (c ∷ cs) = omega (arith, numbers-length cs)

@@ -13,7 +13,7 @@ use Rattle.whole.proofs.Tests.{by-test}
 use Rattle.mend.specs.declared.walk.Seen.{Seen}
 use Rattle.mend.specs.declared.fill.Position.{Position}
 use Rattle.mend.specs.Mended.{Fate, left, withEnd}
-use Rattle.mend.specs.Changes.{listed, numbers}
+use Rattle.mend.specs.Changes.{changesFrom, asNumbers}
 use Rattle.mend.specs.OneWalk.{clean, seenWith, fateOf, fatesFrom, addedText, addedNumbers, onward}
 use Rattle.mend.proofs.Counted.{some-kind, fates-next}
 
@@ -26,7 +26,7 @@ pub record Going (added : Bool) (all : List Fate) (old rows buf list : List ℕ)
   pub put-text : Put old 0 text buf at
   pub put-told : Put rows 0 told list next
   pub all-text : text ++ left fs ≡ left all
-  pub all-told : told ++ numbers (listed added (p .line) (p .place) fs) ≡ numbers (listed added 1 1 all)
+  pub all-told : told ++ asNumbers (changesFrom added (p .line) (p .place) fs) ≡ asNumbers (changesFrom added 1 1 all)
 
 pub going-start : (added : Bool) (all : List Fate) (old rows : List ℕ)
     → Going added all old rows old rows 0 0 (record { line = 1; place = 1 }) all
@@ -46,9 +46,9 @@ left-fate b zero fs = refl
 left-fate b (suc f) fs = rw (some-kind f)
 
 listed-fate : (added : Bool) (p : Position) (b f : ℕ) (fs : List Fate)
-    → numbers (listed added (p .line) (p .place) (fateOf b f ∷ fs))
-    ≡ addedNumbers p f ++ numbers (listed added (onward p b .line) (onward p b .place) fs)
-unfolding listed numbers
+    → asNumbers (changesFrom added (p .line) (p .place) (fateOf b f ∷ fs))
+    ≡ addedNumbers p f ++ asNumbers (changesFrom added (onward p b .line) (onward p b .place) fs)
+unfolding changesFrom asNumbers
 listed-fate added p b zero fs = refl
 listed-fate added p b (suc f) fs = rw (some-kind f)
 
@@ -90,8 +90,8 @@ module _ {added : Bool} {all : List Fate} {old rows buf list : List ℕ} {at nex
 
 module _ {all : List Fate} {old rows buf list : List ℕ} {at next : ℕ} {p : Position} where
   pub going-end : (added : Bool) → Going added all old rows buf list at next p [] → added ≡ false
-      → (buf ≡ sets old 0 (withEnd added (left all))) × (list ≡ sets rows 0 (numbers (listed added 1 1 all)))
-  unfolding left listed numbers
+      → (buf ≡ sets old 0 (withEnd added (left all))) × (list ≡ sets rows 0 (asNumbers (changesFrom added 1 1 all)))
+  unfolding left changesFrom asNumbers
   going-end true g e = absurd (true≢false e)
   going-end false g e = (
     g .put-text .bytes ∙ ap (sets old 0) (sym (append-nil (g .text)) ∙ g .all-text ∙ sym (append-nil (left all))),
@@ -101,8 +101,8 @@ module _ {all : List Fate} {old rows buf list : List ℕ} {at next : ℕ} {p : P
   pub going-added : {buf′ list′ : List ℕ} {at′ next′ : ℕ} (added : Bool)
       → Going added all old rows buf list at next p [] → added ≡ true
       → Put buf at (10 ∷ []) buf′ at′ → Put list next (p .line ∷ 5 ∷ p .place ∷ []) list′ next′
-      → (buf′ ≡ sets old 0 (withEnd added (left all))) × (list′ ≡ sets rows 0 (numbers (listed added 1 1 all)))
-  unfolding left listed numbers
+      → (buf′ ≡ sets old 0 (withEnd added (left all))) × (list′ ≡ sets rows 0 (asNumbers (changesFrom added 1 1 all)))
+  unfolding left changesFrom asNumbers
   going-added false g e u v = absurd (true≢false (sym e))
   going-added true g e u v = (
     then (g .put-text) u .bytes

@@ -12,8 +12,8 @@ use Rattle.whole.specs.Lists.{Every}
 use Rattle.whole.proofs.Tests.{by-test}
 use Rattle.whole.proofs.Lists.{every-by}
 use Rattle.mend.specs.Mended.{Fate, stays, goes, left, fates, lacksEnd}
-use Rattle.mend.specs.Changes.{Change, change, nextLine, nextPlace, listed, changes}
-use Rattle.mend.specs.Told.{lineBehind, placeBehind, Precedes, PlacesRise, standsAt, names}
+use Rattle.mend.specs.Changes.{Change, change, nextLine, nextPlace, changesFrom, changes}
+use Rattle.mend.specs.Told.{lineAfter, placeAfter, Precedes, PlacesRise, standsAt, names}
 
 -- there or later
 abbrev pub From : (line place : ℕ) → Change → Type 0
@@ -59,21 +59,21 @@ names-none line kind place (c ∷ cs) a =
 -- ---- behind a text
 
 pub behind-from : (p : List ℕ) (line kind place : ℕ)
-    → From line place (change (lineBehind p line) kind (placeBehind p place))
-unfolding lineBehind placeBehind
+    → From line place (change (lineAfter p line) kind (placeAfter p place))
+unfolding lineAfter placeAfter
 behind-from [] line kind place = inr (refl, omega arith)
 behind-from (b ∷ p) line kind place =
-    let c = change (lineBehind p (nextLine b line)) kind (placeBehind p (nextPlace b place)) in
+    let c = change (lineAfter p (nextLine b line)) kind (placeAfter p (nextPlace b place)) in
     precedes-from line kind place c
     (from-behind line kind place c b (behind-from p (nextLine b line) kind (nextPlace b place)))
 
-pub line-more : (p : List ℕ) (b line : ℕ) → lineBehind (p ++ (b ∷ [])) line ≡ nextLine b (lineBehind p line)
-unfolding lineBehind
+pub line-more : (p : List ℕ) (b line : ℕ) → lineAfter (p ++ (b ∷ [])) line ≡ nextLine b (lineAfter p line)
+unfolding lineAfter
 line-more [] b line = refl
 line-more (x ∷ p) b line = line-more p b (nextLine x line)
 
-pub place-more : (p : List ℕ) (b place : ℕ) → placeBehind (p ++ (b ∷ [])) place ≡ nextPlace b (placeBehind p place)
-unfolding placeBehind
+pub place-more : (p : List ℕ) (b place : ℕ) → placeAfter (p ++ (b ∷ [])) place ≡ nextPlace b (placeAfter p place)
+unfolding placeAfter
 place-more [] b place = refl
 place-more (x ∷ p) b place = place-more p b (nextPlace x place)
 
@@ -88,26 +88,26 @@ all-from : (line place b : ℕ) (cs : List Change) → Every (From (nextLine b l
 all-from line place b = every-by (λ c f. precedes-from line 0 place c (from-behind line 0 place c b f))
 
 module _ (added : Bool) where
-  listed-from : (line place : ℕ) (fs : List Fate) → Every (From line place) (listed added line place fs)
-  unfolding listed
+  listed-from : (line place : ℕ) (fs : List Fate) → Every (From line place) (changesFrom added line place fs)
+  unfolding changesFrom
   listed-from line place [] = by-test added (λ t. rw t (inr (refl, omega arith), tt)) (λ t. rw t tt)
   listed-from line place (stays b ∷ fs) =
-      all-from line place b (listed added (nextLine b line) (nextPlace b place) fs)
+      all-from line place b (changesFrom added (nextLine b line) (nextPlace b place) fs)
       (listed-from (nextLine b line) (nextPlace b place) fs)
   listed-from line place (goes kind b ∷ fs) = (
     inr (refl, omega arith),
-    all-from line place b (listed added (nextLine b line) (nextPlace b place) fs)
+    all-from line place b (changesFrom added (nextLine b line) (nextPlace b place) fs)
         (listed-from (nextLine b line) (nextPlace b place) fs),
   )
 
   pub listed-behind : (line kind place b : ℕ) (fs : List Fate)
-      → Every (Precedes (change line kind place)) (listed added (nextLine b line) (nextPlace b place) fs)
+      → Every (Precedes (change line kind place)) (changesFrom added (nextLine b line) (nextPlace b place) fs)
   listed-behind line kind place b fs =
-      all-behind line kind place b (listed added (nextLine b line) (nextPlace b place) fs)
+      all-behind line kind place b (changesFrom added (nextLine b line) (nextPlace b place) fs)
       (listed-from (nextLine b line) (nextPlace b place) fs)
 
-  listed-rise : (line place : ℕ) (fs : List Fate) → PlacesRise (listed added line place fs)
-  unfolding listed PlacesRise
+  listed-rise : (line place : ℕ) (fs : List Fate) → PlacesRise (changesFrom added line place fs)
+  unfolding changesFrom PlacesRise
   listed-rise line place [] = by-test added (λ t. rw t (tt, tt)) (λ t. rw t tt)
   listed-rise line place (stays b ∷ fs) = listed-rise (nextLine b line) (nextPlace b place) fs
   listed-rise line place (goes kind b ∷ fs) =

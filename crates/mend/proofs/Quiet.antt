@@ -6,7 +6,7 @@ use mathlib.Core.List.{List, [], _∷_, map, append-nil}
 use Rattle.whole.proofs.Tests.{by-test}
 use Rattle.mend.specs.Mended.{Fate, stays, left, Slip, pass, fates, final, mended}
 use Rattle.mend.specs.Mended.{strayReturn, needlessSpace, needlessPlus, needlessZero}
-use Rattle.mend.specs.Changes.{listed, nextLine, nextPlace, changes}
+use Rattle.mend.specs.Changes.{changesFrom, nextLine, nextPlace, changes}
 use Rattle.mend.proofs.Sifted.{sift, left-stays}
 
 -- a pass takes nothing out of a text
@@ -29,8 +29,8 @@ quiet-pass k slip before [] q = refl
 quiet-pass k slip before (b ∷ s) q =
     rw (left-stays s, q .0) (ap (λ (l : List Fate). stays b ∷ l) (quiet-pass k slip (b ∷ before) s (q .1)))
 
-nothing-listed : (line place : ℕ) (s : List ℕ) → listed false line place (map stays s) ≡ []
-unfolding listed
+nothing-listed : (line place : ℕ) (s : List ℕ) → changesFrom false line place (map stays s) ≡ []
+unfolding changesFrom
 nothing-listed line place [] = refl
 nothing-listed line place (b ∷ s) = nothing-listed (nextLine b line) (nextPlace b place) s
 

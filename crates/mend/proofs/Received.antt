@@ -9,7 +9,7 @@ use Rattle.whole.specs.Lists.{Every}
 use Rattle.whole.proofs.Tests.{by-test, and-true}
 use Rattle.mend.specs.Mended.{Fate, stays, goes, left, Slip, pass}
 use Rattle.mend.specs.Mended.{strayReturn, needlessSpace, needlessPlus, needlessZero, fates}
-use Rattle.mend.specs.Told.{Stands, return, space, plus, zero}
+use Rattle.mend.specs.Told.{StandsHere, return, space, plus, zero}
 
 -- the byte that a fate is of
 unfoldable pub received : Fate → ℕ
@@ -40,9 +40,9 @@ fates-received s =
 -- a byte that goes is one that its kind takes out
 unfoldable pub Fair : Fate → Type 0
 Fair (stays b) = Unit
-Fair (goes kind b) = (behind : List ℕ) → Stands kind (b ∷ behind)
+Fair (goes kind b) = (behind : List ℕ) → StandsHere kind (b ∷ behind)
 
-pass-fair : (k c : ℕ) (slip : Slip) → ((behind : List ℕ) → Stands k (c ∷ behind))
+pass-fair : (k c : ℕ) (slip : Slip) → ((behind : List ℕ) → StandsHere k (c ∷ behind))
     → ((before : List ℕ) (b : ℕ) (s : List ℕ) → slip before b s ≡ true → eqb b c ≡ true)
     → (before : List ℕ) (fs : List Fate) → Every Fair fs → Every Fair (pass k slip before fs)
 unfolding pass Fair

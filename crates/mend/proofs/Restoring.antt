@@ -7,8 +7,8 @@ use lib.Dec.{eqb}
 use Rattle.whole.specs.Lists.{Every}
 use Rattle.whole.proofs.Tests.{by-test}
 use Rattle.mend.specs.Mended.{Fate, stays, goes, left, fates, lacksEnd, withEnd, mended}
-use Rattle.mend.specs.Changes.{change, nextLine, nextPlace, listed, changes}
-use Rattle.mend.specs.Told.{lineBehind, placeBehind, Stands, return, space, plus, zero}
+use Rattle.mend.specs.Changes.{change, nextLine, nextPlace, changesFrom, changes}
+use Rattle.mend.specs.Told.{lineAfter, placeAfter, StandsHere, return, space, plus, zero}
 use Rattle.mend.specs.Restored.{byteOf, putBack, undone, restored}
 use Rattle.mend.proofs.Again.{mended-again}
 use Rattle.mend.proofs.Places.{from-behind, precedes-apart, stands-there, behind-from, line-more, place-more}
@@ -22,11 +22,11 @@ undone-here line kind place [] = rw (stands-there (change line kind place))
 undone-here line kind place (b ∷ q) = rw (stands-there (change line kind place))
 
 undone-behind : (p : List ℕ) (line kind place : ℕ) (q : List ℕ)
-    → let c = change (lineBehind p line) kind (placeBehind p place) in undone c line place (p ++ q) ≡ p ++ putBack c q
-unfolding undone lineBehind placeBehind
+    → let c = change (lineAfter p line) kind (placeAfter p place) in undone c line place (p ++ q) ≡ p ++ putBack c q
+unfolding undone lineAfter placeAfter
 undone-behind [] line kind place q = undone-here line kind place q
 undone-behind (b ∷ p) line kind place q =
-    let c = change (lineBehind p (nextLine b line)) kind (placeBehind p (nextPlace b place)) in
+    let c = change (lineAfter p (nextLine b line)) kind (placeAfter p (nextPlace b place)) in
     rw
     (precedes-apart line kind place c
     (from-behind line kind place c b (behind-from p (nextLine b line) kind (nextPlace b place)))
@@ -34,7 +34,7 @@ undone-behind (b ∷ p) line kind place q =
     (ap (λ (l : List ℕ). b ∷ l) (undone-behind p (nextLine b line) kind (nextPlace b place) q))
 
 -- the byte put back is the byte taken out
-stands-byte : {kind b : ℕ} {q : List ℕ} → Stands kind (b ∷ q) → (byteOf kind ≡ b) × (eqb kind 5 ≡ false)
+stands-byte : {kind b : ℕ} {q : List ℕ} → StandsHere kind (b ∷ q) → (byteOf kind ≡ b) × (eqb kind 5 ≡ false)
 stands-byte (return q) = (refl, refl)
 stands-byte (space q) = (refl, refl)
 stands-byte (plus q) = (refl, refl)
@@ -44,13 +44,13 @@ stands-byte (zero q) = (refl, refl)
 module _ (added : Bool) where
   abbrev GivenBack : List ℕ → List Fate → Type 0
   GivenBack p fs =
-      restored (p ++ withEnd added (left fs)) (listed added (lineBehind p 1) (placeBehind p 1) fs)
+      restored (p ++ withEnd added (left fs)) (changesFrom added (lineAfter p 1) (placeAfter p 1) fs)
       ≡ p ++ map received fs
 
   -- one byte more
   given-more : (p : List ℕ) (b : ℕ) (fs : List Fate) → GivenBack (p ++ (b ∷ [])) fs
       → restored (p ++ (b ∷ withEnd added (left fs)))
-      (listed added (nextLine b (lineBehind p 1)) (nextPlace b (placeBehind p 1)) fs)
+      (changesFrom added (nextLine b (lineAfter p 1)) (nextPlace b (placeAfter p 1)) fs)
       ≡ p ++ (b ∷ map received fs)
   given-more p b fs g =
       rw (
@@ -61,21 +61,21 @@ module _ (added : Bool) where
       ) at g
 
   given-fates : (p : List ℕ) (fs : List Fate) → Every Fair fs → GivenBack p fs
-  unfolding restored listed left received Fair
+  unfolding restored changesFrom left received Fair
   given-fates p [] a =
       by-test added (λ t. rw t (undone-behind p 1 5 1 (10 ∷ []))) (λ t. rw t)
   given-fates p (stays b ∷ fs) a = given-more p b fs (given-fates (p ++ (b ∷ [])) fs (a .1))
   given-fates p (goes kind b ∷ fs) a =
       let e = stands-byte (a .0 []) in
-      let rest = listed added (nextLine b (lineBehind p 1)) (nextPlace b (placeBehind p 1)) fs in
-      let c = change (lineBehind p 1) kind (placeBehind p 1) in
+      let rest = changesFrom added (nextLine b (lineAfter p 1)) (nextPlace b (placeAfter p 1)) fs in
+      let c = change (lineAfter p 1) kind (placeAfter p 1) in
       let u : undone c 1 1 (p ++ withEnd added (left fs)) ≡ p ++ (b ∷ withEnd added (left fs)) =
       undone-behind p 1 kind 1 (withEnd added (left fs)) ∙ rw (e .1, e .0) in
       ap (λ (t : List ℕ). restored t rest) u ∙ given-more p b fs (given-fates (p ++ (b ∷ [])) fs (a .1))
 
 -- the text received, byte for byte
 pub restored-received : (s : List ℕ) → restored (mended s) (changes s) ≡ s
-unfolding mended changes lineBehind placeBehind
+unfolding mended changes lineAfter placeAfter
 restored-received s = given-fates (lacksEnd (left (fates s))) [] (fates s) (fates-fair s) ∙ fates-received s
 
 -- so the list is empty exactly if the text is the same

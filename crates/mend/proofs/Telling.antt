@@ -9,8 +9,8 @@ use native.Mathlib.Omega.{arith}
 use Rattle.whole.specs.Lists.{Every}
 use Rattle.whole.proofs.Tests.{by-test}
 use Rattle.mend.specs.Mended.{Fate, stays, goes, left, fates, lacksEnd, ended, mended}
-use Rattle.mend.specs.Changes.{Change, change, nextLine, nextPlace, listed, changes}
-use Rattle.mend.specs.Told.{lineBehind, placeBehind, end, Tells, names, unnamed}
+use Rattle.mend.specs.Changes.{Change, change, nextLine, nextPlace, changesFrom, changes}
+use Rattle.mend.specs.Told.{lineAfter, placeAfter, end, Tells, names, unnamed}
 use Rattle.mend.proofs.Places.{From, from-behind, precedes-from, precedes-apart, stands-there, names-none}
 use Rattle.mend.proofs.Places.{line-more, place-more, listed-behind}
 use Rattle.mend.proofs.Received.{received, Fair, fates-received, fates-fair}
@@ -19,13 +19,13 @@ use Rattle.mend.proofs.Received.{received, Fair, fates-received, fates-
 
 module _ (added : Bool) (s : List ℕ) where
   tells-more : (p : List ℕ) (b : ℕ) (fs : List Fate)
-      → Every (Tells s) (listed added (lineBehind (p ++ (b ∷ [])) 1) (placeBehind (p ++ (b ∷ [])) 1) fs)
-      → Every (Tells s) (listed added (nextLine b (lineBehind p 1)) (nextPlace b (placeBehind p 1)) fs)
+      → Every (Tells s) (changesFrom added (lineAfter (p ++ (b ∷ [])) 1) (placeAfter (p ++ (b ∷ [])) 1) fs)
+      → Every (Tells s) (changesFrom added (nextLine b (lineAfter p 1)) (nextPlace b (placeAfter p 1)) fs)
   tells-more p b fs a = rw (line-more p b 1, place-more p b 1) at a
 
   tells-from : (p : List ℕ) (fs : List Fate) → s ≡ p ++ map received fs → Every Fair fs
-      → Every (Tells s) (listed added (lineBehind p 1) (placeBehind p 1) fs)
-  unfolding listed received Fair
+      → Every (Tells s) (changesFrom added (lineAfter p 1) (placeAfter p 1) fs)
+  unfolding changesFrom received Fair
   tells-from p [] e a =
       by-test added
       (λ t. rw t (record { before = p; from = []; text = e; line = refl; place = refl; stands = end }, tt))
@@ -41,7 +41,7 @@ module _ (added : Bool) (s : List ℕ) where
 
 -- each stands at its byte, and an end behind the last
 pub changes-tell : (s : List ℕ) → Every (Tells s) (changes s)
-unfolding changes lineBehind placeBehind
+unfolding changes lineAfter placeAfter
 changes-tell s =
     tells-from (lacksEnd (left (fates s))) s [] (fates s) (sym (fates-received s)) (fates-fair s)
 
@@ -51,14 +51,14 @@ changes-tell s =
 module _ (added : Bool) (cs : List Change) where
   unnamed-left : (line place : ℕ) (fs : List Fate)
       → ((c : Change) → From line place c
-      → names cs (c .line) (c .place) ≡ names (listed added line place fs) (c .line) (c .place))
+      → names cs (c .line) (c .place) ≡ names (changesFrom added line place fs) (c .line) (c .place))
       → unnamed cs line place (map received fs) ≡ left fs
-  unfolding unnamed received left listed names
+  unfolding unnamed received left changesFrom names
   unnamed-left line place [] h = refl
   unnamed-left line place (stays b ∷ fs) h =
       let n : names cs line place ≡ false =
       h (change line 0 place) (inr (refl, omega arith))
-      ∙ names-none line 0 place (listed added (nextLine b line) (nextPlace b place) fs)
+      ∙ names-none line 0 place (changesFrom added (nextLine b line) (nextPlace b place) fs)
       (listed-behind added line 0 place b fs) in
       rw n
       (ap (λ (l : List ℕ). b ∷ l)

@@ -4,7 +4,7 @@ use mathlib.Core.Path.{_≡_, refl}
 use mathlib.Core.List.{List, [], _∷_, map}
 use Rattle.whole.proofs.Quoted.{bytes}
 use Rattle.mend.specs.Mended.{left, pass, spacesOn, digitsOn, leads, fates, final, mended}
-use Rattle.mend.specs.Changes.{Change, change, listed, changes}
+use Rattle.mend.specs.Changes.{Change, change, changesFrom, changes}
 use Rattle.mend.specs.Restored.{undone, restored}
 
 record Case : Type 0 where
@@ -57,7 +57,7 @@ unfolding mended fates pass left final spacesOn digitsOn leads
 texts-right = refl
 
 lists-right : map (λ c. changes (bytes (c .text))) cases ≡ map (λ c. c .by) cases
-unfolding changes listed fates pass left final spacesOn digitsOn leads
+unfolding changes changesFrom fates pass left final spacesOn digitsOn leads
 lists-right = refl
 
 -- and undone again

@@ -23,16 +23,16 @@ abbrev pub nextPlace : ℕ → ℕ → ℕ
 nextPlace b place = cond (eqb b 10) 1 (place + 1)
 
 -- from a line and a place on; an added end stands one past the last byte
-unfoldable pub listed : (added : Bool) (line place : ℕ) → List Fate → List Change
-listed added line place [] = cond added (change line 5 place ∷ []) []
-listed added line place (stays b ∷ fs) = listed added (nextLine b line) (nextPlace b place) fs
-listed added line place (goes kind b ∷ fs) =
-    change line kind place ∷ listed added (nextLine b line) (nextPlace b place) fs
+unfoldable pub changesFrom : (added : Bool) (line place : ℕ) → List Fate → List Change
+changesFrom added line place [] = cond added (change line 5 place ∷ []) []
+changesFrom added line place (stays b ∷ fs) = changesFrom added (nextLine b line) (nextPlace b place) fs
+changesFrom added line place (goes kind b ∷ fs) =
+    change line kind place ∷ changesFrom added (nextLine b line) (nextPlace b place) fs
 
 unfoldable pub changes : List ℕ → List Change
-changes s = listed (lacksEnd (left (fates s))) 1 1 (fates s)
+changes s = changesFrom (lacksEnd (left (fates s))) 1 1 (fates s)
 
 -- three numbers for a change
-unfoldable pub numbers : List Change → List ℕ
-numbers [] = []
-numbers (c ∷ cs) = c .line ∷ c .kind ∷ c .place ∷ numbers cs
+unfoldable pub asNumbers : List Change → List ℕ
+asNumbers [] = []
+asNumbers (c ∷ cs) = c .line ∷ c .kind ∷ c .place ∷ asNumbers cs

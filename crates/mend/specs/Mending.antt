@@ -9,11 +9,11 @@ use Rattle.job.specs.Walk.{verdict}
 use Rattle.sheet.specs.Sheet.{reading}
 use Rattle.mend.specs.declared.Mending.{Mending}
 use Rattle.mend.specs.Mended.{mended}
-use Rattle.mend.specs.Changes.{changes, numbers}
+use Rattle.mend.specs.Changes.{changes, asNumbers}
 
 -- there is room for the text and for the list
 abbrev pub roomFor : (s out list : List ℕ) → Bool
-roomFor s out list = leb (length (mended s)) (length out) && leb (length (numbers (changes s))) (length list)
+roomFor s out list = leb (length (mended s)) (length out) && leb (length (asNumbers (changes s))) (length list)
 
 -- the text's length, how many changes there are, and what the mended text is told as a sheet
 abbrev pub hasRoom : List ℕ → Mending
@@ -40,4 +40,4 @@ abbrev pub textAfter : (s out list : List ℕ) → List ℕ
 textAfter s out list = filled (roomFor s out list) (mended s) out
 
 abbrev pub listAfter : (s out list : List ℕ) → List ℕ
-listAfter s out list = filled (roomFor s out list) (numbers (changes s)) list
+listAfter s out list = filled (roomFor s out list) (asNumbers (changes s)) list

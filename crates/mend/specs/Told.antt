@@ -12,30 +12,30 @@ use Rattle.mend.specs.Changes.{Change, nextLine, nextPlace}
 -- ---- where a change stands
 
 -- the line and the place behind a text
-unfoldable pub lineBehind : List ℕ → ℕ → ℕ
-lineBehind [] line = line
-lineBehind (b ∷ s) line = lineBehind s (nextLine b line)
+unfoldable pub lineAfter : List ℕ → ℕ → ℕ
+lineAfter [] line = line
+lineAfter (b ∷ s) line = lineAfter s (nextLine b line)
 
-unfoldable pub placeBehind : List ℕ → ℕ → ℕ
-placeBehind [] place = place
-placeBehind (b ∷ s) place = placeBehind s (nextPlace b place)
+unfoldable pub placeAfter : List ℕ → ℕ → ℕ
+placeAfter [] place = place
+placeAfter (b ∷ s) place = placeAfter s (nextPlace b place)
 
 -- what stands there: the byte of its kind, and for an end no byte
-pub data Stands : ℕ → List ℕ → Type 0 where
-  return : (behind : List ℕ) → Stands 1 (13 ∷ behind)
-  space : (behind : List ℕ) → Stands 2 (32 ∷ behind)
-  plus : (behind : List ℕ) → Stands 3 (43 ∷ behind)
-  zero : (behind : List ℕ) → Stands 4 (48 ∷ behind)
-  end : Stands 5 []
+pub data StandsHere : ℕ → List ℕ → Type 0 where
+  return : (behind : List ℕ) → StandsHere 1 (13 ∷ behind)
+  space : (behind : List ℕ) → StandsHere 2 (32 ∷ behind)
+  plus : (behind : List ℕ) → StandsHere 3 (43 ∷ behind)
+  zero : (behind : List ℕ) → StandsHere 4 (48 ∷ behind)
+  end : StandsHere 5 []
 
 -- the change stands so in the text s
 pub record Tells (s : List ℕ) (c : Change) : Type 0 where
   pub before : List ℕ
   pub from : List ℕ
   pub text : s ≡ before ++ from
-  pub line : c .line ≡ lineBehind before 1
-  pub place : c .place ≡ placeBehind before 1
-  pub stands : Stands (c .kind) from
+  pub line : c .line ≡ lineAfter before 1
+  pub place : c .place ≡ placeAfter before 1
+  pub stands : StandsHere (c .kind) from
 
 -- ---- in order
 

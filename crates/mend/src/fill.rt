@@ -6,7 +6,7 @@ ghost use lib.ListN.{length};
 ghost use lib.Seq.{sets};
 ghost use Rattle.page.specs.Writing.{Put};
 ghost use Rattle.mend.specs.Mended.{left, withEnd};
-ghost use Rattle.mend.specs.Changes.{listed, numbers};
+ghost use Rattle.mend.specs.Changes.{changesFrom, asNumbers};
 ghost use Rattle.mend.specs.OneWalk.{atStart, fatesFrom, addedText, addedNumbers, onward};
 use crate::walk;
 
@@ -76,7 +76,7 @@ pub(crate) fn put_all(s: &[u8], added: bool, out: &mut [u8], list: &mut [u64])
     ensures { λ r. ⌜ (now (out .exit) ≡ sets (now (out .entry)) 0
         (withEnd added (left (fatesFrom atStart (now (s .entry))))))
         × (now (list .exit) ≡ sets (now (list .entry)) 0
-        (numbers (listed added 1 1 (fatesFrom atStart (now (s .entry)))))) ⌝ }
+        (asNumbers (changesFrom added 1 1 (fatesFrom atStart (now (s .entry)))))) ⌝ }
 {
     let mut w = walk::at_start();
     let mut p = Position { line: 1, place: 1 };

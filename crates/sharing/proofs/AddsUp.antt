@@ -12,7 +12,7 @@ use Rattle.whole.specs.Lists.{numbers, howMany}
 use Rattle.whole.specs.Newton.{newtons}
 use Rattle.whole.proofs.Parts.{order, add-law}
 use Rattle.whole.proofs.Numbers.{places}
-use Rattle.sharing.specs.Column.{forceOf, addedUp, isAhead, ahead, shareOf, column}
+use Rattle.sharing.specs.Column.{ownForce, addedUp, isAhead, ahead, shareOf, column}
 use Rattle.sharing.proofs.Remainders.{lacking, total-down, missing-is, lacking-all}
 use Rattle.sharing.proofs.Ranks.{winners}
 use Rattle.sharing.proofs.Ahead.{strict}
@@ -25,9 +25,9 @@ oneMoreIf t q = cond t (q +ℤ pos 1) q
 abbrev pub gets : List ℤ → ℕ → Bool
 gets fs i = ltb (ahead fs i) (lacking fs)
 
-pub share-is : (fs : List ℤ) (i : ℕ) → shareOf fs i ≡ oneMoreIf (gets fs i) (newtons (forceOf fs i))
+pub share-is : (fs : List ℤ) (i : ℕ) → shareOf fs i ≡ oneMoreIf (gets fs i) (newtons (ownForce fs i))
 unfolding shareOf
-share-is fs i = ap (λ m. oneMoreIf (ltZ (pos (ahead fs i)) m) (newtons (forceOf fs i))) (missing-is fs)
+share-is fs i = ap (λ m. oneMoreIf (ltZ (pos (ahead fs i)) m) (newtons (ownForce fs i))) (missing-is fs)
 
 -- entries that are each a number or one more add up to the numbers and as many more
 pub sum-more : (e a : ℕ → ℤ) (t : ℕ → Bool) (l : List ℕ) → ((i : ℕ) → List·Memᴰ i l → e i ≡ oneMoreIf (t i) (a i))
@@ -60,8 +60,8 @@ sum-more e a t (i ∷ l) h =
         )
 
 -- the forces rounded down, by place
-pub all-down : (fs : List ℤ) → map (λ i. newtons (forceOf fs i)) (numbers (length fs) 0) ≡ map newtons fs
-all-down fs = sym (map-map newtons (forceOf fs) (numbers (length fs) 0)) ∙ ap (map newtons) (sym (places (pos 0) fs))
+pub all-down : (fs : List ℤ) → map (λ i. newtons (ownForce fs i)) (numbers (length fs) 0) ≡ map newtons fs
+all-down fs = sym (map-map newtons (ownForce fs) (numbers (length fs) 0)) ∙ ap (map newtons) (sym (places (pos 0) fs))
 
 -- as many get one as are missing
 pub as-many : (fs : List ℤ) → howMany (gets fs) (numbers (length fs) 0) ≡ lacking fs
@@ -71,6 +71,6 @@ as-many fs = winners (isAhead fs) (strict fs) (length fs) 0 (lacking fs) (lackin
 pub adds-up : (fs : List ℤ) → addedUp (column fs) ≡ newtons (addedUp fs)
 unfolding column
 adds-up fs =
-    sum-more (shareOf fs) (λ i. newtons (forceOf fs i)) (gets fs) (numbers (length fs) 0) (λ i m. share-is fs i)
+    sum-more (shareOf fs) (λ i. newtons (ownForce fs i)) (gets fs) (numbers (length fs) 0) (λ i m. share-is fs i)
     ∙ ap₂ (λ (l : List ℤ) (m : ℕ). addedUp l +ℤ pos m) (all-down fs) (as-many fs)
     ∙ sym (total-down fs)

@@ -10,7 +10,7 @@ use lib.Dec.{eqb, ltb}
 use lib.IntN.{ℤ}
 use Rattle.whole.specs.Newton.{remainder}
 use Rattle.whole.proofs.Tests.{by-test}
-use Rattle.sharing.specs.Column.{forceOf, comesFirst, isAhead}
+use Rattle.sharing.specs.Column.{ownForce, comesFirst, isAhead}
 use Rattle.sharing.proofs.Ranks.{Strict}
 
 -- the test, and what it decides
@@ -29,7 +29,7 @@ module _ (s j r i : ℕ) where
 
 module _ (fs : List ℤ) where
   abbrev own : ℕ → ℕ
-  own i = remainder (forceOf fs i)
+  own i = remainder (ownForce fs i)
 
   not-itself : (i : ℕ) → isAhead fs i i ≡ false
   not-itself i = rw (eq-eqb (own i) (own i) refl) (le-ltb i i (omega arith))

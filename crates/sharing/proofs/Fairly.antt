@@ -18,7 +18,7 @@ use Rattle.whole.proofs.Order.{true-lt, false-lt}
 use Rattle.whole.proofs.Numbers.{numbers-member, member-numbers, places}
 use Rattle.whole.proofs.Counting.{many-le, many-lt}
 use Rattle.whole.proofs.Tests.{by-test}
-use Rattle.sharing.specs.Column.{forceOf, addedUp, isAhead, ahead, column}
+use Rattle.sharing.specs.Column.{ownForce, addedUp, isAhead, ahead, column}
 use Rattle.sharing.specs.Fair.{Down, OneMore, IsColumn}
 use Rattle.sharing.proofs.Remainders.{lacking, total-down}
 use Rattle.sharing.proofs.Ranks.{rank-less}
@@ -39,12 +39,12 @@ placed fs i m = omega (arith, numbers-member (length fs) 0 m .high)
 -- ---- the column is such a list
 
 module _ (fs : List ℤ) where
-  entry-is : (i : ℕ) → i < length fs → getD (column fs) i (pos 0) ≡ oneMoreIf (gets fs i) (newtons (forceOf fs i))
+  entry-is : (i : ℕ) → i < length fs → getD (column fs) i (pos 0) ≡ oneMoreIf (gets fs i) (newtons (ownForce fs i))
   entry-is i h = column-at fs i h ∙ share-is fs i
 
   entry-by : (i : ℕ) → i < length fs → (t : Bool) → gets fs i ≡ t
-      → getD (column fs) i (pos 0) ≡ oneMoreIf t (newtons (forceOf fs i))
-  entry-by i h t e = entry-is i h ∙ ap (λ b. oneMoreIf b (newtons (forceOf fs i))) e
+      → getD (column fs) i (pos 0) ≡ oneMoreIf t (newtons (ownForce fs i))
+  entry-by i h t e = entry-is i h ∙ ap (λ b. oneMoreIf b (newtons (ownForce fs i))) e
 
   -- who gets one, so do all ahead of it
   got-ahead : (j i : ℕ) → j < length fs → isAhead fs j i ≡ true → gets fs i ≡ true → gets fs j ≡ true
@@ -63,7 +63,7 @@ module _ (fs : List ℤ) where
         fair =
             λ j i hj hi b m.
             by-test (gets fs i) (λ e. entry-by j hj true (got-ahead j i hj b e))
-            (λ e. absurd (more-differs (newtons (forceOf fs i)) (sym (entry-by i hi false e) ∙ m)));
+            (λ e. absurd (more-differs (newtons (ownForce fs i)) (sym (entry-by i hi false e) ∙ m)));
       }
 
 -- ---- and no other list is
@@ -71,26 +71,26 @@ module _ (fs : List ℤ) where
 module _ (fs col : List ℤ) (c : IsColumn fs col) where
   -- face i has one more
   abbrev has : ℕ → Bool
-  has i = ltZ (newtons (forceOf fs i)) (getD col i (pos 0))
+  has i = ltZ (newtons (ownForce fs i)) (getD col i (pos 0))
 
   has-more : (i : ℕ) → OneMore fs col i → has i ≡ true
   has-more i m =
-      let q = newtons (forceOf fs i) in
+      let q = newtons (ownForce fs i) in
       ap (ltZ q) m ∙ true-lt (lt-by q (q +ℤ pos 1) (omega (arith, add-law q (pos 1))))
 
   has-none : (i : ℕ) → Down fs col i → has i ≡ false
   has-none i d =
-      let q = newtons (forceOf fs i) in
+      let q = newtons (ownForce fs i) in
       ap (ltZ q) d ∙ false-lt (le-by q q (omega arith))
 
-  entry-has : (i : ℕ) → i < length fs → getD col i (pos 0) ≡ oneMoreIf (has i) (newtons (forceOf fs i))
+  entry-has : (i : ℕ) → i < length fs → getD col i (pos 0) ≡ oneMoreIf (has i) (newtons (ownForce fs i))
   entry-has i h =
-      let q = newtons (forceOf fs i) in
+      let q = newtons (ownForce fs i) in
       ⊎-elim (λ d. d ∙ sym (ap (λ t. oneMoreIf t q) (has-none i d)))
       (λ m. m ∙ sym (ap (λ t. oneMoreIf t q) (has-more i m))) (c .each i h)
 
   more-has : (i : ℕ) → i < length fs → has i ≡ true → OneMore fs col i
-  more-has i h e = entry-has i h ∙ ap (λ t. oneMoreIf t (newtons (forceOf fs i))) e
+  more-has i h e = entry-has i h ∙ ap (λ t. oneMoreIf t (newtons (ownForce fs i))) e
 
   -- as many have one more as are missing
   all-have : howMany has (numbers (length fs) 0) ≡ lacking fs
@@ -101,7 +101,7 @@ module _ (fs col : List ℤ) (c : IsColumn fs col) where
       let e : a +ℤ pos n ≡ a +ℤ pos (lacking fs) =
       ap (λ l. addedUp l +ℤ pos n) (sym (all-down fs))
       ∙ sym
-      (sum-more (λ i. getD col i (pos 0)) (λ i. newtons (forceOf fs i)) has ns
+      (sum-more (λ i. getD col i (pos 0)) (λ i. newtons (ownForce fs i)) has ns
       (λ i m. entry-has i (placed fs i m)))
       ∙ ap (λ k. addedUp (map (λ i. getD col i (pos 0)) (numbers k 0))) (sym (c .sized))
       ∙ ap addedUp (sym (places (pos 0) col))
@@ -148,5 +148,5 @@ module _ (fs col : List ℤ) (c : IsColumn fs col) where
       ext-getD (pos 0) col (column fs) (c .sized ∙ sym (column-length fs))
       (λ i h.
       let l : i < length fs = omega (arith, c .sized) in
-      entry-has i l ∙ ap (λ t. oneMoreIf t (newtons (forceOf fs i))) (sym (had i l (has i) refl))
+      entry-has i l ∙ ap (λ t. oneMoreIf t (newtons (ownForce fs i))) (sym (had i l (has i) refl))
       ∙ sym (entry-is fs i l))

@@ -16,7 +16,7 @@ use Rattle.whole.proofs.Newton.{remainder-small}
 use Rattle.whole.proofs.Numbers.{places}
 use Rattle.whole.proofs.Counting.{many-map, many-le}
 use Rattle.whole.proofs.Tests.{by-test}
-use Rattle.sharing.specs.Column.{forceOf, isAhead, ahead, column}
+use Rattle.sharing.specs.Column.{ownForce, isAhead, ahead, column}
 use Rattle.sharing.proofs.Remainders.{lacking, parts, someLeft, lacking-few}
 use Rattle.sharing.proofs.Ahead.{by-larger}
 use Rattle.sharing.proofs.Entries.{column-at}
@@ -36,20 +36,20 @@ within x f h k =
 
 module _ (fs : List ℤ) (i : ℕ) (h : i < length fs) where
   abbrev force : ℤ
-  force = forceOf fs i
+  force = ownForce fs i
 
   -- every face with something left is ahead of one with nothing left
   gets-none : remainder force ≡ 0 → gets fs i ≡ false
   unfolding ahead
   gets-none e =
       let ns = numbers (length fs) 0 in
-      let some = many-map someLeft (forceOf fs) ns in
+      let some = many-map someLeft (ownForce fs) ns in
       let same = ap (howMany someLeft) (places (pos 0) fs) in
       let rest =
-      many-le (λ j. someLeft (forceOf fs j)) (λ j. isAhead fs j i) ns
+      many-le (λ j. someLeft (ownForce fs j)) (λ j. isAhead fs j i) ns
       (λ j m t.
-      let s = ltb-true 0 (remainder (forceOf fs j)) t in
-      by-larger (remainder (forceOf fs j)) j (remainder force) i (omega arith)) in
+      let s = ltb-true 0 (remainder (ownForce fs j)) t in
+      by-larger (remainder (ownForce fs j)) j (remainder force) i (omega arith)) in
       le-ltb (ahead fs i) (lacking fs) (omega (arith, lacking-few fs))
 
   pub whole-stays : remainder force ≡ 0 → getD (column fs) i (pos 0) ≡ newtons force

@@ -15,7 +15,7 @@ use Rattle.whole.specs.Newton.{newton, newtons, remainder}
 use Rattle.whole.proofs.Parts.{up, down, order, add-law, sub-lawℤ, up-scale, down-scale, eq-at}
 use Rattle.whole.proofs.Newton.{remainder-small, newtons-and-remainder, newtons-unique}
 use Rattle.whole.proofs.Counting.{many-few}
-use Rattle.sharing.specs.Column.{forceOf, addedUp, missing}
+use Rattle.sharing.specs.Column.{ownForce, addedUp, missing}
 
 -- the remainders of a list, summed
 unfoldable pub remainders : List ℤ → ℕ
@@ -102,7 +102,7 @@ lacking-all fs = omega (arith, lacking-few fs, many-few someLeft fs)
 -- ---- gone through one by one
 
 pub remainders-step : (fs : List ℤ) (i : ℕ) → i < length fs
-    → remainders (drop i fs) ≡ remainder (forceOf fs i) + remainders (drop (i + 1) fs)
+    → remainders (drop i fs) ≡ remainder (ownForce fs i) + remainders (drop (i + 1) fs)
 unfolding remainders
 remainders-step fs i h = rw (add-one, drop-cons fs i (pos 0))
 

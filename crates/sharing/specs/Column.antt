@@ -13,8 +13,8 @@ use Rattle.whole.specs.Newton.{newtons, remainder}
 use Rattle.verdict.specs.declared.Verdict.{Verdict}
 use Rattle.verdict.specs.Verdict.{accepted, refusal}
 
-abbrev pub forceOf : List ℤ → ℕ → ℤ
-forceOf fs i = getD fs i (pos 0)
+abbrev pub ownForce : List ℤ → ℕ → ℤ
+ownForce fs i = getD fs i (pos 0)
 
 -- the sum of a list
 unfoldable pub addedUp : List ℤ → ℤ
@@ -31,7 +31,7 @@ abbrev pub comesFirst : ℕ → ℕ → ℕ → ℕ → Bool
 comesFirst s j r i = cond (eqb s r) (ltb j i) (ltb r s)
 
 abbrev pub isAhead : List ℤ → ℕ → ℕ → Bool
-isAhead fs j i = comesFirst (remainder (forceOf fs j)) j (remainder (forceOf fs i)) i
+isAhead fs j i = comesFirst (remainder (ownForce fs j)) j (remainder (ownForce fs i)) i
 
 -- how many faces are ahead of face i
 unfoldable pub ahead : List ℤ → ℕ → ℕ
@@ -40,7 +40,7 @@ ahead fs i = howMany (λ j. isAhead fs j i) (numbers (length fs) 0)
 -- face i gets one of the missing newtons if fewer faces than that are ahead of it
 unfoldable pub shareOf : List ℤ → ℕ → ℤ
 shareOf fs i =
-    cond (ltZ (pos (ahead fs i)) (missing fs)) (newtons (forceOf fs i) +ℤ pos 1) (newtons (forceOf fs i))
+    cond (ltZ (pos (ahead fs i)) (missing fs)) (newtons (ownForce fs i) +ℤ pos 1) (newtons (ownForce fs i))
 
 unfoldable pub column : List ℤ → List ℤ
 column fs = map (shareOf fs) (numbers (length fs) 0)

@@ -8,14 +8,14 @@ use Prim.Native.Nat.{ℕ, _<_}
 use lib.IntN.{ℤ, pos, _+ℤ_}
 use lib.ListN.{length, getD}
 use Rattle.whole.specs.Newton.{newtons}
-use Rattle.sharing.specs.Column.{forceOf, addedUp, isAhead}
+use Rattle.sharing.specs.Column.{ownForce, addedUp, isAhead}
 
 -- face i's entry is its force rounded down; or one more
 abbrev pub Down : List ℤ → List ℤ → ℕ → Type 0
-Down fs col i = getD col i (pos 0) ≡ newtons (forceOf fs i)
+Down fs col i = getD col i (pos 0) ≡ newtons (ownForce fs i)
 
 abbrev pub OneMore : List ℤ → List ℤ → ℕ → Type 0
-OneMore fs col i = getD col i (pos 0) ≡ newtons (forceOf fs i) +ℤ pos 1
+OneMore fs col i = getD col i (pos 0) ≡ newtons (ownForce fs i) +ℤ pos 1
 
 pub record IsColumn (fs col : List ℤ) : Type 0 where
   pub sized : length col ≡ length fs

@@ -57,7 +57,7 @@ use Rattle.job.proofs.Faces.Laws as L′
 use Rattle.job.specs.Walk.{Reading, judged}
 use Rattle.column.specs.declared.Setting.{Setting}
 use Rattle.column.specs.Listed.{listed}
-use Rattle.column.specs.Setting.{jobWith, judgedWith}
+use Rattle.column.specs.Setting.{recordWith, judgedWith}
 use Rattle.column.specs.Column.{columnVerdict, columnAfter}
 use Rattle.column.proofs.ManyFaces.{judged-listed}
 use Rattle.column.proofs.Setting as S
@@ -232,12 +232,12 @@ module _ {M : Type 1} (𝓤 : URA M) (H : Heap 𝓤) (A : Atoms 𝓤) (W : Given
 
     -- a list of faces is judged as its record
     by-list : (l : Faces) → l ≡ listed (x .now) → (r : Verdict) (zs : List ℤ)
-        → (r ≡ columnVerdict (judged (jobWith g l)) line (y .now))
-        × (zs ≡ columnAfter (judged (jobWith g l)) line (y .now))
+        → (r ≡ columnVerdict (judged (recordWith g l)) line (y .now))
+        × (zs ≡ columnAfter (judged (recordWith g l)) line (y .now))
         → (r ≡ columnVerdict (judgedWith g (x .now)) line (y .now))
         × (zs ≡ columnAfter (judgedWith g (x .now)) line (y .now))
     by-list l d r zs e =
-        let same = ap (λ (k : Faces). judged (jobWith g k)) d ∙ judged-listed g (x .now) in (
+        let same = ap (λ (k : Faces). judged (recordWith g k)) d ∙ judged-listed g (x .now) in (
           e .0 ∙ ap (λ (t : Reading). columnVerdict t line (y .now)) same,
           e .1 ∙ ap (λ (t : Reading). columnAfter t line (y .now)) same,
         )
@@ -295,11 +295,11 @@ module _ {M : Type 1} (𝓤 : URA M) (H : Heap 𝓤) (A : Atoms 𝓤) (W : Given
             split ! $ move ! (1 ∷ []) $
             use1 W (some (λ (zs : Unit {0} × (Unit {0} × (Unit {0} × (List ℤ × Unit {0})))).
             ‵ (lasts inner.ended (κ′, tt) (g, (l, (line, (y, tt)))) zs)
-            ⊛ raw (fact 𝓤 ((r ≡ columnVerdict (judged (jobWith g l)) line (y .now))
-            × (zs .1 .1 .1 .0 ≡ columnAfter (judged (jobWith g l)) line (y .now)))))) (id⊢ 𝓤 _) $ pick ! (λ zs.
+            ⊛ raw (fact 𝓤 ((r ≡ columnVerdict (judged (recordWith g l)) line (y .now))
+            × (zs .1 .1 .1 .0 ≡ columnAfter (judged (recordWith g l)) line (y .now)))))) (id⊢ 𝓤 _) $ pick ! (λ zs.
             split ! $ move ! (1 ∷ []) $
-            heard ! ((r ≡ columnVerdict (judged (jobWith g l)) line (y .now))
-            × (zs .1 .1 .1 .0 ≡ columnAfter (judged (jobWith g l)) line (y .now))) (λ e.
+            heard ! ((r ≡ columnVerdict (judged (recordWith g l)) line (y .now))
+            × (zs .1 .1 .1 .0 ≡ columnAfter (judged (recordWith g l)) line (y .now))) (λ e.
             fsplit ! $ move ! (1 ∷ []) $ fsplit ! $ move ! (1 ∷ []) $ fsplit ! $ move ! (1 ∷ []) $ fsplit ! $
             fsplit ! $
             move ! (1 ∷ []) $ feqL ! (λ long.

@@ -10,7 +10,7 @@ use lib.ListN.{length, drop}
 use Rattle.whole.specs.Newton.{newton, remainder}
 use Rattle.whole.proofs.Newton.{remainder-small}
 use Rattle.whole.proofs.Size.{said}
-use Rattle.sharing.specs.Column.{forceOf}
+use Rattle.sharing.specs.Column.{ownForce}
 use Rattle.sharing.proofs.Remainders.{remainders, lacking, missing-is, remainders-step, remainders-end}
 use Rattle.sharing.proofs.missing.missing_newtons.Statement.{statement}
 use Rattle.sharing.proofs.missing.missing_newtons.Tie as tie
@@ -29,7 +29,7 @@ module _ (c : tie.After-remainder Inv-loop μ-loop) where
   l = c .before .before .before
 
   abbrev next : ℤ
-  next = forceOf (l .before .args .forces .now) (l .loop .i)
+  next = ownForce (l .before .args .forces .now) (l .loop .i)
 
   taken : c .remainder .result ≡ remainder next
   taken = said remainder next (c .remainder .ensures) (c .before .remainder-arg .given)

@@ -14,7 +14,7 @@ use Rattle.whole.specs.Newton.{remainder}
 use Rattle.whole.proofs.Numbers.{length-numbers}
 use Rattle.whole.proofs.Counting.{many-number, many-few}
 use Rattle.whole.proofs.Size.{said}
-use Rattle.sharing.specs.Column.{forceOf, comesFirst, isAhead, ahead}
+use Rattle.sharing.specs.Column.{ownForce, comesFirst, isAhead, ahead}
 use Rattle.sharing.proofs.order.how_many_ahead.Statement.{statement}
 use Rattle.sharing.proofs.order.how_many_ahead.Tie as tie
 
@@ -46,9 +46,9 @@ module _ (c : tie.After-comes-first Inv-loop μ-loop) where
   tested : c .comes-first .result ≡ isAhead fs (l .loop .other) face
   tested =
       let own =
-      said remainder (forceOf fs face) (l .before .remainder .ensures) (l .before .before .remainder-arg .given) in
+      said remainder (ownForce fs face) (l .before .remainder .ensures) (l .before .before .remainder-arg .given) in
       let next =
-      said remainder (forceOf fs (l .loop .other)) (c .before .remainder2 .ensures)
+      said remainder (ownForce fs (l .loop .other)) (c .before .remainder2 .ensures)
       (c .before .before .remainder-arg2 .given) in
       c .comes-first .ensures ∙ (λ k. comesFirst (next k) (l .loop .other) (own k) face)
 

@@ -11,14 +11,14 @@ use mir.Syntax.{w64}
 use Rattle.whole.specs.Newton.{newtons}
 use Rattle.whole.proofs.Newton.{newtons-few}
 use Rattle.whole.proofs.Size.{Num, num, param≤, fit, back, said, _⊕_}
-use Rattle.sharing.specs.Column.{forceOf, ahead, missing, shareOf}
+use Rattle.sharing.specs.Column.{ownForce, ahead, missing, shareOf}
 use Rattle.sharing.proofs.shares.share_of.Statement.{statement}
 use Rattle.sharing.proofs.shares.share_of.Tie as tie
 
 -- the force rounded down
 module _ (c : tie.After-newtons) where
   abbrev force : ℤ
-  force = forceOf (c .before .before .args .forces .now) (c .before .before .args .face)
+  force = ownForce (c .before .before .args .forces .now) (c .before .before .args .face)
 
   rounded : c .newtons .result ≡ newtons force
   rounded = said newtons force (c .newtons .ensures) (c .before .newtons-arg .given)
