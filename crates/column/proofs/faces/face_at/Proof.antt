@@ -77,10 +77,8 @@ module _ {M : Type 1} (𝓤 : URA M) (H : Heap 𝓤) (A : Atoms 𝓤) (W : Given
   exits g =
       qed W (‵ (flft κ q) ∷ ‵ (ShrSlice (named 0) κ T.the-row .own (bound .0 .3 .0) (at .0)) ∷ ‵ (usize .own i
       (vint w64 i ∷ [])) ∷ []) ∵
-      suffices ! _ (ends-at 𝓤 H A face-at.ended stayed (face-at.clauses 𝓤 H A mem run) W bound mach elem (
-        tt,
-        (tt, tt),
-      ) (tt, (tt, tt))) $ says ! refl $
+      suffices ! _ (ends-at 𝓤 H A face-at.ended stayed (face-at.clauses 𝓤 H A mem run) W bound mach elem
+      (tt, (tt, tt)) (tt, (tt, tt))) $ says ! refl $
       nothing ! $ move ! (1 ∷ 0 ∷ []) $ join ! $ nothing ! $ move ! (3 ∷ 0 ∷ []) $ fjoin ! $ move ! (2 ∷ 0 ∷ []) $
       fjoin ! $ move ! (1 ∷ 0 ∷ []) $
       frame ! $ frame ! $ owned ! T.the-row (Is T.the-row) (LL.makes T.the-type T′.the-plain 𝓤 H A) elem _ g $ done !
@@ -94,29 +92,11 @@ module _ {M : Type 1} (𝓤 : URA M) (H : Heap 𝓤) (A : Atoms 𝓤) (W : Given
         (bound .0 .3) at) ∷ []) ∵ enter ! C Λ code.function (sliceVal (b, o) (length ys) ∷ vint w64 i ∷ []) _ $
         alloc1 ! (λ l₀. alloc1 ! (λ l₁. alloc1 ! (λ l₂. alloc1 ! (λ l₃. alloc1 ! (λ l₄. alloc1 ! (λ l₅. alloc0 ! $
         params1 ! $
-        pass1 ! (init ! 8 refl (
-          tt,
-          (
-            tt,
-            (
-              record {
-                fits =
-                    gn .0;
-              },
-              tt,
-            ),
-          ),
-        )) $ pass1 ! (init ! 6 refl (tt, record { fits = gi })) $ pass0 ! $
-        assigns ! (bin ! (load ! (from ! (stop !)) (look ! 6 refl)) (lit ! tt) (record {
-          fits =
-              in-room i (length ys) l (gn .1);
-        })) (from ! (stop !)) (init ! 4 refl (
-          tt,
-          record {
-            fits =
-                in-room i (length ys) l (gn .1);
-          },
-        )) $
+        pass1 ! (init ! 8 refl (tt, (tt, (record { fits = gn .0 }, tt)))) $
+        pass1 ! (init ! 6 refl (tt, record { fits = gi })) $ pass0 ! $
+        assigns ! (bin ! (load ! (from ! (stop !)) (look ! 6 refl)) (lit ! tt)
+        (record { fits = in-room i (length ys) l (gn .1) }))
+        (from ! (stop !)) (init ! 4 refl (tt, record { fits = in-room i (length ys) l (gn .1) })) $
         assigns ! (bin ! (load ! (from ! (fld ! refl (stop !))) (look-in ! 8 (sub ! 0 refl (whole !)))) (load !
         (from ! (stop !)) (look ! 4 refl)) tt) (from ! (stop !)) (init ! 2 refl (tt, tt)) $
         rewrite ! 2 (λ (p : ℕ). ‵ (fat fullShare tyPtr l₄ 0 (vptr b p))) (sym (place-is 48 o i)) refl $
@@ -151,8 +131,8 @@ module _ {M : Type 1} (𝓤 : URA M) (H : Heap 𝓤) (A : Atoms 𝓤) (W : Given
       (walk 𝓤 H A W mem run (κs .0) (qs .0) (a .0 .ptr .0) (a .0 .ptr .1) (a .0 .name) (a .0 .now) (a .1 .0) C Λ
       (are .0 .0 .1) (are .1 .0 .1)))
 
-meets : {M : Type 1} (𝓤 : URA M) (H : Heap 𝓤) (A : Atoms 𝓤) → Given 𝓤 H A → (mem : Memory → SProp 𝓤) (run : Routine
-    → Fun 𝓤) (𝓣 : Tables 𝓤 H)
+meets : {M : Type 1} (𝓤 : URA M) (H : Heap 𝓤) (A : Atoms 𝓤) → Given 𝓤 H A → (mem : Memory → SProp 𝓤)
+    (run : Routine → Fun 𝓤) (𝓣 : Tables 𝓤 H)
     → Meets 𝓤 H A face-at.signature (WpFn 𝓤 H (𝓣 .C) (𝓣 .Λ) code.function) (face-at.spec 𝓤 H A mem run)
 meets 𝓤 H A W mem run 𝓣 =
     walk-meets 𝓤 H A face-at.ended stayed W (

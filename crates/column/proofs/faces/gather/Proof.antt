@@ -391,19 +391,7 @@ module _ {M : Type 1} (𝓤 : URA M) (H : Heap 𝓤) (A : Atoms 𝓤) (W : Given
       (𝓣 .Λ) code.function (v ∷ []) _ $
       alloc1 ! (λ l₀. alloc1 ! (λ l₁. alloc1 ! (λ l₂. alloc1 ! (λ l₃. alloc1 ! (λ l₄. alloc1 ! (λ l₅. alloc1 !
       (λ l₆. alloc1 ! (λ l₇. alloc0 ! $ params1 ! $
-      pass1 ! (init ! 12 refl (
-        tt,
-        (
-          tt,
-          (
-            record {
-              fits =
-                  gn .0;
-            },
-            tt,
-          ),
-        ),
-      )) $ pass0 ! $
+      pass1 ! (init ! 12 refl (tt, (tt, (record { fits = gn .0 }, tt)))) $ pass0 ! $
       begins 𝓣 fm known-put known-at l₀ l₁ l₂ l₃ l₄ l₅ l₆ l₇ known-telling known-none))))))))
 
 module _ {M : Type 1} (𝓤 : URA M) (H : Heap 𝓤) (A : Atoms 𝓤) (W : Given 𝓤 H A) (mem : Memory → SProp 𝓤)
