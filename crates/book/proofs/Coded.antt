@@ -14,7 +14,8 @@ use borrow.Author.Tests.{eqb-true, eq-eqb, ne-eqb}
 use Rattle.whole.proofs.Size.{Num, back}
 use Rattle.whole.proofs.Tests.{is-true}
 use Rattle.whole.proofs.Table.{both, both-left, both-right, all, all-at, Each, each-at}
-use Rattle.whole.proofs.Joined.{joined, begins, joined-at}
+use Rattle.whole.specs.Lists.{joined}
+use Rattle.whole.proofs.Joined.{begins, joined-at}
 use Rattle.building.specs.Ratio.{Limit, _÷_}
 use Rattle.book.specs.declared.roofs.Limit as coded-limits
 use Rattle.book.specs.declared.roofs.Row as coded-rows

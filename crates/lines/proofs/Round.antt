@@ -41,7 +41,7 @@ digits-free b h = by-tens (λ n. Free b (digits n))
     rw (digits-more n k)
     (free-append b (digits (n / 10)) ((48 + n % 10) ∷ []) ih (free-one b (48 + n % 10) (λ e. omega arith))))
 
-field-free : (f : Field) (b : ℕ) → b < 45 → InForm f → Free b (fieldText f)
+pub field-free : (f : Field) (b : ℕ) → b < 45 → InForm f → Free b (fieldText f)
 field-free Bad b h i = absurd i
 field-free (Plus n) b h i = digits-free b (omega arith) n
 field-free (Minus n) b h i =
@@ -158,7 +158,7 @@ value-below (d ∷ ds) v k h a =
     let q : k + 1 + length ds ≡ k + suc (length ds) = omega arith in
     rw q at (value-below ds (v * 10 + (d - 48)) (k + 1) (value-grows v k (d - 48) h (omega arith)) (e .1))
 
-form-value : (ds : List ℕ) → digitsInForm ds ≡ true → value ds < 10 ^ 7
+pub form-value : (ds : List ℕ) → digitsInForm ds ≡ true → value ds < 10 ^ 7
 unfolding value
 form-value ds t =
     let p = form-parts ds t in

@@ -5,12 +5,9 @@ use Prim.Native.Nat.{ℕ, zero, suc, _+_, _<_}
 use native.Mathlib.Omega.{arith}
 use lib.ListN.{length, getD, List·getD-append}
 use lib.Seq.{getD-append-add}
+use Rattle.whole.specs.Lists.{joined}
 
 module _ {A : Type 0} where
-  abbrev pub joined : List (List A) → List A
-  joined [] = []
-  joined (l ∷ ls) = l ++ joined ls
-
   -- where list k begins
   abbrev pub begins : List (List A) → ℕ → ℕ
   begins [] k = 0

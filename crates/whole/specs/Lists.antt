@@ -1,5 +1,5 @@
 -- Lists: the first so many of one, one without one of its entries, what holds of each of one, how many of one have
--- something; and numbers in order.
+-- something, lists put one after the other; and numbers in order.
 use Prim.Native.Nat.{ℕ, zero, suc, _-_}
 use mathlib.Core.Bool.{Bool, cond}
 use mathlib.Core.List.{List, [], _∷_, _++_}
@@ -33,3 +33,8 @@ numbers (suc n) k = k ∷ numbers n (suc k)
 unfoldable pub howMany : {A : Type 0} → (A → Bool) → List A → ℕ
 howMany has [] = 0
 howMany has (x ∷ l) = cond (has x) (suc (howMany has l)) (howMany has l)
+
+-- lists put one after the other
+abbrev pub joined : {A : Type 0} → List (List A) → List A
+joined [] = []
+joined (l ∷ ls) = l ++ joined ls
