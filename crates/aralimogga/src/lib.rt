@@ -6,6 +6,7 @@ use column::Setting;
 use entry::Face;
 use mend::Mending;
 use panel::Point;
+use rose::Rose;
 use verdict::Verdict;
 use worksheet::Edited;
 use worksheet::Worksheet;
@@ -19,6 +20,8 @@ ghost use Rattle.job.specs.Walk.{verdict, judged};
 ghost use Rattle.sheet.specs.Sheet.{reading, sheetText, jobWriting, jobBuffer};
 ghost use Rattle.plain.specs.Plain.{plainly};
 ghost use Rattle.mend.specs.Mending.{mendingOf, textAfter, listAfter};
+ghost use Rattle.rose.specs.Rose.{noLines};
+ghost use Rattle.rose.specs.Taken.{partTaken, endTaken};
 ghost use Rattle.report.specs.Report.{reportText, storedText};
 ghost use Rattle.edits.specs.Edits.{Add, Replace, TakeOut};
 ghost use Rattle.worksheet.specs.Worksheet.{opened, edited};
@@ -158,6 +161,32 @@ pub extern "C" fn aral_column(s: Setting, faces: &[Face], line: i64, column: &mu
 {
     let listed = column::faces::gather(faces);
     column::column_in(s, listed, line, column)
+}
+
+// ---- a wind rose
+
+// A rose of no lines.
+#[no_mangle]
+pub extern "C" fn aral_rose_new() -> Rose
+    ensures { λ r. ⌜ r ≡ noLines ⌝ }
+{
+    rose::new()
+}
+
+// The next part of the file of observations.
+#[no_mangle]
+pub extern "C" fn aral_rose_take(r: Rose, part: &[u8]) -> Rose
+    ensures { λ q. ⌜ q ≡ partTaken r (now (part .entry)) ⌝ }
+{
+    rose::take(r, part)
+}
+
+// Its end.
+#[no_mangle]
+pub extern "C" fn aral_rose_end(r: Rose) -> Rose
+    ensures { λ q. ⌜ q ≡ endTaken r ⌝ }
+{
+    rose::end(r)
 }
 
 // ---- about one place of a building
