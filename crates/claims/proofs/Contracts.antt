@@ -67,6 +67,9 @@ pub use Rattle.job.proofs.judge.judge.Reads as judge
 pub use Rattle.job.proofs.judge.new_face_fault.Reads as new-face-fault
 pub use Rattle.sheet.proofs.read.read_sheet.Reads as read-sheet
 pub use Rattle.mend.proofs.mend.Reads as mend
+pub use Rattle.rose.proofs.new.Reads as rose-new
+pub use Rattle.rose.proofs.take.Reads as rose-take
+pub use Rattle.rose.proofs.end.Reads as rose-end
 pub use Rattle.sheet_written.proofs.write_sheet.Reads as write-sheet
 pub use Rattle.worst.proofs.worst_cases.Reads as worst-cases
 pub use Rattle.worst.proofs.sums_of.Reads as sums-of
@@ -108,6 +111,9 @@ pub use Rattle.aralimogga.proofs.aral_replace.Reads as aral-replace
 pub use Rattle.aralimogga.proofs.aral_take_out.Reads as aral-take-out
 pub use Rattle.aralimogga.proofs.aral_show.Reads as aral-show
 pub use Rattle.aralimogga.proofs.aral_write.Reads as aral-write
+pub use Rattle.aralimogga.proofs.aral_rose_new.Reads as aral-rose-new
+pub use Rattle.aralimogga.proofs.aral_rose_take.Reads as aral-rose-take
+pub use Rattle.aralimogga.proofs.aral_rose_end.Reads as aral-rose-end
 pub use Rattle.aralimogga.proofs.aral_outside.Reads as aral-outside
 pub use Rattle.aralimogga.proofs.aral_net.Reads as aral-net
 pub use Rattle.aralimogga.proofs.aral_digits.Reads as aral-digits

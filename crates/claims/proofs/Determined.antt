@@ -252,6 +252,17 @@ mend-determined : OneAnswerAndBuffer of.mend.Post {B = List ℕ × List ℕ}
     (λ κ s. (now (s .1 .0), now (s .1 .1 .0)))
 mend-determined κ a r r′ s s′ p q = same-three p q
 
+-- ---- rose
+
+rose-new-determined : OneAnswer of.rose-new.Post
+rose-new-determined κ a r r′ s s′ p q = same p q
+
+rose-take-determined : OneAnswer of.rose-take.Post
+rose-take-determined κ a r r′ s s′ p q = same p q
+
+rose-end-determined : OneAnswer of.rose-end.Post
+rose-end-determined κ a r r′ s s′ p q = same p q
+
 -- ---- written
 
 write-sheet-determined : OneAnswerAndBuffer of.write-sheet.Post (λ κ s. now (s .1 .0))
@@ -395,6 +406,15 @@ aral-show-determined κ a r r′ s s′ p q = same-both p q
 
 aral-write-determined : OneAnswerAndBuffer of.aral-write.Post (λ κ s. now (s .1 .0))
 aral-write-determined κ a r r′ s s′ p q = same-both p q
+
+aral-rose-new-determined : OneAnswer of.aral-rose-new.Post
+aral-rose-new-determined κ a r r′ s s′ p q = same p q
+
+aral-rose-take-determined : OneAnswer of.aral-rose-take.Post
+aral-rose-take-determined κ a r r′ s s′ p q = same p q
+
+aral-rose-end-determined : OneAnswer of.aral-rose-end.Post
+aral-rose-end-determined κ a r r′ s s′ p q = same p q
 
 aral-outside-determined : OneAnswer of.aral-outside.Post
 aral-outside-determined κ a r r′ s s′ p q = same p q

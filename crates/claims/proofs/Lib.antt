@@ -16,6 +16,7 @@ pub mod Item9
 pub mod Item10
 pub mod Item11
 pub mod Item12
+pub mod Item13
 pub mod Printed
 pub mod RowsWorked
 pub mod Sample
@@ -36,6 +37,7 @@ pub mod Session
 pub mod Total
 pub mod Written
 pub mod Mended
+pub mod InParts
 pub mod Decimal
 pub mod Again
 pub mod Shown

@@ -229,6 +229,17 @@ read-sheet-asks κ a = tt
 mend-asks : AsksNothing of.mend.Asked
 mend-asks κ a = tt
 
+-- ---- rose
+
+rose-new-asks : AsksNothing of.rose-new.Asked
+rose-new-asks κ a = tt
+
+rose-take-asks : AsksNothing of.rose-take.Asked
+rose-take-asks κ a = tt
+
+rose-end-asks : AsksNothing of.rose-end.Asked
+rose-end-asks κ a = tt
+
 -- ---- written
 
 write-sheet-asks : AsksNothing of.write-sheet.Asked
@@ -371,6 +382,15 @@ aral-show-asks κ a = tt
 
 aral-write-asks : AsksNothing of.aral-write.Asked
 aral-write-asks κ a = tt
+
+aral-rose-new-asks : AsksNothing of.aral-rose-new.Asked
+aral-rose-new-asks κ a = tt
+
+aral-rose-take-asks : AsksNothing of.aral-rose-take.Asked
+aral-rose-take-asks κ a = tt
+
+aral-rose-end-asks : AsksNothing of.aral-rose-end.Asked
+aral-rose-end-asks κ a = tt
 
 aral-outside-asks : AsksNothing of.aral-outside.Asked
 aral-outside-asks κ a = tt

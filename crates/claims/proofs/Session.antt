@@ -18,15 +18,10 @@ use Rattle.worksheet.specs.declared.Worksheet.{Worksheet}
 use Rattle.worksheet.specs.declared.Edited.{Edited}
 use Rattle.worksheet.specs.Worksheet.{edited}
 use Rattle.worksheet.proofs.Stays.{edited-accepted, sums-stay}
+use Rattle.claims.specs.Contract.{Call}
 use Rattle.claims.specs.Sums.{TrueSums}
 use Rattle.claims.proofs.Contracts as of
 use Rattle.claims.proofs.Accepted.{job-in-order}
-
--- one call, by whatever its contract allows: from the worksheet handed in to the one that it hands back
-abbrev pub Call : {L : Type 0} {A R S : L → Type 0} → ((κ : L) → A κ → R κ → S κ → Type 0)
-    → ((κ : L) → A κ → Worksheet) → ((κ : L) → R κ → Worksheet) → Worksheet → Worksheet → Type 0
-Call {L} {A} {R} {S} Post given back w v =
-    (κ : L) × (a : A κ) × (r : R κ) × (s : S κ) × Post κ a r s × (given κ a ≡ w) × (back κ r ≡ v)
 
 -- an edit of one of the three kinds, refused or not
 abbrev pub Step : Worksheet → Worksheet → Type 0

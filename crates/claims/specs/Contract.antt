@@ -17,6 +17,11 @@ module _ {L : Type 0} {A R S : L → Type 0} (Post : (κ : L) → A κ → R κ 
   abbrev pub Always : ((κ : L) → A κ → R κ → S κ → Type 0) → Type 0
   Always So = (κ : L) (a : A κ) (r : R κ) (s : S κ) → Post κ a r s → So κ a r s
 
+  -- one call, by whatever the contract allows: handed x, it answers y
+  abbrev pub Call : {X Y : Type 0} → ((κ : L) → A κ → X) → ((κ : L) → R κ → Y) → X → Y → Type 0
+  Call given back x y =
+      (κ : L) × (a : A κ) × (r : R κ) × (s : S κ) × Post κ a r s × (given κ a ≡ x) × (back κ r ≡ y)
+
   abbrev pub OneAnswer : Type 0
   OneAnswer = (κ : L) (a : A κ) (r r′ : R κ) (s s′ : S κ) → Post κ a r s → Post κ a r′ s′ → r ≡ r′
 
