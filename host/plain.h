@@ -1,5 +1,6 @@
 /* The entry points of the plain calculator: those of aralimogga.h, under another prefix. Worksheets are in
-   plain_edits.c, the column in plain_column.c, mending in plain_mend.c, all others in plain.c. */
+   plain_edits.c, the column in plain_column.c, mending in plain_mend.c, roses in plain_rose.c, all others in
+   plain.c. */
 #ifndef PLAIN_H
 #define PLAIN_H
 
@@ -30,6 +31,9 @@ aral_edited plain_replace(aral_worksheet w, int64_t face, aral_face f);
 aral_edited plain_take_out(aral_worksheet w, int64_t face);
 aral_text plain_show(aral_worksheet w, uint8_t *out, size_t room);
 aral_text plain_write(aral_worksheet w, uint8_t *out, size_t room);
+aral_rose plain_rose_new(void);
+aral_rose plain_rose_take(aral_rose r, const uint8_t *part, size_t n);
+aral_rose plain_rose_end(aral_rose r);
 aral_double plain_panel(int64_t total);
 aral_point plain_chart(int64_t x, int64_t y, int64_t z);
 
@@ -40,5 +44,9 @@ aral_text ENTRY(report_by)(const uint8_t *sheet, size_t n, const aral_sums *sums
 
 /* For plain_column.c: the force of each face in the case that a report line of an accepted sheet names, in units. */
 void ENTRY(forces)(const uint8_t *sheet, size_t n, int64_t line, int64_t force[ARAL_FACES_MOST]);
+
+/* The rose of a file's lines counted as a whole, where it is at hand in one piece: up to the first refusal, or all of
+   them; `ended` 1 also refuses what has no LF. It is closed and has nothing pending. */
+aral_rose ENTRY(rose_of)(const uint8_t *file, size_t n, int ended);
 
 #endif

@@ -17,6 +17,7 @@
    8       the face's height is outside the profile
    9       there is no such face to be edited (line 0)
    10      more than 8 faces have two alternatives under at least one of the job's winds (line 0); by aral_plain alone
+   11      an observation comes after 1,000,000 accepted ones; by a rose alone, whose other refusals are 1 and 3
 
    A sheet of year 1 opens with section B. One of a later year opens with section V and the year, 2 or 3; it has a
    section P after I, the profile, and a height after each face's mark. A face's speed is then the wind's times the
@@ -31,9 +32,9 @@
    `line` is the sheet's line, counted from 1: the first faulty line, and in it the lowest number. It is 0 where
    no line is at fault. The sheet is bytes, not a C string: a zero byte is a byte like another, and none ends it.
 
-   What a caller owes: a pointer and its length name bytes or entries that may be read (`sheet`, `faces`) or written
-   (`out`, `column`, `list`), no two of a call overlap, and no other thread writes them during the call. Where the
-   length is 0 the pointer may be null. */
+   What a caller owes: a pointer and its length name bytes or entries that may be read (`sheet`, `faces`, `part`) or
+   written (`out`, `column`, `list`), no two of a call overlap, and no other thread writes them during the call. Where
+   the length is 0 the pointer may be null. */
 #ifndef ARALIMOGGA_H
 #define ARALIMOGGA_H
 
@@ -46,8 +47,8 @@ extern "C" {
 
 /* The version of these shapes: it rises where a record or a call changes. 2: a coefficient names its rows. 3: a
    question names its year. 4: worksheets. 5: a worksheet keeps its sums. 6: the plain engine. 7: newton columns.
-   8: sheets mended. */
-#define ARAL_VERSION 8
+   8: sheets mended. 9: wind roses. */
+#define ARAL_VERSION 9
 
 /* The refusals by name. */
 enum {
@@ -60,7 +61,8 @@ enum {
     ARAL_ROOM = 7,
     ARAL_HEIGHT = 8,
     ARAL_NO_FACE = 9,
-    ARAL_CASES = 10
+    ARAL_CASES = 10,
+    ARAL_OBSERVATIONS = 11
 };
 
 /* The greatest lengths: in bytes of an acceptable sheet, a report and the digits of a number; and of a job's faces. And
@@ -70,6 +72,11 @@ enum {
 #define ARAL_DIGITS_MOST 20
 #define ARAL_FACES_MOST 24
 #define ARAL_CHOICES_MOST 8
+
+/* A rose has so many sectors, in each of them so many Beaufort numbers, and takes so many observations. */
+#define ARAL_SECTORS 16
+#define ARAL_BEAUFORT_NUMBERS 13
+#define ARAL_OBSERVATIONS_MOST 1000000
 
 /* Accepted (0, 0), or the refusal. */
 typedef struct { uint32_t number, line; } aral_answer;
@@ -178,6 +185,18 @@ typedef struct { aral_job job; aral_sums sums; } aral_worksheet;
 /* Accepted (0, 0) with the worksheet after the edit; or the refusal, with the worksheet as it was handed in. */
 typedef struct { uint32_t number, line; aral_worksheet worksheet; } aral_edited;
 
+/* A wind rose under way: the answer so far, (0, 0) or the refusal with its line in the file; how many observations were
+   accepted, which is the sum over all cells; and how many of them are in each cell. Observations of sector s and
+   Beaufort number b, both counted from 0, are in cell[ARAL_BEAUFORT_NUMBERS * s + b].
+   `closed` is 0 while more is taken, and 1 after a refusal or the end. `pending` is the library's own account of the
+   line that has no LF yet, all 0 where there is none; a host only hands it on. */
+typedef struct {
+    uint32_t number, line, accepted;
+    uint32_t cell[ARAL_SECTORS * ARAL_BEAUFORT_NUMBERS];
+    uint32_t closed;
+    struct { uint32_t stage, direction, kind, value; } pending;
+} aral_rose;
+
 /* Reads the n bytes of a sheet. Answers accepted, or refuses with 1 to 6 or 8 and the line. */
 aral_answer aral_read(const uint8_t *sheet, size_t n);
 
@@ -282,6 +301,25 @@ aral_edited aral_take_out(aral_worksheet w, int64_t face);
    for aral_rewrite. No report is longer than ARAL_REPORT_MOST bytes, and no sheet than ARAL_SHEET_MOST. */
 aral_text aral_show(aral_worksheet w, uint8_t *out, size_t room);
 aral_text aral_write(aral_worksheet w, uint8_t *out, size_t room);
+
+/* A wind rose of a file of observations that comes in parts: aral_rose_new, aral_rose_take for each part in order, and
+   aral_rose_end. Each call answers the next record, and any cutting of the file, also inside a number or with nothing
+   in a part, comes to the same one.
+   A line is a direction, 0 to 359 whole degrees, a space, a speed, 0 to 1000 tenths of m/s, and LF; both are numbers as
+   in a sheet. Of the 16 sectors the first is centred on north, the next on 22.5 degrees, and each reaches 11.25 degrees
+   to either side. The Beaufort number is that of table 2.2.2.2.1 by its m/s: the greatest speeds of 0 to 11 are 2, 15,
+   33, 54, 79, 107, 138, 171, 207, 244, 284 and 326 tenths. A calm is counted under its written direction.
+   A line is judged at its LF. It is refused with 1 where it is not in form; then with 3 for a number outside its range;
+   then with 11 after ARAL_OBSERVATIONS_MOST accepted ones. Bytes after the last LF are no line, and aral_rose_end
+   refuses them with 1; a file with no byte is accepted. The refusal's line is one more than the lines accepted, and the
+   cells stay as they were before it. After a refusal, and after aral_rose_end, nothing more is taken: both calls answer
+   the record as it was handed in.
+   A record handed in may hold anything. Where `closed` is not 0 it comes back as it is. Where it is 0, lines are judged
+   and counted as ever from the numbers that it holds: `number` and `line` stay until a refusal, 11 goes by `accepted`,
+   and a count of 4294967295 stays. What comes of a `pending` that no call answered is determined too. */
+aral_rose aral_rose_new(void);
+aral_rose aral_rose_take(aral_rose r, const uint8_t *part, size_t n);
+aral_rose aral_rose_end(aral_rose r);
 
 /* The panel's doubles of any number. Never refuses. Zero is positive zero. */
 aral_double aral_panel(int64_t total);
