@@ -7,9 +7,11 @@
 
 static const calculator both[] = {
     {"library", aral_read, aral_report, aral_plain, aral_outside, aral_net, aral_panel, aral_open, aral_add,
-     aral_replace, aral_take_out, aral_show, aral_write, aral_column, aral_mend},
+     aral_replace, aral_take_out, aral_show, aral_write, aral_column, aral_mend,
+     aral_rose_new, aral_rose_take, aral_rose_end},
     {"plain", plain_read, plain_report, plain_plain, plain_outside, plain_net, plain_panel, plain_open, plain_add,
-     plain_replace, plain_take_out, plain_show, plain_write, plain_column, plain_mend}};
+     plain_replace, plain_take_out, plain_show, plain_write, plain_column, plain_mend,
+     plain_rose_new, plain_rose_take, plain_rose_end}};
 static int cases, failures;
 
 void expect(const calculator *c, const char *what, int holds)
@@ -498,6 +500,7 @@ int main(void)
         check_engine(&both[i]);
         check_newtons(&both[i]);
         check_mending(&both[i]);
+        check_roses(&both[i]);
     }
     printf("%d worked cases on both calculators, %d failed\n", cases, failures);
     return failures != 0;

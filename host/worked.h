@@ -20,16 +20,20 @@ typedef struct {
     aral_text (*write)(aral_worksheet, uint8_t *, size_t);
     aral_answer (*column)(aral_setting, const aral_face *, size_t, int64_t, int64_t *, size_t);
     aral_mended (*mend)(const uint8_t *, size_t, uint8_t *, size_t, uint64_t *, size_t);
+    aral_rose (*rose_new)(void);
+    aral_rose (*rose_take)(aral_rose, const uint8_t *, size_t);
+    aral_rose (*rose_end)(aral_rose);
 } calculator;
 
 /* Counts the case, and says which does not hold. */
 void expect(const calculator *c, const char *what, int holds);
 
 /* The worked edits (worked_edits.c), and the worked cases of the plain engine (worked_engine.c), of the newton column
-   (worked_column.c) and of mending (worked_mend.c). */
+   (worked_column.c), of mending (worked_mend.c) and of wind roses (worked_rose.c). */
 void check_edits(const calculator *c);
 void check_engine(const calculator *c);
 void check_newtons(const calculator *c);
 void check_mending(const calculator *c);
+void check_roses(const calculator *c);
 
 #endif
