@@ -5,6 +5,7 @@
 #include "edit.h"
 #include "handout.h"
 #include "mend.h"
+#include "rose.h"
 #include "rows.h"
 #include "winds.h"
 #include "words.h"
@@ -30,6 +31,8 @@ static const char help[] =
     "  aral panel FILE    the six totals in newtons, and the doubles that a panel shows for them\n"
     "  aral edit FILE     faces added, replaced and taken out line by line, with the six totals after each;\n"
     "                     its `help` says how, and its lines may come through a pipe\n"
+    "  aral rose FILE     a wind rose as a table: the observations of FILE by sector and Beaufort number\n"
+    "  aral rose --svg FILE      the same as a drawing, for a browser: aral rose --svg FILE >rose.svg\n"
     "  aral ask WORDS     one coefficient and the printed rows that it comes from, as:\n"
     "                       aral ask h 500 a 1200 b 1000 kind 1 x 123 wind 0 zone E internal -30\n"
     "                       aral ask year 3 h 500 a 1000 b 1000 wind 0 zone B\n"
@@ -50,6 +53,8 @@ static const char help[] =
     "One of year 3 opens with `V 1` and `3`, is written in the same way, and may have a square plan, a equal to b.\n"
     "`mend` takes out carriage returns, spaces that follow a space or end a line, a plus before a number and zeros\n"
     "that lead it, and ends the last line. It changes nothing else, and a sheet in form not at all.\n"
+    "The FILE of `rose` has a line for each observation, written as those of a sheet: the direction that the wind\n"
+    "comes from, in whole degrees, 0 to 359, and its speed in tenths of m/s, 0 to 1000. It may have 1000000 lines.\n"
     "\n"
     "The exit status is 0, or 1 where the sheet or the question is refused, or 2 where the command is none of these.\n"
     "That of `edit` is the worst of its lines: 1 where an edit was refused or a file could not be written, 2 where a\n"
@@ -344,6 +349,10 @@ int main(int argc, char **argv)
     if (argc >= 2 && !strcmp(argv[1], "ask")) return ask(argc - 2, argv + 2);
     if (argc == 3 && !strcmp(argv[1], "edit") && !strcmp(argv[2], "-"))
         return misused("standard input has the lines of the dialogue, and the sheet can't be", "-");
+    if (argc > 2 && !strcmp(argv[1], "rose")) {
+        int drawn = !strcmp(argv[2], "--svg");
+        if (argc == 3 + drawn) return show_rose(argv[2 + drawn], drawn);
+    }
     if ((argc == 4 || argc == 5) && !strcmp(argv[1], "column")) return column(argv[2], argc - 3, argv + 3);
     int each = argc > 2 && !strcmp(argv[1], "plain") && !strcmp(argv[2], "--cases");
     if (each && argc == 4) return load(argv[3]) ? show_cases(sheet, length) : MISUSED;

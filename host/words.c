@@ -6,7 +6,8 @@
 
 enum { SHOWN = 76, FIELDS = 8, FIELD_ROOM = 24 };
 typedef enum {
-    V_COUNT, YEAR, B_COUNT, BUILDING, W_COUNT, WIND, I_COUNT, INTERNAL, P_COUNT, STEP, F_COUNT, FACE, HIGH_FACE, AFTER
+    V_COUNT, YEAR, B_COUNT, BUILDING, W_COUNT, WIND, I_COUNT, INTERNAL, P_COUNT, STEP, F_COUNT, FACE, HIGH_FACE, AFTER,
+    OBSERVATION
 } role;
 
 /* A count line has its section's letter. `%s` is what the building's roof kind allows. */
@@ -30,6 +31,8 @@ static const struct { char letter; const char *what, *form; int fields; } roles[
      "its height in cm (within the profile), and its areas on x, y and z in dm2 (-100000 to 100000)",
      "A 0 600 1000 0 0", 6},
     {0, "is after the last face, where the sheet must end", "", 0},
+    {0, "is an observation: the direction in whole degrees (0 to 359) and the speed in tenths of m/s (0 to 1000)",
+     "225 64", 2},
 };
 
 /* The sections of a sheet in order: of year 1, and of one that opens with V. */
@@ -49,12 +52,13 @@ static const section *sections_of(const uint8_t *sheet, size_t n)
 
 /* ---- Finding the line ---- */
 
-typedef struct { const uint8_t *start; size_t length; int there, ended; } line_text;
+/* Of a line of observations that is very long `more` bytes are not at hand. */
+typedef struct { const uint8_t *start; size_t length; int there, ended; size_t more; } line_text;
 
 static line_text line_at(const uint8_t *sheet, size_t n, uint32_t line)
 {
     size_t at = 0;
-    line_text found = {sheet, 0, 0, 0};
+    line_text found = {sheet, 0, 0, 0, 0};
     for (uint32_t i = 1; i < line; i++) {
         const uint8_t *end = at < n ? memchr(sheet + at, '\n', n - at) : NULL;
         if (!end) return found;
@@ -115,7 +119,7 @@ static void show_line(uint32_t number, const line_text *t)
         else if (byte < ' ' || byte > '~') printf("<%02x>", byte);
         else putchar(byte);
     }
-    if (t->length > SHOWN) printf(" .. (%zu bytes)", t->length);
+    if (t->length > SHOWN) printf(" .. (%zu bytes)", t->length + t->more);
     if (t->there && !t->ended) printf("<no line end>");
     printf("\n\n");
 }
@@ -185,7 +189,7 @@ static int is_face(role r) { return r == FACE || r == HIGH_FACE; }
 static const char *form_slip(const line_text *t, role r, char field[FIELDS][FIELD_ROOM], int count)
 {
     char letter = roles[r].letter;
-    if (memchr(t->start, '\r', t->length)) return "a carriage return stands in it: save the sheet with LF line ends";
+    if (memchr(t->start, '\r', t->length)) return "a carriage return stands in it: save the file with LF line ends";
     if (memchr(t->start, '\t', t->length)) return "fields are parted by one space, not by a tab";
     if (t->length == 0) return "the line is empty";
     for (int i = 0; i < count && i < FIELDS; i++)
@@ -425,6 +429,27 @@ void explain(const uint8_t *sheet, size_t n, aral_answer refusal)
     printf(roles[r].what, item, count, allowed_at(sheet, n, r));
     if (*roles[r].form) printf(", as `%s`", roles[r].form);
     printf(".\n");
+}
+
+/* ---- A line of observations ---- */
+
+static const char *observation_title(uint32_t number)
+{
+    return number == 11 ? "more observations than a rose takes" : title_of(number);
+}
+
+void explain_observation(const uint8_t *line, size_t kept, size_t length, int ended, aral_answer refusal)
+{
+    char field[FIELDS][FIELD_ROOM];
+    line_text t = {line, kept, 1, ended, length - kept};
+    printf("refused with %u at line %u: %s\n", refusal.number, refusal.line, observation_title(refusal.number));
+    show_line(refusal.line, &t);
+    cut(&t, field);
+    if (refusal.number == ARAL_FORM) explain_form(&t, OBSERVATION);
+    if (refusal.number == ARAL_RANGE) say_range("direction", field[0], 0, 359);
+    if (refusal.number == ARAL_RANGE) say_range("speed", field[1], 0, 1000);
+    if (refusal.number == ARAL_OBSERVATIONS) printf("A rose takes %d observations.\n", ARAL_OBSERVATIONS_MOST);
+    printf("Line %u %s, as `%s`.\n", refusal.line, roles[OBSERVATION].what, roles[OBSERVATION].form);
 }
 
 /* ---- What an accepted sheet holds ---- */

@@ -7,6 +7,9 @@
 /* Prints the refusal of a sheet: the line it names, what is wrong with it, and what would be allowed there. */
 void explain(const uint8_t *sheet, size_t n, aral_answer refusal);
 
+/* The same of a file of observations, by the line it names: its text, of which `kept` of `length` bytes are at hand. */
+void explain_observation(const uint8_t *line, size_t kept, size_t length, int ended, aral_answer refusal);
+
 /* What a refusal of a sheet is, in a few words: of 3, `a number outside its range`. */
 const char *title_of(uint32_t number);
 
