@@ -138,7 +138,8 @@ void draw_rose(const aral_rose *r)
            "font-family=\"sans-serif\" fill=\"#222\">\n", WIDTH, HEIGHT, WIDTH, HEIGHT);
     printf("<title>Wind rose of %" PRIu32 " observation%s</title>\n", r->accepted, plural);
     printf("<rect width=\"%d\" height=\"%d\" fill=\"#fff\"/>\n", WIDTH, HEIGHT);
-    printf("<text x=\"24\" y=\"36\" font-size=\"20\">Wind rose of %" PRIu32 " observation%s</text>\n", r->accepted, plural);
+    printf("<text x=\"24\" y=\"36\" font-size=\"20\">Wind rose of %" PRIu32 " observation%s</text>\n", r->accepted,
+           plural);
     printf("<text x=\"24\" y=\"56\" font-size=\"13\" fill=\"#555\">by where the wind comes from</text>\n");
     printf("<g transform=\"translate(%d %d)\">\n", MIDDLE_X, MIDDLE_Y);
     draw_rings(s);

@@ -76,6 +76,8 @@ static const observed roses[] = {
     {"eight digits", TEXT("12345678 50\n"), 1, 1, 0, {{0}}},
     {"eight digits behind", TEXT("90 12345678\n"), 1, 1, 0, {{0}}},
     {"eight digits behind a minus", TEXT("90 -12345678\n"), 1, 1, 0, {{0}}},
+    {"eight digits alone", TEXT("12345678\n"), 1, 1, 0, {{0}}},
+    {"a minus for the space", TEXT("90-50\n"), 1, 1, 0, {{0}}},
     {"eight digits behind the longest number", TEXT("-9999999 -99999999\n"), 1, 1, 0, {{0}}},
     {"a space behind the longest line", TEXT("-9999999 -9999999 \n"), 1, 1, 0, {{0}}},
     {"digits that come to 90 in 32 bits", TEXT("4294967386 50\n"), 1, 1, 0, {{0}}},
