@@ -1,5 +1,5 @@
 /* aral: the calculator on the command line, for people. It links libaralimogga.a and reckons nothing itself: where it
-   shows each case, or a column, it adds up the faces' forces. */
+   shows each case, or a column, it adds up the faces' forces; of a rose it adds up cells. */
 #include "aralimogga.h"
 #include "cases.h"
 #include "edit.h"
@@ -56,7 +56,8 @@ static const char help[] =
     "The FILE of `rose` has a line for each observation, written as those of a sheet: the direction that the wind\n"
     "comes from, in whole degrees, 0 to 359, and its speed in tenths of m/s, 0 to 1000. It may have 1000000 lines.\n"
     "\n"
-    "The exit status is 0, or 1 where the sheet or the question is refused, or 2 where the command is none of these.\n"
+    "The exit status is 0, or 1 where the sheet, the question or the observations are refused, or 2 where the command\n"
+    "is none of these.\n"
     "That of `edit` is the worst of its lines: 1 where an edit was refused or a file could not be written, 2 where a\n"
     "line was none of its own. That of `mend` is 1 where the mended sheet is refused or could not be written.\n";
 
@@ -349,10 +350,8 @@ int main(int argc, char **argv)
     if (argc >= 2 && !strcmp(argv[1], "ask")) return ask(argc - 2, argv + 2);
     if (argc == 3 && !strcmp(argv[1], "edit") && !strcmp(argv[2], "-"))
         return misused("standard input has the lines of the dialogue, and the sheet can't be", "-");
-    if (argc > 2 && !strcmp(argv[1], "rose")) {
-        int drawn = !strcmp(argv[2], "--svg");
-        if (argc == 3 + drawn) return show_rose(argv[2 + drawn], drawn);
-    }
+    int drawn = argc > 2 && !strcmp(argv[2], "--svg");
+    if (argc == 3 + drawn && !strcmp(argv[1], "rose")) return show_rose(argv[2 + drawn], drawn);
     if ((argc == 4 || argc == 5) && !strcmp(argv[1], "column")) return column(argv[2], argc - 3, argv + 3);
     int each = argc > 2 && !strcmp(argv[1], "plain") && !strcmp(argv[2], "--cases");
     if (each && argc == 4) return load(argv[3]) ? show_cases(sheet, length) : MISUSED;
