@@ -98,15 +98,11 @@ aral_rose ENTRY(rose_of)(const uint8_t *file, size_t n, int ended)
 /* The bytes that a line in form has, by their codes from 1. No such line is longer than two minuses, a space and twice
    7 digits; one that is, or that has another byte, is kept as OTHER alone, for all that counts is that it is there. */
 static const char alphabet[] = "0123456789- ";
-enum { LONGEST = 2 + 1 + 2 * DIGITS, OTHER = 15, CODES = 8 };
+enum { LONGEST = 2 + 1 + 2 * DIGITS, OTHER = 15, CODES = 16 };
 
-static uint32_t *word_of(aral_rose *r, size_t i)
-{
-    uint32_t *word[] = {&r->pending.stage, &r->pending.direction, &r->pending.kind, &r->pending.value};
-    return word[i / CODES];
-}
+static uint64_t *word_of(aral_rose *r, size_t i) { return i < CODES ? &r->pending.kind : &r->pending.value; }
 
-static uint32_t code_at(aral_rose *r, size_t i) { return *word_of(r, i) >> 4 * (i % CODES) & 15; }
+static uint32_t code_at(aral_rose *r, size_t i) { return (uint32_t)(*word_of(r, i) >> 4 * (i % CODES) & 15); }
 
 static size_t kept_of(aral_rose *r)
 {
@@ -122,10 +118,10 @@ static void keep(aral_rose *r, uint8_t byte)
     if (kept > 0 && code_at(r, 0) == OTHER) return;
     if (!found || kept == LONGEST) {
         memset(&r->pending, 0, sizeof r->pending);
-        r->pending.stage = OTHER;
+        r->pending.kind = OTHER;
         return;
     }
-    *word_of(r, kept) |= (uint32_t)(found - alphabet + 1) << 4 * (kept % CODES);
+    *word_of(r, kept) |= (uint64_t)(found - alphabet + 1) << 4 * (kept % CODES);
 }
 
 /* A code that is none of the alphabet's stands for a byte that is in no line in form. */

@@ -20,8 +20,9 @@ static struct { unsigned long files, accepted, number[12], parts, empty, cuts, n
 
 static void print_rose(const char *name, const aral_rose *r)
 {
-    printf("%s: %u %u, accepted %u, closed %u, pending %u %u %u %u;", name, r->number, r->line, r->accepted, r->closed,
-           r->pending.stage, r->pending.direction, r->pending.kind, r->pending.value);
+    printf("%s: %u %u, accepted %u, closed %u, pending %u %u %llu %llu;", name, r->number, r->line, r->accepted, r->closed,
+           r->pending.stage, r->pending.direction, (unsigned long long)r->pending.kind,
+           (unsigned long long)r->pending.value);
     for (int i = 0, shown = 0; i < CELLS && shown < 12; i++)
         if (r->cell[i]) shown++, printf(" %d/%d %u", i / ARAL_BEAUFORT_NUMBERS, i % ARAL_BEAUFORT_NUMBERS, r->cell[i]);
     printf("\n");
@@ -271,7 +272,7 @@ static aral_rose any_record(void)
     if (pick(&die, 0, 1)) r.accepted = (uint32_t)pick(&die, 0, 1000001);
     if (pick(&die, 0, 1) == 0) return r;
     r.pending.stage = any_number(), r.pending.direction = any_number();
-    r.pending.kind = any_number(), r.pending.value = any_number();
+    r.pending.kind = any_number(), r.pending.value = (uint64_t)any_number() << 32 | any_number();
     return r;
 }
 

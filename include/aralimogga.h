@@ -194,7 +194,7 @@ typedef struct {
     uint32_t number, line, accepted;
     uint32_t cell[ARAL_SECTORS * ARAL_BEAUFORT_NUMBERS];
     uint32_t closed;
-    struct { uint32_t stage, direction, kind, value; } pending;
+    struct { uint32_t stage, direction; uint64_t kind, value; } pending;
 } aral_rose;
 
 /* Reads the n bytes of a sheet. Answers accepted, or refuses with 1 to 6 or 8 and the line. */

@@ -19,7 +19,7 @@ use Rattle.lines.proofs.Lines.{Free, split-until, split-more, split-last}
 use Rattle.lines.proofs.Round.{field-back, field-form, field-free}
 use Rattle.rose.specs.declared.Said.{Said}
 use Rattle.rose.specs.declared.Said.the-variants.{OutOfForm, OutOfRange, Is}
-use Rattle.rose.specs.Observation.{topSpeeds, exceeded, beaufort, cellAt, fieldSays, together, lineSays, cellIn}
+use Rattle.rose.specs.Observation.{topSpeeds, exceeded, beaufort, cellNumber, fieldSays, together, lineSays, cellIn}
 
 -- ---- fields
 
@@ -107,7 +107,7 @@ beaufort-small v = exceeded-le v topSpeeds
 
 -- ---- cells
 
-cell-small : (d v : ℕ) → cellAt d v < 208
+cell-small : (d v : ℕ) → cellNumber d v < 208
 cell-small d v = omega (arith, beaufort-small v)
 
 pub together-small : (x y : Said) → cellIn (together x y) < 208

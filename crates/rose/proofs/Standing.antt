@@ -15,7 +15,7 @@ use Rattle.field.specs.declared.Field.{Field}
 use Rattle.field.specs.declared.Field.the-variants.{Bad, Plus, Minus, Letter, Dash}
 use Rattle.rose.specs.declared.Said.{Said}
 use Rattle.rose.specs.declared.Said.the-variants.{OutOfForm, OutOfRange, Is}
-use Rattle.rose.specs.Observation.{sector, topSpeeds, exceeded, beaufort, cellAt}
+use Rattle.rose.specs.Observation.{sector, topSpeeds, exceeded, beaufort, cellNumber}
 use Rattle.rose.specs.Observation.{fieldSays, together, lineSays, cellIn}
 use Rattle.rose.specs.Rose.{faultAfter}
 use Rattle.rose.specs.StandsIn.{InSector, beaufortTable, InRow, StandsIn}
@@ -110,7 +110,7 @@ field-is top (Minus m) e = absurd (no-range e)
 field-is top (Letter b) e = absurd (no-form e)
 field-is top Dash e = absurd (no-form e)
 
-stands : (d v : ℕ) → d ≤ 359 → v ≤ 1000 → StandsIn (Plus d ∷ Plus v ∷ []) (cellAt d v)
+stands : (d v : ℕ) → d ≤ 359 → v ≤ 1000 → StandsIn (Plus d ∷ Plus v ∷ []) (cellNumber d v)
 stands d v h k =
     record {
       direction = d;
@@ -136,7 +136,7 @@ module _ (d v : Field) {k : ℕ} where
   two-stand (Is a) (Is b) p q e =
       let f = field-is 359 d p in
       let g = field-is 1000 v q in
-      let c : k ≡ cellAt a b = sym (ap cellIn e) in
+      let c : k ≡ cellNumber a b = sym (ap cellIn e) in
       rw (f .0, g .0, c) (stands a b (f .1) (g .1))
 
 -- WHAT A LINE SAYS IS WHERE IT STANDS

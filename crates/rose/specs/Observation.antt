@@ -25,8 +25,8 @@ unfoldable pub beaufort : ℕ → ℕ
 beaufort speed = exceeded speed topSpeeds
 
 -- the cells stand by sector, and in it by Beaufort number
-abbrev pub cellAt : ℕ → ℕ → ℕ
-cellAt direction speed = 13 * sector direction + beaufort speed
+abbrev pub cellNumber : ℕ → ℕ → ℕ
+cellNumber direction speed = 13 * sector direction + beaufort speed
 
 -- ---- what a line says
 
@@ -46,7 +46,7 @@ together OutOfRange OutOfRange = OutOfRange
 together OutOfRange (Is v) = OutOfRange
 together (Is d) OutOfForm = OutOfForm
 together (Is d) OutOfRange = OutOfRange
-together (Is d) (Is v) = Is (cellAt d v)
+together (Is d) (Is v) = Is (cellNumber d v)
 
 -- a direction, 0 to 359 whole degrees, and a speed, 0 to 1000 tenths of m/s
 abbrev pub lineSays : List Field → Said

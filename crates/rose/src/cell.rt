@@ -1,7 +1,7 @@
 // The cell of an observation.
 ghost use mathlib.Core.Path.{_≡_};
 ghost use Prim.Native.Nat.{_<_};
-ghost use Rattle.rose.specs.Observation.{sector, beaufort, cellAt};
+ghost use Rattle.rose.specs.Observation.{sector, beaufort, cellNumber};
 
 // Table 2.2.2.2.1: the greatest speeds of the Beaufort numbers 0 to 11, in tenths of m/s.
 const TOP_SPEEDS: [u32; 12] = [2, 15, 33, 54, 79, 107, 138, 171, 207, 244, 284, 326];
@@ -27,7 +27,7 @@ fn sector_of(direction: u32) -> u32
 }
 
 pub(crate) fn cell_at(direction: u32, speed: u32) -> u32
-    ensures { λ r. ⌜ r ≡ cellAt direction speed ⌝ }
+    ensures { λ r. ⌜ r ≡ cellNumber direction speed ⌝ }
 {
     13 * sector_of(direction) + beaufort_of(speed)
 }
