@@ -23,7 +23,9 @@ module _ (v : Verdict) (count : ℕ) (cell : List ℕ) where
   stays-pending [] p h = refl
   stays-pending (b ∷ s) p h =
       by-test (eqb b 10) (λ t. absurd (let q : 0 ≡ suc (length s) = rw t at h in omega arith))
-      (λ t. let q : suc (until 10 s) ≡ suc (length s) = rw t at h in rw t (stays-pending s (lineMore p b) (omega arith)))
+      (λ t.
+      let q : suc (until 10 s) ≡ suc (length s) = rw t at h in
+      rw t (stays-pending s (lineMore p b) (omega arith)))
 
 pub unfinished-refused : (r : Rose) → r .closed ≡ 0 → r .pending ≡ noBytes → (b : ℕ) (s : List ℕ)
     → until 10 (b ∷ s) ≡ length (b ∷ s) → endTaken (partTaken r (b ∷ s)) ≡ refusedAt (r .cell) (r .accepted) 1

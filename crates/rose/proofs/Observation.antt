@@ -19,7 +19,8 @@ use Rattle.lines.proofs.Lines.{Free, split-until, split-more, split-last}
 use Rattle.lines.proofs.Round.{field-back, field-form, field-free}
 use Rattle.rose.specs.declared.Said.{Said}
 use Rattle.rose.specs.declared.Said.the-variants.{OutOfForm, OutOfRange, Is}
-use Rattle.rose.specs.Observation.{topSpeeds, exceeded, beaufort, cellNumber, fieldSays, together, lineSays, cellIn}
+use Rattle.rose.specs.Observation.{topSpeeds, exceeded, beaufort, cellNumber}
+use Rattle.rose.specs.Observation.{fieldSays, together, lineSays, cellIn}
 
 -- ---- fields
 
