@@ -13,7 +13,8 @@ use Rattle.whole.proofs.FirstOf.{firstOf-next}
 use Rattle.entry.specs.declared.Face.{Face}
 use Rattle.job.specs.declared.Faces.{Faces}
 use Rattle.job.specs.Carried.{noFace}
-use Rattle.column.specs.Listed.{listed, noFaces, withOne}
+use Rattle.column.specs.Listed.{listed}
+use Rattle.column.specs.OneByOne.{noFaces, withOne}
 
 firstOf-enough : {X : Type 0} (d : X) (n : ℕ) (l m : List X) → n ≤ length l → firstOf d n (l ++ m) ≡ firstOf d n l
 unfolding firstOf

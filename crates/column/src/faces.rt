@@ -1,14 +1,15 @@
 // The faces of a lent list, as a job's record holds them.
 ghost use mathlib.Core.Path.{_≡_};
-ghost use Prim.Native.Nat.{min, _<_};
+ghost use Prim.Native.Nat.{_+_, min, _<_};
 ghost use lib.ListN.{length, getD};
 ghost use Rattle.job.specs.Carried.{noFace};
-ghost use Rattle.column.specs.Listed.{noFaces, withOne, listed};
+ghost use Rattle.column.specs.Listed.{roomForFaces, listed};
+ghost use Rattle.column.specs.OneByOne.{noFaces, withOne};
 use entry::Face;
 use job::Faces;
 
 // A record has room for so many.
-const MOST_FACES: u32 = 24;
+const ROOM: u32 = 24;
 
 // One face of the list.
 fn face_at(faces: &[Face], i: usize) -> Face
@@ -39,24 +40,25 @@ fn put(faces: Faces, f: Face) -> Faces
 {
     let mut all = faces;
     let count = all.count;
-    if count < MOST_FACES {
+    if count < ROOM {
         let i = count as usize;
         all.entry[i] = f;
         all.count = count + 1;
         return all;
     }
-    all.count = MOST_FACES + 1;
+    all.count = ROOM + 1;
     all
 }
 
 // How many of n faces tell all that a record says of them.
 fn telling(n: usize) -> usize
-    ensures { λ r. ⌜ r ≡ min n 25 ⌝ }
+    ensures { λ r. ⌜ r ≡ min n (roomForFaces + 1) ⌝ }
 {
-    if n < 25 {
+    let most = (ROOM + 1) as usize;
+    if n < most {
         return n;
     }
-    25
+    most
 }
 
 // All that a record says of the faces. Of a list that is longer it reads one more than there is room for.

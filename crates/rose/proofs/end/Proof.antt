@@ -9,12 +9,6 @@ use Rattle.rose.proofs.end.Tie as tie
 returns : tie.Need-returns
 returns c = sym (end-closed (c .before .before .args .rose) (ne-eqb _ _ (c .if1 .taken)))
 
-has-bytes-requires : tie.Need-has-bytes-requires
-has-bytes-requires c κs = search needs
-
-unfinished-requires : tie.Need-unfinished-requires
-unfinished-requires c κs = search needs
-
 returns-2 : tie.Need-returns-2
 returns-2 c =
     let h = c .before .before in
@@ -22,9 +16,6 @@ returns-2 c =
     let r = o .before .before .args .rose in
     c .unfinished .ensures
     ∙ sym (end-unended r (eq-eqb _ _ (o .if1 .left)) (sym (h .has-bytes .ensures) ∙ c .before .if2 .taken))
-
-no-bytes-requires : tie.Need-no-bytes-requires
-no-bytes-requires c κs = search needs
 
 returns-3 : tie.Need-returns-3
 returns-3 c =
@@ -40,4 +31,4 @@ returns-3 c =
 pub end-spec : {M : Type 1} → statement M
 end-spec =
     tie.close
-    (tie.spec returns has-bytes-requires unfinished-requires returns-2 no-bytes-requires returns-3)
+    (tie.spec returns (λ c κs. search needs) (λ c κs. search needs) returns-2 (λ c κs. search needs) returns-3)

@@ -3,11 +3,8 @@ use borrow.Author.Needs.{needs}
 use Rattle.rose.proofs.new.Statement.{statement}
 use Rattle.rose.proofs.new.Tie as tie
 
-no-bytes-requires : tie.Need-no-bytes-requires
-no-bytes-requires c κs = search needs
-
 returns : tie.Need-returns
 returns c = rw (c .no-bytes .ensures)
 
 pub new-spec : {M : Type 1} → statement M
-new-spec = tie.close (tie.spec no-bytes-requires returns)
+new-spec = tie.close (tie.spec (λ c κs. search needs) returns)

@@ -29,18 +29,6 @@ returns c =
 loop-holds : tie.Need-loop-holds Inv-loop μ-loop
 loop-holds c = (search needs, refl)
 
-shared-slice-read-b : tie.Need-shared-slice-read-b Inv-loop μ-loop
-shared-slice-read-b c = search needs
-
-says-requires : tie.Need-says-requires Inv-loop μ-loop
-says-requires c κs = search needs
-
-fault-after-requires : tie.Need-fault-after-requires Inv-loop μ-loop
-fault-after-requires c κs = search needs
-
-refusal-requires : tie.Need-refusal-requires Inv-loop μ-loop
-refusal-requires c κs = search needs
-
 returns-2 : tie.Need-returns-2 Inv-loop μ-loop
 returns-2 c =
     let f = c .before .before in
@@ -55,9 +43,6 @@ returns-2 c =
     (search needs) (f .before .before .if2 .taken) (f .before .says .result) (f .before .says .ensures .0)
     (f .fault-after .result) (f .fault-after .ensures) (c .before .if3 .taken))
 
-cell-in-requires : tie.Need-cell-in-requires Inv-loop μ-loop
-cell-in-requires c κs = search needs
-
 cast-k : tie.Need-cast-k Inv-loop μ-loop
 cast-k c = omega (arith, c .cell-in .ensures, c .before .before .before .says .ensures .1)
 
@@ -67,26 +52,11 @@ mul-one-more c = omega (arith, c .cell-in .ensures, c .before .before .before .s
 array-read-one-more : tie.Need-array-read-one-more Inv-loop μ-loop
 array-read-one-more c = rw (c .cell-in .ensures) (c .before .before .before .says .ensures .1)
 
-one-more-requires : tie.Need-one-more-requires Inv-loop μ-loop
-one-more-requires c κs = search needs
-
 mul-cell : tie.Need-mul-cell Inv-loop μ-loop
 mul-cell c = omega (arith, c .before .cell-in .ensures, c .before .before .before .before .says .ensures .1)
 
 array-write-cell : tie.Need-array-write-cell Inv-loop μ-loop
 array-write-cell c = rw (c .before .cell-in .ensures) (c .before .before .before .before .says .ensures .1)
-
-one-more-requires-2 : tie.Need-one-more-requires-2 Inv-loop μ-loop
-one-more-requires-2 c κs = search needs
-
-no-bytes-requires : tie.Need-no-bytes-requires Inv-loop μ-loop
-no-bytes-requires c κs = search needs
-
-add-i : tie.Need-add-i Inv-loop μ-loop
-add-i c = search needs
-
-loop-less : tie.Need-loop-less Inv-loop μ-loop
-loop-less c = search needs
 
 loop-again : tie.Need-loop-again Inv-loop μ-loop
 loop-again c =
@@ -104,15 +74,6 @@ loop-again c =
           (c .before .before .one-more .result) (c .before .before .one-more .ensures)
           (c .before .one-more2 .result) (c .before .one-more2 .ensures) (c .no-bytes .result) (c .no-bytes .ensures),
     )
-
-with-byte-requires : tie.Need-with-byte-requires Inv-loop μ-loop
-with-byte-requires c κs = search needs
-
-add-i-2 : tie.Need-add-i-2 Inv-loop μ-loop
-add-i-2 c = search needs
-
-loop-less-2 : tie.Need-loop-less-2 Inv-loop μ-loop
-loop-less-2 c = search needs
 
 loop-again-2 : tie.Need-loop-again-2 Inv-loop μ-loop
 loop-again-2 c =
@@ -138,30 +99,8 @@ returns-3 c =
 pub take-spec : {M : Type 1} → statement M
 take-spec =
     tie.close
-    (tie.spec
-    Inv-loop
-    μ-loop
-    returns
-    loop-holds
-    shared-slice-read-b
-    says-requires
-    fault-after-requires
-    refusal-requires
-    returns-2
-    cell-in-requires
-    cast-k
-    mul-one-more
-    array-read-one-more
-    one-more-requires
-    mul-cell
-    array-write-cell
-    one-more-requires-2
-    no-bytes-requires
-    add-i
-    loop-less
-    loop-again
-    with-byte-requires
-    add-i-2
-    loop-less-2
-    loop-again-2
-    returns-3)
+    (tie.spec Inv-loop μ-loop returns loop-holds (λ c. search needs) (λ c κs. search needs) (λ c κs. search needs)
+    (λ c κs. search needs) returns-2 (λ c κs. search needs) cast-k mul-one-more array-read-one-more
+    (λ c κs. search needs) mul-cell array-write-cell (λ c κs. search needs) (λ c κs. search needs)
+    (λ c. search needs) (λ c. search needs) loop-again (λ c κs. search needs) (λ c. search needs) (λ c. search needs)
+    loop-again-2 returns-3)

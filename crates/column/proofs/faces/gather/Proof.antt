@@ -51,7 +51,8 @@ use denote.Exit.{yes}
 use Rattle.entry.specs.declared.Face.{Face}
 use Rattle.job.specs.declared.Faces.{Faces}
 use Rattle.job.specs.Carried.{noFace}
-use Rattle.column.specs.Listed.{noFaces, withOne, listed}
+use Rattle.column.specs.Listed.{listed}
+use Rattle.column.specs.OneByOne.{noFaces, withOne}
 use Rattle.whole.specs.Lists.{firstOf}
 use Rattle.column.proofs.Gathered.{start, more, all}
 use Rattle.entry.proofs.Face as F

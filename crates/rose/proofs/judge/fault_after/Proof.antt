@@ -4,12 +4,6 @@ use borrow.Author.Needs.{needs}
 use Rattle.rose.proofs.judge.fault_after.Statement.{statement}
 use Rattle.rose.proofs.judge.fault_after.Tie as tie
 
-fault-in-requires : tie.Need-fault-in-requires
-fault-in-requires c κs = search needs
-
-fault-of-room-requires : tie.Need-fault-of-room-requires
-fault-of-room-requires c κs = search needs
-
 returns : tie.Need-returns
 returns c =
     let own = c .before .before .fault-in in
@@ -20,4 +14,4 @@ returns-2 c =
     let own = c .before .before .fault-in in rw (← own .ensures, ne-eqb (own .result) 0 (c .if1 .left))
 
 pub fault-after-spec : {M : Type 1} → statement M
-fault-after-spec = tie.close (tie.spec fault-in-requires fault-of-room-requires returns returns-2)
+fault-after-spec = tie.close (tie.spec (λ c κs. search needs) (λ c κs. search needs) returns returns-2)

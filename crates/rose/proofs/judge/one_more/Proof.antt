@@ -4,14 +4,5 @@ use borrow.Author.Needs.{needs}
 use Rattle.rose.proofs.judge.one_more.Statement.{statement}
 use Rattle.rose.proofs.judge.one_more.Tie as tie
 
-add-result : tie.Need-add-result
-add-result c = search needs
-
-returns : tie.Need-returns
-returns c = search tests
-
-returns-2 : tie.Need-returns-2
-returns-2 c = search tests
-
 pub one-more-spec : {M : Type 1} → statement M
-one-more-spec = tie.close (tie.spec add-result returns returns-2)
+one-more-spec = tie.close (tie.spec (λ c. search needs) (λ c. search tests) (λ c. search tests))

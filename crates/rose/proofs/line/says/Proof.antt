@@ -6,15 +6,6 @@ use borrow.Author.Needs.{needs}
 use Rattle.rose.proofs.line.says.Statement.{statement}
 use Rattle.rose.proofs.line.says.Tie as tie
 
-first-says-requires : tie.Need-first-says-requires
-first-says-requires c κs = search needs
-
-says-requires : tie.Need-says-requires
-says-requires c κs = search needs
-
-both-say-requires : tie.Need-both-say-requires
-both-say-requires c κs = search needs
-
 returns : tie.Need-returns
 returns c =
     let h = c .before .before .before .before .args .p in
@@ -24,4 +15,4 @@ returns c =
 
 pub says-spec : {M : Type 1} → statement M
 says-spec =
-    tie.close (tie.spec first-says-requires says-requires both-say-requires returns)
+    tie.close (tie.spec (λ c κs. search needs) (λ c κs. search needs) (λ c κs. search needs) returns)

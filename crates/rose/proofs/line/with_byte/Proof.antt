@@ -6,17 +6,8 @@ use borrow.Author.Needs.{needs}
 use Rattle.rose.proofs.line.with_byte.Statement.{statement}
 use Rattle.rose.proofs.line.with_byte.Tie as tie
 
-with-byte-requires : tie.Need-with-byte-requires
-with-byte-requires c κs = search needs
-
 returns : tie.Need-returns
 returns c = rw (ne-eqb _ _ (c .before .if1 .taken), c .with-byte .ensures)
-
-says-requires : tie.Need-says-requires
-says-requires c κs = search needs
-
-directed-by-requires : tie.Need-directed-by-requires
-directed-by-requires c κs = search needs
 
 returns-2 : tie.Need-returns-2
 returns-2 c =
@@ -29,10 +20,4 @@ returns-3 c = rw (eq-eqb _ _ (c .before .before .if1 .left), ne-eqb _ _ (c .if2 
 pub with-byte-spec : {M : Type 1} → statement M
 with-byte-spec =
     tie.close
-    (tie.spec
-    with-byte-requires
-    returns
-    says-requires
-    directed-by-requires
-    returns-2
-    returns-3)
+    (tie.spec (λ c κs. search needs) returns (λ c κs. search needs) (λ c κs. search needs) returns-2 returns-3)

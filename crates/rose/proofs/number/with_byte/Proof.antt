@@ -10,19 +10,10 @@ returns c =
     let x = c .before .args .b in
     rw (le-leb 48 x (omega arith), lt-leb x 57 (omega arith), ne-eqb x 45 (λ e. omega arith))
 
-cast-with-digit : tie.Need-cast-with-digit
-cast-with-digit c = search needs
-
-with-digit-requires : tie.Need-with-digit-requires
-with-digit-requires c κs = search needs
-
 returns-2 : tie.Need-returns-2
 returns-2 c =
     let x = c .before .before .before .args .b in
     rw (le-leb 48 x (omega arith), le-leb x 57 (omega arith)) (c .with-digit .ensures)
-
-with-sign-requires : tie.Need-with-sign-requires
-with-sign-requires c κs = search needs
 
 returns-3 : tie.Need-returns-3
 returns-3 c =
@@ -36,11 +27,4 @@ returns-4 c =
 pub with-byte-spec : {M : Type 1} → statement M
 with-byte-spec =
     tie.close
-    (tie.spec
-    returns
-    cast-with-digit
-    with-digit-requires
-    returns-2
-    with-sign-requires
-    returns-3
-    returns-4)
+    (tie.spec returns (λ c. search needs) (λ c κs. search needs) returns-2 (λ c κs. search needs) returns-3 returns-4)
