@@ -5,7 +5,6 @@ ghost use lib.IntN.{pos};
 ghost use Rattle.whole.specs.Lists.{firstOf};
 ghost use Rattle.worst.specs.Rows.{rows, alongAxis, forceIn};
 ghost use Rattle.column.specs.Column.{atChoice, axisOf};
-use worst::Axis;
 use worst::AxisForces;
 use worst::CellForces;
 use worst::FaceForces;
@@ -15,47 +14,38 @@ pub(crate) struct Forces {
     pub(crate) face: [i64; 24],
 }
 
-pub(crate) fn axis_of(line: i64) -> Axis
-    ensures { λ r. ⌜ r ≡ axisOf line ⌝ }
+// On the axis of a report line.
+fn along(line: i64, f: AxisForces) -> i64
+    ensures { λ r. ⌜ r ≡ alongAxis (axisOf line) f ⌝ }
 {
     if line < 3 {
-        return Axis::X;
+        return f.x;
     }
     if line < 5 {
-        return Axis::Y;
+        return f.y;
     }
-    Axis::Z
-}
-
-fn along(axis: Axis, f: AxisForces) -> i64
-    ensures { λ r. ⌜ r ≡ alongAxis axis f ⌝ }
-{
-    match axis {
-        Axis::X => f.x,
-        Axis::Y => f.y,
-        Axis::Z => f.z,
-    }
+    f.z
 }
 
 // The force of one face at its alternative k.
-fn force_at(axis: Axis, f: FaceForces, k: u8) -> i64
-    ensures { λ r. ⌜ r ≡ forceIn axis f k ⌝ }
+fn force_at(line: i64, f: FaceForces, k: u8) -> i64
+    ensures { λ r. ⌜ r ≡ forceIn (axisOf line) f k ⌝ }
 {
     if k == 1 {
-        return along(axis, f.first);
+        return along(line, f.first);
     }
-    along(axis, f.last)
+    along(line, f.last)
 }
 
 // Of so many faces, each at its alternative.
 pub(crate) fn at_choice(
-    axis: Axis,
+    line: i64,
     forces: CellForces,
     alternative: [u8; 24],
     faces: usize,
 ) -> Forces
     requires { ⌜ faces ≤ 24 ⌝ }
-    ensures { λ r. ⌜ r .face ≡ firstOf (pos 0) 24 (atChoice (forceIn axis) (rows faces forces)
+    ensures { λ r. ⌜ r .face ≡ firstOf (pos 0) 24 (atChoice (forceIn (axisOf line)) (rows faces forces)
         (firstOf 0 faces alternative)) ⌝ }
 {
     let mut all = Forces { face: [0i64; 24] };
@@ -63,7 +53,7 @@ pub(crate) fn at_choice(
     while i < faces {
         let f = forces.face[i];
         let k = alternative[i];
-        let one = force_at(axis, f, k);
+        let one = force_at(line, f, k);
         all.face[i] = one;
         i += 1;
     }

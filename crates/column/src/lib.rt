@@ -39,10 +39,9 @@ fn share_case(job: Job, line: i64, shown: Extreme, list: &mut [i64]) -> Verdict
         × (now (list .exit) ≡ bufferAfter (column (forcesOn line (judged job))) (now (list .entry))) ⌝ }
 {
     let cell = worst::forces_of(job, shown.wind, shown.internal);
-    let axis = forces::axis_of(line);
     let count = job.faces.count as usize;
     let alternative = shown.alternative;
-    let all = forces::at_choice(axis, cell, alternative, count);
+    let all = forces::at_choice(line, cell, alternative, count);
     let own = all.face;
     sharing::share(&own[..count], list)
 }

@@ -11,7 +11,6 @@ use Rattle.whole.specs.Lists.{firstOf}
 use Rattle.whole.proofs.Lists.{firstOf-length}
 use Rattle.page.specs.Writing.{bufferAfter}
 use Rattle.job.specs.Walk.{judged}
-use Rattle.worst.specs.declared.Axis.{Axis}
 use Rattle.worst.specs.Rows.{rows, forceIn}
 use Rattle.worst.proofs.Rows.{ready}
 use Rattle.sharing.specs.Column.{column, sharing}
@@ -26,7 +25,7 @@ few s = ready (s .args .job) (s .pre .0) .profiled .few
 -- the forces, all 24 of them
 module _ (c : tie.After-at-choice) where
   abbrev s : tie.Start
-  s = c .before .before .before .before .before
+  s = c .before .before .before .before
 
   long : length (c .at-choice .result .face) ≡ 24
   long = ap length (c .at-choice .ensures) ∙ firstOf-length (pos 0) 24 _
@@ -38,16 +37,15 @@ module _ (c : tie.After-at-choice) where
       (s .args .job))
   own =
       let a = s .args in
-      let axis = c .before .before .before .axis-of in
-      let cell = c .before .before .before .before .forces-of in
+      let cell = c .before .before .before .forces-of in
       let n = a .job .faces .count in
       line-forces (a .job) (s .pre .0) (a .line) (a .shown) (s .pre .1) (s .pre .2) (c .at-choice .result .face)
       (cell .result) (cell .ensures)
       (c .at-choice .ensures
       ∙ ap
-      (λ (x : Axis). firstOf (pos 0) 24
-      (atChoice (forceIn x) (rows n (cell .result)) (firstOf 0 n (a .shown .alternative))))
-      (axis .ensures ∙ ap axisOf (toZ-ofZ w64 (a .line) (s .fits .line))))
+      (λ z. firstOf (pos 0) 24
+      (atChoice (forceIn (axisOf z)) (rows n (cell .result)) (firstOf 0 n (a .shown .alternative))))
+      (toZ-ofZ w64 (a .line) (s .fits .line)))
 
 returns : tie.Need-returns
 returns c =
@@ -59,6 +57,6 @@ returns c =
 pub share-case-spec : {M : Type 1} → statement M
 share-case-spec =
     tie.close
-    (tie.spec (λ c κs. search needs) (λ c κs. search needs) (λ c. search needs)
-    (λ c κs. few (c .before .before .before .before)) (λ c. omega (arith, long (c .before), few (s (c .before))))
+    (tie.spec (λ c κs. search needs) (λ c. search needs)
+    (λ c κs. few (c .before .before .before)) (λ c. omega (arith, long (c .before), few (s (c .before))))
     (λ c. part (c .before .before)) (λ c κs. search needs) (λ c. search needs) returns)

@@ -1,29 +1,42 @@
--- `forces::along` meets its contract: each arm reads its axis.
+-- `forces::along` meets its contract: two lines to an axis, and each reads its own.
+use mathlib.Core.Path.{_≡_, _∙_}
+use mathlib.Core.Bool.{false}
+use lib.IntN.{pos}
+use lib.Signed.{ltZ}
 use mir.Syntax.{w64}
 use mir.Val.{SFits}
 use mir.ValLaws.{toZ-ofZ}
 use borrow.Author.Needs.{needs}
+use Rattle.whole.proofs.Order.{true-lt, false-lt}
+use Rattle.whole.proofs.Size.{param, num, lt-yes, lt-no}
 use Rattle.column.proofs.forces.along.Statement.{statement}
 use Rattle.column.proofs.forces.along.Tie as tie
 
+not-x : (c : tie.Else1) → ltZ (c .before .args .line) (pos 3) ≡ false
+not-x c = false-lt (lt-no (param (c .before .fits .line)) (num (pos 3)) (c .if1 .left))
+
 returns : tie.Need-returns
 returns c =
-    let a = c .before .before .before in
-    let f : SFits w64 (a .args .f .x) = search needs in
-    simp (toZ-ofZ w64 (a .args .f .x) f, c .before .enum-told .given .1)
+    let s = c .before .before in
+    let f : SFits w64 (s .args .f .x) = search needs in
+    toZ-ofZ w64 (s .args .f .x) f
+    ∙ rw (true-lt (lt-yes (param (s .fits .line)) (num (pos 3)) (c .before .if1 .taken)))
 
 returns-2 : tie.Need-returns-2
 returns-2 c =
-    let a = c .before .before .before in
-    let f : SFits w64 (a .args .f .y) = search needs in
-    simp (toZ-ofZ w64 (a .args .f .y) f, c .before .enum-told2 .given .1)
+    let a = c .before .before in
+    let s = a .before in
+    let f : SFits w64 (s .args .f .y) = search needs in
+    toZ-ofZ w64 (s .args .f .y) f
+    ∙ rw (not-x a, true-lt (lt-yes (param (s .fits .line)) (num (pos 5)) (c .before .if2 .taken)))
 
 returns-3 : tie.Need-returns-3
 returns-3 c =
-    let a = c .before .before .before in
-    let f : SFits w64 (a .args .f .z) = search needs in
-    simp (toZ-ofZ w64 (a .args .f .z) f, c .before .enum-told3 .given .1)
+    let a = c .before .before in
+    let s = a .before in
+    let f : SFits w64 (s .args .f .z) = search needs in
+    toZ-ofZ w64 (s .args .f .z) f
+    ∙ rw (not-x a, false-lt (lt-no (param (s .fits .line)) (num (pos 5)) (c .before .if2 .left)))
 
 pub along-spec : {M : Type 1} → statement M
-along-spec =
-    tie.close (tie.spec (λ c. search needs) (λ c. search needs) (λ c. search needs) returns returns-2 returns-3)
+along-spec = tie.close (tie.spec returns returns-2 returns-3)
