@@ -2,8 +2,8 @@
 // between calls.
 use building::Building;
 use building::Dated;
-use column::Setting;
 use entry::Face;
+use job::Setting;
 use mend::Mending;
 use panel::Point;
 use rose::Rose;

@@ -32,8 +32,9 @@ use Rattle.sharing.proofs.Entries.{column-length}
 use Rattle.sharing.proofs.AddsUp.{adds-up}
 use Rattle.sharing.proofs.Near.{near}
 use Rattle.sharing.proofs.Fairly.{column-is, column-only}
-use Rattle.column.specs.declared.Setting.{Setting}
-use Rattle.column.specs.Setting.{recordWith, carriedWith, judgedWith}
+use Rattle.job.specs.declared.Setting.{Setting}
+use Rattle.job.specs.Setting.{recordWith}
+use Rattle.column.specs.Setting.{carriedWith, judgedWith}
 use Rattle.column.specs.Column.{axisOf, forcesShown, forcesOn, columnVerdict, columnAfter}
 use Rattle.column.proofs.AtChoice.{choice-length}
 use Rattle.column.proofs.OfCase as case

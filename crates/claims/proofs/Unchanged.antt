@@ -28,7 +28,8 @@ use Rattle.plain.specs.Plain.{plainly}
 use Rattle.report.specs.Report.{reportText, storedText, totalsText}
 use Rattle.answers.specs.declared.Text.{Text}
 use Rattle.answers.specs.Answers.{hostText, hostTotal}
-use Rattle.column.specs.Setting.{recordWith, judgedWith}
+use Rattle.job.specs.Setting.{recordWith}
+use Rattle.column.specs.Setting.{judgedWith}
 use Rattle.column.specs.Column.{forcesOn, columnVerdict, columnAfter}
 
 -- ---- whatever text is put into a buffer, and whatever text about a job

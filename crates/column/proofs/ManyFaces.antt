@@ -33,9 +33,10 @@ use Rattle.job.specs.Lines.{entriesOf, sectionOf, sectionsOf, sheetOf, linesOf}
 use Rattle.job.specs.Walk.{Refused, calls, learn, walk, sheet, readLines, judged}
 use Rattle.job.proofs.Walk.{walk-on, walk-refused}
 use Rattle.job.proofs.Sections.{countLine}
-use Rattle.column.specs.declared.Setting.{Setting}
+use Rattle.job.specs.declared.Setting.{Setting}
 use Rattle.column.specs.Listed.{listed}
-use Rattle.column.specs.Setting.{recordWith, judgedWith}
+use Rattle.job.specs.Setting.{recordWith}
+use Rattle.column.specs.Setting.{judgedWith}
 
 -- ---- the count of too many faces
 

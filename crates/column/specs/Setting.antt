@@ -3,25 +3,12 @@ use mathlib.Core.List.{List, [], map}
 use Rattle.building.specs.Year.{hasHeights}
 use Rattle.entry.specs.declared.Face.{Face}
 use Rattle.entry.specs.Says.{carriedFace}
-use Rattle.job.specs.declared.Job.{Job}
-use Rattle.job.specs.declared.Faces.{Faces}
 use Rattle.job.specs.Carried.{Carried, withFaces, carried}
 use Rattle.job.specs.Lines.{linesOf}
 use Rattle.job.specs.Walk.{Reading, readLines}
-use Rattle.column.specs.declared.Setting.{Setting}
+use Rattle.job.specs.declared.Setting.{Setting}
+use Rattle.job.specs.Setting.{recordWith}
 use Rattle.column.specs.Listed.{listed}
-
--- with faces as a record
-abbrev pub recordWith : Setting → Faces → Job
-recordWith s faces =
-    record {
-      year = s .year;
-      building = s .building;
-      winds = s .winds;
-      internals = s .internals;
-      profile = s .profile;
-      faces = faces;
-    }
 
 -- all that the sheet of a setting with these faces carries: what it carries without a face, and the faces
 abbrev pub carriedWith : Setting → List Face → Carried

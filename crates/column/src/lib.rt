@@ -9,28 +9,15 @@ ghost use Rattle.worst.specs.Rows.{Taken};
 ghost use Rattle.answers.specs.Answers.{hostLine};
 ghost use Rattle.sharing.specs.Column.{column, sharing};
 ghost use Rattle.column.specs.Column.{forcesOn, columnVerdict, columnAfter};
-ghost use Rattle.column.specs.Setting.{recordWith};
+ghost use Rattle.job.specs.Setting.{recordWith};
 use answers::Extreme;
-use building::Building;
 use job::Faces;
-use job::Internals;
 use job::Job;
-use job::Profile;
-use job::Winds;
+use job::Setting;
 use verdict::Verdict;
 
 pub mod faces; // the faces of a lent list
 mod forces; // the force of each face in the case of a line
-
-// All of a job but its faces.
-#[repr(C)]
-pub struct Setting {
-    pub year: i64,
-    pub building: Building,
-    pub winds: Winds,
-    pub internals: Internals,
-    pub profile: Profile,
-}
 
 // The newtons of the faces, in the case that a line shows.
 fn share_case(job: Job, line: i64, shown: Extreme, list: &mut [i64]) -> Verdict

@@ -1,2 +1,3 @@
--- What the fields of a line say.
+-- What the fields of a line say; and faces as plain numbers.
 pub mod Says
+pub mod Flat

@@ -6,3 +6,4 @@ pub mod Walk
 pub mod FirstFault
 pub mod InOrder
 pub mod Judging
+pub mod Setting

@@ -50,6 +50,16 @@ pub struct Job {
     pub faces: Faces,
 }
 
+// All of a job but its faces.
+#[repr(C)]
+pub struct Setting {
+    pub year: i64,
+    pub building: Building,
+    pub winds: Winds,
+    pub internals: Internals,
+    pub profile: Profile,
+}
+
 // How many entries a section of a job has.
 pub fn entry_count(j: Job, s: Section) -> u32
     ensures { λ r. ⌜ r ≡ length (entriesOf (carried j) s) ⌝ }

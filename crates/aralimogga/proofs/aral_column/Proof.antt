@@ -55,13 +55,14 @@ use Rattle.job.specs.declared.Faces.{Faces}
 use Rattle.job.proofs.Faces as L
 use Rattle.job.proofs.Faces.Laws as L′
 use Rattle.job.specs.Walk.{Reading, judged}
-use Rattle.column.specs.declared.Setting.{Setting}
+use Rattle.job.specs.declared.Setting.{Setting}
 use Rattle.column.specs.Listed.{listed}
-use Rattle.column.specs.Setting.{recordWith, judgedWith}
+use Rattle.job.specs.Setting.{recordWith}
+use Rattle.column.specs.Setting.{judgedWith}
 use Rattle.column.specs.Column.{columnVerdict, columnAfter}
 use Rattle.column.proofs.ManyFaces.{judged-listed}
-use Rattle.column.proofs.Setting as S
-use Rattle.column.proofs.Setting.Laws as S′
+use Rattle.job.proofs.Setting as S
+use Rattle.job.proofs.Setting.Laws as S′
 use Rattle.column.proofs.faces.gather as gather
 use Rattle.column.proofs.faces.gather.Symbol as gather-def
 use Rattle.column.proofs.faces.gather.Symbol.{name as #gather}
