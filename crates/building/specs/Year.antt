@@ -20,6 +20,10 @@ hasHeights year = not (is (pos 1) year)
 abbrev pub hasSquares : ℤ → Bool
 hasSquares year = ltZ (pos 2) year
 
+-- the most faces that a sheet of a year may have: from year 4 on those of a quay shed
+abbrev pub faceLimit : ℤ → ℕ
+faceLimit year = cond (ltZ (pos 3) year) 240 24
+
 -- where the building stands in its sheet: behind the year, where that is said
 abbrev pub buildingLine : ℤ → ℕ
 buildingLine year = cond (hasHeights year) 4 2

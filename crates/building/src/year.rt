@@ -1,6 +1,6 @@
 // The year of a sheet, and what goes by it.
 ghost use mathlib.Core.Path.{_≡_};
-ghost use Rattle.building.specs.Year.{isYear, hasHeights, hasSquares, buildingLine};
+ghost use Rattle.building.specs.Year.{isYear, hasHeights, hasSquares, faceLimit, buildingLine};
 use super::limits::beyond;
 
 // The last year that a sheet may say.
@@ -27,6 +27,16 @@ pub(crate) fn has_squares(year: i64) -> bool
     ensures { λ r. ⌜ r ≡ hasSquares year ⌝ }
 {
     2 < year
+}
+
+// The most faces that a sheet of a year may have: from year 4 on those of a quay shed.
+pub fn face_limit(year: i64) -> u32
+    ensures { λ r. ⌜ r ≡ faceLimit year ⌝ }
+{
+    if 3 < year {
+        return 240;
+    }
+    24
 }
 
 // The line of a sheet that its building stands on.
