@@ -16,24 +16,24 @@ use Rattle.rules.specs.declared.Section.{Section}
 use Rattle.rules.specs.declared.Section.the-variants.{«V», B, W, I, P, F}
 use Rattle.rules.specs.declared.Kind.{Kind}
 use Rattle.rules.specs.declared.Kind.the-variants.{Count, Entry}
-use Rattle.building.specs.Year.{hasHeights}
+use Rattle.building.specs.Year.{hasHeights, faceLimit}
 use Rattle.entry.specs.Says.{number, letter, at, yearOf, buildingOf, windOf, internalOf, stepOf, faceOf}
 use Rattle.rules.specs.Form.{inForm, numberForms}
 use Rattle.rules.specs.Faults.{yearFaults, windFaults, internalFaults, stepFaults, faceFaults}
 
--- a section: its letter, and its least and greatest count
+-- a section: its letter, and its least and, by the year, its greatest count
 pub record About : Type 0 where
   pub letter : ℕ
   pub least : ℕ
-  pub most : ℕ
+  pub most : ℤ → ℕ
 
 abbrev pub about : Section → About
-about «V» = record { letter = 86; least = 1; most = 1 }
-about B = record { letter = 66; least = 1; most = 1 }
-about W = record { letter = 87; least = 1; most = 8 }
-about I = record { letter = 73; least = 1; most = 4 }
-about P = record { letter = 80; least = 1; most = 16 }
-about F = record { letter = 70; least = 1; most = 24 }
+about «V» = record { letter = 86; least = 1; most = λ year. 1 }
+about B = record { letter = 66; least = 1; most = λ year. 1 }
+about W = record { letter = 87; least = 1; most = λ year. 8 }
+about I = record { letter = 73; least = 1; most = λ year. 4 }
+about P = record { letter = 80; least = 1; most = λ year. 16 }
+about F = record { letter = 70; least = 1; most = faceLimit }
 
 -- the sections of a sheet, in order: of one with heights, and of one without
 abbrev pub sections : Bool → List Section
@@ -59,16 +59,16 @@ forms heights (Entry F) = form.Capital ∷ form.Mark ∷ numberForms (cond heigh
 
 -- ---- the faults of a line in form
 
--- a letter that is not the section's; a count outside its limits
-abbrev pub countFaults : Section → ℕ → ℤ → List Fault
-countFaults s l n =
+-- a letter that is not the section's; a count outside its limits in that year
+abbrev pub countFaults : ℤ → Section → ℕ → ℤ → List Fault
+countFaults year s l n =
     fault 1 (not (eqb l (about s .letter)))
-    ∷ fault 2 (beyond (pos (about s .least)) (pos (about s .most)) n)
+    ∷ fault 2 (beyond (pos (about s .least)) (pos (about s .most year)) n)
     ∷ []
 
 -- by what the lines before it say
 abbrev pub faultsOf : Kind → Before → List Field → List Fault
-faultsOf (Count s) b fs = countFaults s (letter (at fs 0)) (number (at fs 1))
+faultsOf (Count s) b fs = countFaults (b .year) s (letter (at fs 0)) (number (at fs 1))
 faultsOf (Entry «V») b fs = yearFaults (yearOf fs)
 faultsOf (Entry B) b fs = faults (b .year) (buildingOf fs)
 faultsOf (Entry W) b fs = windFaults (b .building) (windOf fs)

@@ -34,13 +34,14 @@ fn fault(n: u32, found: bool, next: u32) -> u32
     next
 }
 
-pub fn count_fault(s: Section, letter: u8, n: i64) -> u32
-    ensures { λ r. ⌜ r ≡ first (countFaults s letter n) ⌝ }
+pub fn count_fault(year: i64, s: Section, letter: u8, n: i64) -> u32
+    ensures { λ r. ⌜ r ≡ first (countFaults year s letter n) ⌝ }
 {
-    let l = shape::limits_of(s);
+    let own = shape::section_letter(s);
+    let l = shape::limits_of(year, s);
     fault(
         1,
-        letter != l.letter,
+        letter != own,
         fault(2, beyond(l.least as i64, l.most as i64, n), 0),
     )
 }

@@ -17,10 +17,11 @@ ghost use Rattle.building.specs.Building.{faults};
 ghost use Rattle.rules.specs.Sections.{faultsOf, lineFault};
 
 // A count line in form.
-fn count_fault(s: Section, x: Line) -> u32
-    ensures { λ r. ⌜ ((b : Before) → r ≡ first (faultsOf (Kind.Count s) b (held x))) ⌝ }
+fn count_fault(b: Before, s: Section, x: Line) -> u32
+    ensures { λ r. ⌜ r ≡ first (faultsOf (Kind.Count s) b (held x)) ⌝ }
 {
     entries::count_fault(
+        b.year,
         s,
         says::letter_of(field_at(x, 0)),
         says::number_of(field_at(x, 1)),
@@ -44,7 +45,7 @@ pub fn line_fault(k: Kind, b: Before, x: Line) -> u32
         return 1;
     }
     match k {
-        Kind::Count(s) => count_fault(s, x),
+        Kind::Count(s) => count_fault(b, s, x),
         Kind::Entry(s) => match s {
             Section::V => entries::year_fault(says::year_of(x)),
             Section::B => building_fault(b, says::building_of(x)),

@@ -1,5 +1,6 @@
 // The sections of the sheet as data, and the line before the entries of each.
 use crate::Section;
+use building::year::face_limit;
 use field::Field;
 use lines::Line;
 use lines::Slot;
@@ -43,33 +44,45 @@ pub fn section_at(heights: bool, i: usize) -> Section
     PLAIN[i]
 }
 
-// The letter of a section, and its least and greatest count.
+pub fn section_letter(s: Section) -> u8
+    ensures { λ r. ⌜ r ≡ about s .letter ⌝ }
+{
+    match s {
+        Section::V => b'V',
+        Section::B => b'B',
+        Section::W => b'W',
+        Section::I => b'I',
+        Section::P => b'P',
+        Section::F => b'F',
+    }
+}
+
+// The least and the greatest count of a section.
 pub struct Limits {
-    pub letter: u8,
     pub least: u32,
     pub most: u32,
 }
 
-fn counted(letter: u8, least: u32, most: u32) -> Limits
-    ensures { λ r. ⌜ (r .letter ≡ letter) × (r .least ≡ least) × (r .most ≡ most) ⌝ }
+fn counted(least: u32, most: u32) -> Limits
+    ensures { λ r. ⌜ (r .least ≡ least) × (r .most ≡ most) ⌝ }
 {
     Limits {
-        letter,
         least,
         most,
     }
 }
 
-pub fn limits_of(s: Section) -> Limits
-    ensures { λ r. ⌜ (r .letter ≡ about s .letter) × (r .least ≡ about s .least) × (r .most ≡ about s .most) ⌝ }
+// In a sheet of this year.
+pub fn limits_of(year: i64, s: Section) -> Limits
+    ensures { λ r. ⌜ (r .least ≡ about s .least) × (r .most ≡ about s .most year) ⌝ }
 {
     match s {
-        Section::V => counted(b'V', 1, 1),
-        Section::B => counted(b'B', 1, 1),
-        Section::W => counted(b'W', 1, 8),
-        Section::I => counted(b'I', 1, 4),
-        Section::P => counted(b'P', 1, 16),
-        Section::F => counted(b'F', 1, 24),
+        Section::V => counted(1, 1),
+        Section::B => counted(1, 1),
+        Section::W => counted(1, 8),
+        Section::I => counted(1, 4),
+        Section::P => counted(1, 16),
+        Section::F => counted(1, face_limit(year)),
     }
 }
 
@@ -77,11 +90,11 @@ pub fn limits_of(s: Section) -> Limits
 pub fn count_line(s: Section, n: u32) -> Line
     ensures { λ r. ⌜ r ≡ heldLine 0 (Field.Letter (about s .letter) ∷ Field.Plus n ∷ []) ⌝ }
 {
-    let l = limits_of(s);
+    let letter = section_letter(s);
     let no = Slot { field: Field::Bad };
     let fields = [
         Slot {
-            field: Field::Letter(l.letter),
+            field: Field::Letter(letter),
         },
         Slot {
             field: Field::Plus(n),

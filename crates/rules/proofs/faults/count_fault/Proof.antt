@@ -1,7 +1,5 @@
 -- `faults::count_fault` meets its contract.
-use mathlib.Core.Path.{ap, ap₂, _∙_}
-use Prim.Native.Nat.{ℕ}
-use lib.IntN.{ℤ}
+use mathlib.Core.Path.{ap, _∙_}
 use mir.Syntax.{w64}
 use Rattle.whole.proofs.Size.{returned}
 use Rattle.building.specs.Fault.{first}
@@ -12,13 +10,15 @@ use Rattle.rules.proofs.faults.count_fault.Statement.{statement}
 use Rattle.rules.proofs.faults.count_fault.Tie as tie
 
 returns : tie.Need-returns
-returns c b =
-    let n = c .before in
+returns c =
+    let n = c .before .before in
     let l = n .before .before in
-    c .count-fault .ensures
-    ∙ ap₂ (λ (y : ℕ) (z : ℤ). first (countFaults (l .before .before .args .s) y z))
-    (l .letter-of .ensures ∙ ap letter (l .before .field-at .ensures))
-    (returned w64 _ (n .number-of .ok) .same ∙ n .number-of .ensures ∙ ap number (n .before .field-at2 .ensures))
+    let a = l .before .before .args in
+    let year = returned w64 (a .b .year) (c .before .struct-told .given .0 .1) .same in
+    let name = l .letter-of .ensures ∙ ap letter (l .before .field-at .ensures) in
+    let count =
+    returned w64 _ (n .number-of .ok) .same ∙ n .number-of .ensures ∙ ap number (n .before .field-at2 .ensures) in
+    c .count-fault .ensures ∙ (λ i. first (countFaults (year i) (a .s) (name i) (count i)))
 
 pub count-fault-spec : {M : Type 1} → statement M
 count-fault-spec =

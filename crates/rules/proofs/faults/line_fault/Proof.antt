@@ -72,7 +72,7 @@ returns-2 : tie.Need-returns-2
 returns-2 c =
     let k = c .before .before in
     let e = k .before .before in
-    c .count-fault .ensures (start (e .before) .args .b)
+    c .count-fault .ensures
     ∙ as-kind e (Count (k .k .given .0 .0)) (k .k .given .1)
 
 returns-3 : tie.Need-returns-3

@@ -6,7 +6,7 @@ use Rattle.rules.proofs.shape.count_line.Tie as tie
 
 returns : tie.Need-returns
 unfolding heldLine
-returns c = rw (c .limits-of .ensures .0)
+returns c = rw (c .section-letter .ensures)
 
 pub count-line-spec : {M : Type 1} → statement M
 count-line-spec = tie.close (tie.spec (λ c κs. search needs) returns)
