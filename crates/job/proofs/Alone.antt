@@ -23,7 +23,7 @@ use Rattle.rules.specs.declared.Before.{Before}
 use Rattle.entry.specs.declared.Face.{Face}
 use Rattle.building.specs.Year.{hasHeights}
 use Rattle.entry.specs.Says.{carriedFace}
-use Rattle.rules.specs.Sections.{about, sections, lineFault}
+use Rattle.rules.specs.Sections.{sections, lineFault}
 use Rattle.entry_written.specs.Fields.{yearFields, buildingFields, windFields, internalFields, stepFields, faceFields}
 use Rattle.job.specs.Lines.{entriesOf, sectionOf}
 use Rattle.job.specs.Walk.{verdict, walk}
@@ -121,7 +121,7 @@ module _ (j : Job) where
 -- ---- what an entry of a record is judged by
 
 module _ (j : Job) (d : Carried) (i : ℕ) where
-  pub entry-judged : (s : Section) (b : Before) → Apart s → Alike s b d → i < length (entriesOf (carried j) s)
+  pub entry-judged : (s : Section) (b : Before) → Apart s → Alike (Entry s) b d → i < length (entriesOf (carried j) s)
       → lineFault (Entry s) b (entryOf j s i)
       ≡ lineFault (Entry s) (before (learnAll s (take i (entriesOf (carried j) s)) d)) (getD (entriesOf
       (carried j) s) i [])
@@ -161,11 +161,11 @@ module _ (s : Section) (c : Carried) (line : ℕ) (xs : List (List Field)) where
     pub alone-count : (n ≡ 0 → ⊥) → refusal n line ≡ alone
     alone-count z = sym (nothing-behind ∙ ap verdict (count-refused s [] c line xs [] (λ e. z (en ∙ e))) ∙ rw (← en))
 
-    pub alone-counted : n ≡ 0 → Counted s (length xs)
+    pub alone-counted : n ≡ 0 → Counted (c .year) s (length xs)
     alone-counted z = count-counted s (before c) (length xs) (sym en ∙ z)
 
   -- n is the fault of entry i, where those before it have none
-  module _ (w : Counted s (length xs)) (i n : ℕ) (h : i < length xs) (o : EntriesInOrder s c (take i xs))
+  module _ (w : Counted (c .year) s (length xs)) (i n : ℕ) (h : i < length xs) (o : EntriesInOrder s c (take i xs))
       (en : n ≡ lineFault (Entry s) (before (learnAll s (take i xs) c)) (getD xs i [])) where
     pub alone-entry : (n ≡ 0 → ⊥) → refusal n (line + 1 + i) ≡ alone
     alone-entry z =
@@ -175,20 +175,12 @@ module _ (s : Section) (c : Carried) (line : ℕ) (xs : List (List Field)) where
     alone-next z = rw add-one (entries-next s xs i c h o (sym en ∙ z))
 
   -- all have none
-  pub alone-passed : Counted s (length xs) → (i : ℕ) → length xs ≤ i → EntriesInOrder s c (take i xs)
+  pub alone-passed : Counted (c .year) s (length xs) → (i : ℕ) → length xs ≤ i → EntriesInOrder s c (take i xs)
       → accepted ≡ alone
   unfolding walk
   alone-passed w i h o =
       sym
       (nothing-behind ∙ ap verdict (section-walk s [] c line xs [] w (subst (EntriesInOrder s c) (take-all i xs h) o)))
-
-pub most-24 : (s : Section) → about s .most ≤ 24
-most-24 «V» = omega arith
-most-24 B = omega arith
-most-24 W = omega arith
-most-24 I = omega arith
-most-24 P = omega arith
-most-24 F = omega arith
 
 pub few-sections : (h : Bool) → length (sections h) ≤ 6
 few-sections true = omega arith

@@ -32,7 +32,7 @@ use Rattle.rules.proofs.Form.{Formed, letter, plus, minus, dash, mark, AllForme
 use Rattle.rules.proofs.Line.{in-order}
 use Rattle.job.proofs.Walk.{accepted-line, accepted-next, accepted-no-more}
 use Rattle.job.proofs.Sections.{count-says}
-use Rattle.job.proofs.Alone.{most-24}
+use Rattle.job.proofs.Room.{most-roomed}
 
 -- a line of at least one field, each in form
 abbrev LineInForm : List Field → Type 0
@@ -70,7 +70,7 @@ letter-form F = (omega arith, omega arith)
 line-form : (k : Kind) (b : Before) (x : List Field) → lineFault k b x ≡ 0 → LineInForm x
 line-form (Count s) b x z =
     let t = count-says s b x z in
-    subst LineInForm (sym (t .is)) (omega arith, (letter-form s, (omega (arith, t .counted .high, most-24 s), tt)))
+    subst LineInForm (sym (t .is)) (omega arith, (letter-form s, (omega (arith, t .counted .high, most-roomed (b .year) s), tt)))
 line-form (Entry «V») b x z = some-number 0 (in-order (Entry «V») b x z .formed)
 line-form (Entry B) b x z = some-number 5 (in-order (Entry B) b x z .formed)
 line-form (Entry W) b x z = some-number 1 (in-order (Entry W) b x z .formed)

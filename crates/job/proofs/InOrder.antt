@@ -45,6 +45,7 @@ use Rattle.job.specs.Walk.{learn, Accepted, readLines}
 use Rattle.job.specs.InOrder.{Within, Limited, WindInOrder, InternalInOrder, FaceInOrder, StepInOrder}
 use Rattle.job.specs.InOrder.{Climbs, OfYear1, OfLaterYear, InOrder}
 use Rattle.job.proofs.Walk.{learnAll, EntriesInOrder, Apart, entries-formed}
+use Rattle.job.proofs.Sections.{Counted}
 use Rattle.job.proofs.Sheet.{Called, saidBy, readBefore, SheetInOrder, in-order-all, all-in-order}
 use Rattle.job.proofs.Sheet.{sheet-accepted, accepted-sheet}
 use Rattle.job.proofs.Lines.{small-short, step-back}
@@ -361,7 +362,7 @@ module _ (c : Carried) (o : InOrder c) where
       → EntriesInOrder P d (map stepFields (c .profile))
   steps-in-order k d e = steps-entries (c .profile) d e (later k .profile) (later k .rising)
 
-  counted : (s : Section) → Called h s → Within (about s .least) (about s .most) (length (entriesOf c s))
+  counted : (s : Section) → Called h s → Within (about s .least) (about s .most (c .year)) (length (entriesOf c s))
   counted «V» k = record { low = omega arith; high = omega arith }
   counted B k = record { low = omega arith; high = omega arith }
   counted W k = counted-map windFields (c .winds) (o .winds-counted)
@@ -387,8 +388,12 @@ module _ (c : Carried) (o : InOrder c) where
   read-back = said-back c h (record { of-year = in-order-year c o; heights = refl; formed = formed })
 
   sheet-sound : SheetInOrder (entriesOf c) h
-  sheet-sound = record { counted = counted; entries = at }
+  sheet-sound = record { counted = by-year; entries = at }
     where
+      by-year : (s : Section) → Called h s → Counted (saidBy (entriesOf c) h .year) s (length (entriesOf c s))
+      by-year s k =
+          subst (λ (d : Carried). Counted (d .year) s (length (entriesOf c s))) (sym read-back) (counted s k)
+
       each : (s : Section) → Called h s → Apart s → EntriesInOrder s (readBefore (entriesOf c) h s) (entriesOf c s)
       each s k a =
           all-in-order (entriesOf c) h s k a

@@ -30,8 +30,8 @@ use Rattle.entry.specs.Says.{buildingOf, windOf, internalOf, stepOf, faceOf}
 use Rattle.entry_written.specs.Fields.{windFields, internalFields, stepFields, faceFields}
 use Rattle.job.specs.declared.Job.{Job}
 use Rattle.job.specs.Carried.{Carried, nothing, withYear, withBuilding, withWinds, withInternals, withProfile}
-use Rattle.job.specs.Carried.{withFaces, lowestOf, highestOf, before, carried, carriedIn}
-use Rattle.job.specs.Judging.{Alike, JudgesAs}
+use Rattle.job.specs.Carried.{withFaces, lowestOf, highestOf, before, carried, carriedIn, mostFaces}
+use Rattle.job.specs.Judging.{Alike, EntriesAs, JudgesAs}
 use Rattle.job.specs.Lines.{entriesOf, sectionOf, sectionsOf, lineBehind, sheetOf, linesOf}
 use Rattle.job.specs.Walk.{entries, calls, learn, Reading, verdict, walk, opening, sheet, readLines, judged}
 use Rattle.job.proofs.FirstFault.{walk-answers}
@@ -42,7 +42,8 @@ use Rattle.job.proofs.Lines.{year-back, building-back, wind-back, inter
 use Rattle.job.proofs.Years.{OfItsYear, carried-year, faces-kept}
 use Rattle.job.proofs.RoundTrip.{all-back, faces-back}
 use Rattle.job.proofs.Verdicts.{accepted-by}
-use Rattle.job.proofs.Alone.{alone, most-24}
+use Rattle.job.proofs.Alone.{alone}
+use Rattle.job.proofs.Room.{most-roomed}
 
 -- ---- refused by itself, a section is refused the same where more follows
 
@@ -85,7 +86,7 @@ module _ (s : Section) (ks : List Kind) where
 -- ---- not refused, it is in order
 
 alone-in-order : (s : Section) (c : Carried) (line : ℕ) (xs : List (List Field)) → alone s c line xs .number ≡ 0
-    → Counted s (length xs) × EntriesInOrder s c xs
+    → Counted (c .year) s (length xs) × EntriesInOrder s c xs
 alone-in-order s c line xs z =
     let a = accepted-by (walk-answers (Count s ∷ []) c line (sectionOf s xs)) z in
     section-in-order s [] c line (a .0) xs [] (rw append-nil (a .1))
@@ -173,46 +174,69 @@ module _ (j : Job) where
   unfolding carried
   year-is = refl
 
-  -- what the sections before one carry judges its entries as all that is carried does
+  -- what the sections before one carry judges its count and its entries as all that is carried does
   module _ where
     abbrev b : Before
     b = before (carried j)
 
-    building-alike : (d : Carried) → d .year ≡ carried j .year → Alike B b d
+    building-alike : (d : Carried) → d .year ≡ carried j .year → Alike (Entry B) b d
     unfolding lineFault
     building-alike d e x =
         ap (λ (y : ℤ). cond (inForm (numberForms 6) x) (first (faults y (buildingOf x))) 1) e
 
-    pub judges-as : (h : Bool) → hasHeights (carried j .year) ≡ h → (i : ℕ) → i < length (sections h)
-        → JudgesAs (sectionAt h i) b (carriedIn (take i (sections h)) (carried j))
-    unfolding lineFault
-    judges-as true e zero h = λ x. refl
-    judges-as true e (suc zero) h = building-alike (carriedIn (take 1 (sections true)) (carried j)) refl
-    judges-as true e (suc (suc zero)) h = λ x. refl
-    judges-as true e (suc (suc (suc zero))) h = λ x. refl
-    judges-as true e (suc (suc (suc (suc zero)))) h = refl
-    judges-as true e (suc (suc (suc (suc (suc zero))))) h = λ x. refl
-    judges-as true e (suc (suc (suc (suc (suc (suc i)))))) h = absurd (omega arith)
-    judges-as false e zero h = building-alike nothing (sym (carried-year j e .year))
-    judges-as false e (suc zero) h = λ x. refl
-    judges-as false e (suc (suc zero)) h = λ x. refl
-    judges-as false e (suc (suc (suc zero))) h =
+    -- without heights, what is read before the faces
+    low-before : hasHeights (carried j .year) ≡ false → before (carriedIn (take 3 (sections false)) (carried j)) ≡ b
+    low-before e =
         let o = carried-year j e in
-        λ x. ap (λ (d : Before). lineFault (Entry F) d x)
-        (λ i. record {
+        λ i. record {
           year = sym (o .year) i;
           building = carried j .building;
           lowest = lowestOf (sym (o .profile) i);
           highest = highestOf (sym (o .profile) i);
-        })
-    judges-as false e (suc (suc (suc (suc i)))) h = absurd (omega arith)
+        }
+
+    counts-as : (h : Bool) → hasHeights (carried j .year) ≡ h → (i : ℕ) → i < length (sections h)
+        → Alike (Count (sectionAt h i)) b (carriedIn (take i (sections h)) (carried j))
+    unfolding lineFault
+    counts-as true e zero h = λ x. refl
+    counts-as true e (suc zero) h = λ x. refl
+    counts-as true e (suc (suc zero)) h = λ x. refl
+    counts-as true e (suc (suc (suc zero))) h = λ x. refl
+    counts-as true e (suc (suc (suc (suc zero)))) h = λ x. refl
+    counts-as true e (suc (suc (suc (suc (suc zero))))) h = λ x. refl
+    counts-as true e (suc (suc (suc (suc (suc (suc i)))))) h = absurd (omega arith)
+    counts-as false e zero h = λ x. refl
+    counts-as false e (suc zero) h = λ x. refl
+    counts-as false e (suc (suc zero)) h = λ x. refl
+    counts-as false e (suc (suc (suc zero))) h = λ x. ap (λ (d : Before). lineFault (Count F) d x) (low-before e)
+    counts-as false e (suc (suc (suc (suc i)))) h = absurd (omega arith)
+
+    entries-as : (h : Bool) → hasHeights (carried j .year) ≡ h → (i : ℕ) → i < length (sections h)
+        → EntriesAs (sectionAt h i) b (carriedIn (take i (sections h)) (carried j))
+    unfolding lineFault
+    entries-as true e zero h = λ x. refl
+    entries-as true e (suc zero) h = building-alike (carriedIn (take 1 (sections true)) (carried j)) refl
+    entries-as true e (suc (suc zero)) h = λ x. refl
+    entries-as true e (suc (suc (suc zero))) h = λ x. refl
+    entries-as true e (suc (suc (suc (suc zero)))) h = refl
+    entries-as true e (suc (suc (suc (suc (suc zero))))) h = λ x. refl
+    entries-as true e (suc (suc (suc (suc (suc (suc i)))))) h = absurd (omega arith)
+    entries-as false e zero h = building-alike nothing (sym (carried-year j e .year))
+    entries-as false e (suc zero) h = λ x. refl
+    entries-as false e (suc (suc zero)) h = λ x. refl
+    entries-as false e (suc (suc (suc zero))) h = λ x. ap (λ (d : Before). lineFault (Entry F) d x) (low-before e)
+    entries-as false e (suc (suc (suc (suc i)))) h = absurd (omega arith)
+
+    pub judges-as : (h : Bool) → hasHeights (carried j .year) ≡ h → (i : ℕ) → i < length (sections h)
+        → JudgesAs (sectionAt h i) b (carriedIn (take i (sections h)) (carried j))
+    judges-as h e i few = record { count = counts-as h e i few; entries = entries-as h e i few }
 
   -- the walk has come to the section behind the first i, whose count stands on this line
   pub record Reached (i line : ℕ) : Type 0 where
     pub stands : line ≡ lineBehind es (take i ss)
     pub rest : walk (map Count (drop i ss)) (sofar i) line (sectionsOf es (drop i ss)) ≡ judged j
-    -- no section has more than 25 lines
-    pub lines : line ≤ 25 * i + 1
+    -- no section has more lines than a record has room for faces, and one
+    pub lines : line ≤ (mostFaces + 1) * i + 1
 
   pub reached-first : Reached 0 1
   unfolding judged readLines linesOf carried
@@ -243,11 +267,11 @@ module _ (j : Job) where
 
     -- n is the number of its entries
     module _ (z : v .number ≡ 0) {n : ℕ} (many : n ≡ length (es s)) where
-      in-order : Counted s (length (es s)) × EntriesInOrder s (sofar i) (es s)
+      in-order : Counted (sofar i .year) s (length (es s)) × EntriesInOrder s (sofar i) (es s)
       in-order = alone-in-order s (sofar i) line (es s) (rw e at z)
 
-      pub few-entries : n ≤ 24
-      few-entries = omega (arith, in-order .0 .high, most-24 s)
+      pub few-entries : n ≤ mostFaces
+      few-entries = omega (arith, in-order .0 .high, most-roomed (sofar i .year) s)
 
       pub goes-on : Reached (i + 1) (line + (1 + n))
       goes-on =

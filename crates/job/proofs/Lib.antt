@@ -1,6 +1,7 @@
 -- The laws: of the walk; that the answer is the first fault; what is accepted, written and read again; and of
 -- records.
 pub mod Lowest
+pub mod Room
 pub mod FirstFault
 pub mod Walk
 pub mod Sections

@@ -11,7 +11,7 @@ use Rattle.whole.specs.Lists.{firstOf}
 use Rattle.whole.proofs.Lists.{firstOf-fewer, firstOf-all}
 use Rattle.field.specs.declared.Field.{Field}
 use Rattle.job.specs.declared.Job.{Job}
-use Rattle.job.specs.Carried.{Carried, noWind, noStep, noFace, carried, recorded, SameJob}
+use Rattle.job.specs.Carried.{Carried, noWind, noStep, noFace, carried, mostFaces, recorded, SameJob}
 use Rattle.entry.specs.declared.Face.{Face}
 use Rattle.building.specs.Year.{hasHeights}
 use Rattle.entry.specs.Says.{carriedFace}
@@ -19,6 +19,7 @@ use Rattle.job.specs.Lines.{linesOf}
 use Rattle.job.specs.Walk.{Accepted, readLines, judged}
 use Rattle.job.specs.InOrder.{OfYear1, OfLaterYear, InOrder}
 use Rattle.job.proofs.Years.{later-heights, faces-kept}
+use Rattle.job.proofs.Room.{few-faces}
 use Rattle.job.proofs.RoundTrip.{judged-carried}
 use Rattle.job.proofs.InOrder.{accepted-in-order, in-order-accepted}
 
@@ -43,8 +44,8 @@ same-judged j k e = ap (λ (c : Carried). readLines (linesOf c)) e
 roomed : {A : Type 0} (d : A) (room : ℕ) (l : List A) → length l ≤ room → firstOf d (length l) (firstOf d room l) ≡ l
 roomed d room l h = firstOf-fewer d (length l) room l h ∙ firstOf-all d l
 
-recorded-low : (c : Carried) → OfYear1 c → length (c .winds) ≤ 8 → length (c .internals) ≤ 4 → length (c .faces) ≤ 24
-    → carried (recorded c) ≡ c
+recorded-low : (c : Carried) → OfYear1 c → length (c .winds) ≤ 8 → length (c .internals) ≤ 4
+    → length (c .faces) ≤ mostFaces → carried (recorded c) ≡ c
 unfolding carried recorded
 recorded-low c y w i f =
     let e = ap hasHeights (y .year) in
@@ -57,12 +58,12 @@ recorded-low c y w i f =
           (ap (λ (h : Bool). cond h (firstOf noStep (length (c .profile)) (firstOf noStep 16 (c .profile))) []) e
           ∙ sym (y .profile)) k;
       faces =
-          (ap (λ (l : List Face). map (carriedFace (hasHeights (c .year))) l) (roomed noFace 24 (c .faces) f)
+          (ap (λ (l : List Face). map (carriedFace (hasHeights (c .year))) l) (roomed noFace mostFaces (c .faces) f)
           ∙ faces-kept (hasHeights (c .year)) (c .faces) (λ q. y .heights)) k;
     }
 
 recorded-tall : (c : Carried) → OfLaterYear c → length (c .winds) ≤ 8 → length (c .internals) ≤ 4
-    → length (c .faces) ≤ 24 → carried (recorded c) ≡ c
+    → length (c .faces) ≤ mostFaces → carried (recorded c) ≡ c
 unfolding carried recorded
 recorded-tall c y w i f =
     let e = later-heights (c .year) (y .year) in
@@ -75,7 +76,7 @@ recorded-tall c y w i f =
           (ap (λ (h : Bool). cond h (firstOf noStep (length (c .profile)) (firstOf noStep 16 (c .profile))) []) e
           ∙ roomed noStep 16 (c .profile) (y .counted .high)) k;
       faces =
-          (ap (λ (l : List Face). map (carriedFace (hasHeights (c .year))) l) (roomed noFace 24 (c .faces) f)
+          (ap (λ (l : List Face). map (carriedFace (hasHeights (c .year))) l) (roomed noFace mostFaces (c .faces) f)
           ∙ faces-kept (hasHeights (c .year)) (c .faces) (λ q. absurd (true≢false (sym e ∙ q)))) k;
     }
 
@@ -85,7 +86,7 @@ pub in-order-recorded : (c : Carried) → InOrder c → carried (recorded c) ≡
 in-order-recorded c o =
     let w = o .winds-counted .high in
     let i = o .internals-counted .high in
-    let f = o .faces-counted .high in
+    let f = few-faces c o in
     ⊎-elim (λ y. recorded-low c y w i f) (λ y. recorded-tall c y w i f) (o .form)
 
 -- the record of an accepted sheet is accepted, and read as the sheet was

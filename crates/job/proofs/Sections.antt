@@ -5,7 +5,7 @@ use mathlib.Core.List.{List, [], _∷_, _++_}
 use mathlib.Core.Bool.{false, not}
 use native.Mathlib.Omega.{arith}
 use lib.Dec.{eqb}
-use lib.IntN.{pos, negsuc}
+use lib.IntN.{ℤ, pos, negsuc}
 use lib.Signed.{_≤ℤ_}
 use lib.ListN.{length, getD, take}
 use borrow.Author.Tests.{eq-eqb, eqb-true, not-false}
@@ -35,35 +35,37 @@ use Rattle.job.proofs.Walk.{entries-there}
 
 -- ---- the count of a section
 
-abbrev pub Counted : Section → ℕ → Type 0
-Counted s n = Within (about s .least) (about s .most) n
+abbrev pub Counted : ℤ → Section → ℕ → Type 0
+Counted year s n = Within (about s .least) (about s .most year) n
 
 abbrev pub countLine : Section → ℕ → List Field
 countLine s n = Letter (about s .letter) ∷ Plus n ∷ []
 
-count-in-order : (s : Section) (b : Before) (n : ℕ) → Counted s n → lineFault (Count s) b (countLine s n) ≡ 0
+count-in-order : (s : Section) (b : Before) (n : ℕ) → Counted (b .year) s n
+    → lineFault (Count s) b (countLine s n) ≡ 0
 count-in-order s b n w =
     let l = about s .letter in
+    let most = about s .most (b .year) in
     let low : pos (about s .least) ≤ℤ pos n = le-by _ _ (omega (arith, w .low)) in
-    let high : pos n ≤ℤ pos (about s .most) = le-by _ _ (omega (arith, w .high)) in
+    let high : pos n ≤ℤ pos most = le-by _ _ (omega (arith, w .high)) in
     order-in (Count s) b (countLine s n)
     (record {
       formed = more letter (more count none);
       none =
-          (ap not (eq-eqb l l refl), (is-within (pos (about s .least)) (pos (about s .most)) (pos n) low high, tt));
+          (ap not (eq-eqb l l refl), (is-within (pos (about s .least)) (pos most) (pos n) low high, tt));
     })
 
 -- a count line in order is the letter and the count
-pub record CountLine (s : Section) (x : List Field) : Type 0 where
+pub record CountLine (year : ℤ) (s : Section) (x : List Field) : Type 0 where
   pub count : ℕ
   pub is : x ≡ countLine s count
-  pub counted : Counted s count
+  pub counted : Counted year s count
 
 count-of : (s : Section) (b : Before) {x : List Field} → AllFormed (formsBy b (Count s)) x
     → not (eqb (say.letter (at x 0)) (about s .letter)) ≡ false
-    → beyond (pos (about s .least)) (pos (about s .most)) (number (at x 1)) ≡ false → CountLine s x
+    → beyond (pos (about s .least)) (pos (about s .most (b .year))) (number (at x 1)) ≡ false → CountLine (b .year) s x
 count-of s b (more (letter {b = l}) (more (count {m = n}) none)) e h =
-    let t = within (about s .least) (about s .most) (pos n) h in
+    let t = within (about s .least) (about s .most (b .year)) (pos n) h in
     record {
       count = n;
       is = ap (λ (y : ℕ). Letter y ∷ Plus n ∷ []) (eqb-true l (about s .letter) (not-false _ e));
@@ -71,21 +73,23 @@ count-of s b (more (letter {b = l}) (more (count {m = n}) none)) e h =
     }
 count-of s b (more (letter {b = l}) (more (count-below {m = zero} p) none)) e h = absurd (omega arith)
 count-of s b (more (letter {b = l}) (more (count-below {m = suc n} p) none)) e h =
-    absurd (let q : _≡_ {A = ℕ} 0 1 = cc (within (about s .least) (about s .most) (negsuc n) h .plain) in omega arith)
+    let t = within (about s .least) (about s .most (b .year)) (negsuc n) h in
+    absurd (let q : _≡_ {A = ℕ} 0 1 = cc (t .plain) in omega arith)
 
-pub count-says : (s : Section) (b : Before) (x : List Field) → lineFault (Count s) b x ≡ 0 → CountLine s x
+pub count-says : (s : Section) (b : Before) (x : List Field) → lineFault (Count s) b x ≡ 0 → CountLine (b .year) s x
 count-says s b x z = let o = in-order (Count s) b x z in count-of s b (o .formed) (o .none .0) (o .none .1 .0)
 
-pub count-counted : (s : Section) (b : Before) (n : ℕ) → lineFault (Count s) b (countLine s n) ≡ 0 → Counted s n
+pub count-counted : (s : Section) (b : Before) (n : ℕ) → lineFault (Count s) b (countLine s n) ≡ 0
+    → Counted (b .year) s n
 count-counted s b n z =
     let t = count-says s b (countLine s n) z in
     let e : n ≡ t .count = cc (t .is) in
-    subst (Counted s) (sym e) (t .counted)
+    subst (Counted (b .year) s) (sym e) (t .counted)
 
 -- ---- a section
 
 module _ (s : Section) (ks : List Kind) (c : Carried) (line : ℕ) where
-  pub section-walk : (xs rest : List (List Field)) → Counted s (length xs) → EntriesInOrder s c xs
+  pub section-walk : (xs rest : List (List Field)) → Counted (c .year) s (length xs) → EntriesInOrder s c xs
       → walk (Count s ∷ ks) c line (sectionOf s xs ++ rest) ≡ walk ks (learnAll s xs c) (line + 1 + length xs) rest
   section-walk xs rest w h =
       walk-on (Count s) ks c line (countLine s (length xs)) (xs ++ rest)
@@ -99,7 +103,7 @@ module _ (s : Section) (ks : List Kind) (c : Carried) (line : ℕ) where
       (refusal (lineFault (Count s) (before c) (countLine s (length xs))) line)
   count-refused xs rest z = walk-refused (Count s) ks c line (countLine s (length xs)) (xs ++ rest) z
 
-  pub section-refused : (xs rest : List (List Field)) (i : ℕ) → Counted s (length xs) → i < length xs
+  pub section-refused : (xs rest : List (List Field)) (i : ℕ) → Counted (c .year) s (length xs) → i < length xs
       → EntriesInOrder s c (take i xs)
       → (lineFault (Entry s) (before (learnAll s (take i xs) c)) (getD xs i []) ≡ 0 → ⊥)
       → walk (Count s ∷ ks) c line (sectionOf s xs ++ rest) ≡ Refused
@@ -112,7 +116,7 @@ module _ (s : Section) (ks : List Kind) (c : Carried) (line : ℕ) where
   module _ (e : Carried) where
     pub section-in-order : (xs rest : List (List Field))
         → walk (Count s ∷ ks) c line (sectionOf s xs ++ rest) ≡ Accepted e
-        → Counted s (length xs) × EntriesInOrder s c xs
+        → Counted (c .year) s (length xs) × EntriesInOrder s c xs
     section-in-order xs rest a =
         let x = countLine s (length xs) in (
           count-counted s (before c) (length xs) (accepted-line (Count s) ks c line x (xs ++ rest) a),

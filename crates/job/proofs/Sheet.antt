@@ -42,7 +42,7 @@ learn-list s of put step l [] = ap put (sym (append-nil l))
 learn-list s of put step l (x ∷ xs) =
     rw (step l x) (learn-list s of put step (l ++ (of x ∷ [])) xs ∙ ap put (append-assoc l (of x ∷ []) (map of xs)))
 
-pub section-learned : (s : Section) (xs : List (List Field)) (c : Carried) → Counted s (length xs)
+pub section-learned : (s : Section) (xs : List (List Field)) (c : Carried) → Counted (c .year) s (length xs)
     → learnAll s xs c ≡ gained s xs c
 section-learned «V» xs c w =
     ap (λ (ys : List (List Field)). learnAll «V» ys c) (only-one xs [] (omega (arith, w .low, w .high)))
@@ -82,11 +82,11 @@ module _ (es : Section → List (List Field)) where
   abbrev SectionsInOrder : List Section → Carried → Type 0
   SectionsInOrder [] c = Unit
   SectionsInOrder (s ∷ ss) c =
-      Counted s (length (es s)) × EntriesInOrder s c (es s) × SectionsInOrder ss (gained s (es s) c)
+      Counted (c .year) s (length (es s)) × EntriesInOrder s c (es s) × SectionsInOrder ss (gained s (es s) c)
 
   -- a section in order, and what is called for behind it
-  pub section-passed : (s : Section) (ss : List Section) (c : Carried) (line : ℕ) → Counted s (length (es s))
-      → EntriesInOrder s c (es s)
+  pub section-passed : (s : Section) (ss : List Section) (c : Carried) (line : ℕ)
+      → Counted (c .year) s (length (es s)) → EntriesInOrder s c (es s)
       → walk (map Count (s ∷ ss)) c line (sectionsOf es (s ∷ ss)) ≡ walk (map Count ss) (gained s (es s) c)
       (line + 1 + length (es s)) (sectionsOf es ss)
   section-passed s ss c line w h =
@@ -133,7 +133,7 @@ module _ (es : Section → List (List Field)) where
   readBefore h s = gainedAll (take (earlier h s) (sections h)) nothing
 
   pub record SheetInOrder (h : Bool) : Type 0 where
-    pub counted : (s : Section) → Called h s → Counted s (length (es s))
+    pub counted : (s : Section) → Called h s → Counted (saidBy h .year) s (length (es s))
     pub entries : (s : Section) → Called h s → EntriesInOrder s (readBefore h s) (es s)
 
   pub sheet-accepted : (h : Bool) → SheetInOrder h → readLines (sheetOf h es) ≡ Accepted (saidBy h)
@@ -168,7 +168,7 @@ module _ (es : Section → List (List Field)) where
       )
 
   counted-in : (h : Bool) → SectionsInOrder (sections h) nothing → (s : Section) → Called h s
-      → Counted s (length (es s))
+      → Counted (saidBy h .year) s (length (es s))
   counted-in true o «V» k = o .0
   counted-in true o B k = o .2 .0
   counted-in true o W k = o .2 .2 .0

@@ -1,5 +1,6 @@
 -- All that a sheet carries: the year, the building, and the winds, internal coefficients, steps of the profile and
 -- faces, each as a list; and what a line is judged by where this was read before it.
+use Prim.Native.Nat.{ℕ}
 use mathlib.Core.Path.{_≡_}
 use mathlib.Core.List.{List, [], _∷_, map}
 use mathlib.Core.Bool.{cond}
@@ -167,7 +168,11 @@ carried j =
 abbrev pub SameJob : Job → Job → Type 0
 SameJob j k = carried j ≡ carried k
 
--- the record of what a sheet carries, with room for 8 winds, 4 internal coefficients, 16 steps and 24 faces: the
+-- the room of a record for faces: what a sheet of its year may have is another number (`faceLimit`), and no larger
+abbrev pub mostFaces : ℕ
+mostFaces = 240
+
+-- the record of what a sheet carries, with room for 8 winds, 4 internal coefficients, 16 steps and so many faces: the
 -- entries after a count are zero
 unfoldable pub recorded : Carried → Job
 recorded c =
@@ -177,7 +182,7 @@ recorded c =
       winds = record { count = length (c .winds); entry = firstOf noWind 8 (c .winds) };
       internals = record { count = length (c .internals); entry = firstOf (pos 0) 4 (c .internals) };
       profile = record { count = length (c .profile); entry = firstOf noStep 16 (c .profile) };
-      faces = record { count = length (c .faces); entry = firstOf noFace 24 (c .faces) };
+      faces = record { count = length (c .faces); entry = firstOf noFace mostFaces (c .faces) };
     }
 
 -- the record that is all zero

@@ -11,7 +11,7 @@ use lib.Signed.{_≤ℤ_, _<ℤ_}
 use Rattle.whole.specs.Lists.{Every}
 use Rattle.building.specs.declared.Building.{Building}
 use Rattle.building.specs.Building.{buildingFault}
-use Rattle.building.specs.Year.{lastYear}
+use Rattle.building.specs.Year.{lastYear, faceLimit}
 use Rattle.building.specs.Test.{oneOf}
 use Rattle.building.specs.Places.{A, H, single, zoneOn, wallDirections, knows, wallPlace}
 use Rattle.entry.specs.declared.Wind.{Wind}
@@ -86,6 +86,6 @@ pub record InOrder (c : Carried) : Type 0 where
   pub winds : Every (WindInOrder (c .building)) (c .winds)
   pub internals-counted : Within 1 4 (length (c .internals))
   pub internals : Every InternalInOrder (c .internals)
-  pub faces-counted : Within 1 24 (length (c .faces))
+  pub faces-counted : Within 1 (faceLimit (c .year)) (length (c .faces))
   pub faces : Every (FaceInOrder (c .building)) (c .faces)
   pub form : OfYear1 c ⊎ OfLaterYear c

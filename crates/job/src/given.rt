@@ -24,12 +24,11 @@ ghost use Rattle.rules.specs.Sections.{about, lineFault};
 ghost use Rattle.entry_written.specs.Fields.{yearFields, buildingFields, windFields, internalFields};
 ghost use Rattle.entry_written.specs.Fields.{stepFields, faceFields};
 
-pub(crate) fn count_fault(s: Section, n: u32) -> u32
-    ensures { λ r. ⌜ ((b : Before)
-        → r ≡ lineFault (Kind.Count s) b (Field.Letter (about s .letter) ∷ Field.Plus n ∷ [])) ⌝ }
+pub(crate) fn count_fault(b: Before, s: Section, n: u32) -> u32
+    ensures { λ r. ⌜ r ≡ lineFault (Kind.Count s) b (Field.Letter (about s .letter) ∷ Field.Plus n ∷ []) ⌝ }
 {
-    let l = shape::limits_of(s);
-    entries::count_fault(s, l.letter, n as i64)
+    let letter = shape::section_letter(s);
+    entries::count_fault(b.year, s, letter, n as i64)
 }
 
 // 1 where one of these tests finds a number that is too long, and else n.

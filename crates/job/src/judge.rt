@@ -14,23 +14,23 @@ use rules::shape::section_count;
 use verdict::Verdict;
 ghost use mathlib.Core.Path.{_≡_};
 ghost use mathlib.Core.List.{[], _∷_};
-ghost use Prim.Native.Nat.{_≤_};
+ghost use Prim.Native.Nat.{_+_, _*_, _≤_};
 ghost use Rattle.building.specs.Year.{hasHeights};
 ghost use Rattle.entry_written.specs.Fields.{faceFields};
 ghost use Rattle.rules.specs.Sections.{lineFault};
-ghost use Rattle.job.specs.Carried.{Carried, before, carried};
+ghost use Rattle.job.specs.Carried.{Carried, before, carried, mostFaces};
 ghost use Rattle.job.specs.Judging.{JudgesAs};
 ghost use Rattle.job.specs.Lines.{sectionOf, entriesOf};
 ghost use Rattle.job.specs.Walk.{verdict, walk, judged};
 
 // One section by itself, whose count stands on this line, judged by what the sections before it say.
 fn judge_section(j: Job, s: Section, b: Before, line: u32) -> Verdict
-    requires { ⌜ (b .year ≡ j .year) × (b .building ≡ j .building) × (line ≤ 151) ⌝ }
+    requires { ⌜ (b .year ≡ j .year) × (b .building ≡ j .building) × (line ≤ 6 * (mostFaces + 1) + 1) ⌝ }
     ensures { λ r. ⌜ ((c : Carried) → JudgesAs s b c
         → r ≡ verdict (walk (Kind.Count s ∷ []) c line (sectionOf s (entriesOf (carried j) s)))) ⌝ }
 {
     let n = entry_count(j, s);
-    let number = given::count_fault(s, n);
+    let number = given::count_fault(b, s, n);
     if number != 0 {
         return Verdict { number, line };
     }

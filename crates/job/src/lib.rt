@@ -14,6 +14,9 @@ mod given;
 mod heights;
 pub mod judge;
 
+// The room of a record for faces; what a sheet of its year may have is `face_limit` of the year.
+pub const MOST_FACES: usize = 240;
+
 // The first entries count, as many as the count says.
 #[repr(C)]
 pub struct Winds {
@@ -36,7 +39,7 @@ pub struct Profile {
 #[repr(C)]
 pub struct Faces {
     pub count: u32,
-    pub entry: [Face; 24],
+    pub entry: [Face; MOST_FACES],
 }
 
 // A sheet of year 1 carries no profile and no heights: whatever they hold here counts for nothing.

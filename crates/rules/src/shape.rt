@@ -66,10 +66,7 @@ pub struct Limits {
 fn counted(least: u32, most: u32) -> Limits
     ensures { λ r. ⌜ (r .least ≡ least) × (r .most ≡ most) ⌝ }
 {
-    Limits {
-        least,
-        most,
-    }
+    Limits { least, most }
 }
 
 // In a sheet of this year.

@@ -1,10 +1,8 @@
 -- `given::count_fault` meets its contract.
-use mathlib.Core.Path.{sym, ap₂, _∙_}
-use Prim.Native.Nat.{ℕ}
+use mathlib.Core.Path.{sym, _∙_}
 use native.Mathlib.Omega.{arith}
-use lib.IntN.{ℤ}
 use mir.Syntax.{w64}
-use Rattle.whole.proofs.Size.{nat}
+use Rattle.whole.proofs.Size.{nat, returned}
 use Rattle.building.specs.Fault.{first}
 use Rattle.rules.specs.declared.Kind.the-variants.{Count}
 use Rattle.rules.specs.Sections.{countFaults}
@@ -16,13 +14,15 @@ use Rattle.job.proofs.given.count_fault.Statement.{statement}
 use Rattle.job.proofs.given.count_fault.Tie as tie
 
 returns : tie.Need-returns
-returns c b =
-    let l = c .before in
+returns c =
+    let t = c .before in
+    let l = t .before in
     let a = l .before .args in
+    let year = returned w64 (a .b .year) (t .struct-told .given .0 .1) .same in
+    let n = nat w64 {n = a .n} 4294967295 (omega arith) tt .same in
     c .count-fault .ensures
-    ∙ ap₂ (λ (y : ℕ) (z : ℤ). first (countFaults (a .s) y z)) (l .limits-of .ensures .0)
-    (nat w64 {n = a .n} 4294967295 (omega arith) tt .same)
-    ∙ sym (fault-in (Count (a .s)) b (countLine (a .s) (a .n)) (formed-in (more letter (more count none))))
+    ∙ (λ i. first (countFaults (year i) (a .s) (l .section-letter .ensures i) (n i)))
+    ∙ sym (fault-in (Count (a .s)) (a .b) (countLine (a .s) (a .n)) (formed-in (more letter (more count none))))
 
 pub count-fault-spec : {M : Type 1} → statement M
 count-fault-spec =

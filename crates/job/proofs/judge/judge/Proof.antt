@@ -1,5 +1,5 @@
 -- `judge` meets its contract: what comes of the sections from i on is what comes of the whole sheet.
-use Prim.Native.Nat.{ℕ, _≤_, _<_, _-_}
+use Prim.Native.Nat.{ℕ, _+_, _*_, _≤_, _<_, _-_}
 use mathlib.Core.Path.{_≡_, sym, ap, _∙_, subst}
 use mathlib.Core.Bool.{Bool}
 use native.Mathlib.Omega.{arith}
@@ -10,7 +10,7 @@ use Rattle.rules.specs.declared.Before.{Before}
 use Rattle.rules.specs.declared.Section.{Section}
 use Rattle.rules.specs.Sections.{sections, sectionAt}
 use Rattle.job.specs.declared.Job.{Job}
-use Rattle.job.specs.Carried.{carried}
+use Rattle.job.specs.Carried.{carried, mostFaces}
 use Rattle.job.specs.Judging.{JudgesAs}
 use Rattle.job.proofs.Alone.{alone, few-sections}
 use Rattle.job.proofs.Judged.{es, heights, ss, sofar, year-is, Reached, reached-first, judges-as, stops}
@@ -62,7 +62,7 @@ module _ (c : tie.After-section-at Inv-loop μ-loop) where
       (subst (λ (d : Before). JudgesAs (sectionAt (heights job) i) d (sofar job i)) (sym (begun .before-faces .ensures))
       (judges-as job (heights job) (year-is job) i few))
 
-  low : turn .loop .line ≤ 151
+  low : turn .loop .line ≤ 6 * (mostFaces + 1) + 1
   low = omega (arith, few, few-sections (heights job), turn .loop .inv .1 .lines)
 
 -- its verdict by itself
@@ -104,7 +104,7 @@ module _ (c : tie.After-entry-count Inv-loop μ-loop) where
   many : c .entry-count .result ≡ length (es (job at) (sectionAt (heights (job at)) (i at)))
   many = c .entry-count .ensures ∙ ap (λ (s : Section). length (es (job at) s)) (section-is at)
 
-  short : c .entry-count .result ≤ 24
+  short : c .entry-count .result ≤ mostFaces
   short =
       few-entries (job at) (turn at .loop .inv .1) (few at) (verdict-is verdict-of) (passed .if1 .left) many
 

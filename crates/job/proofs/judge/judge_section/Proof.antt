@@ -20,15 +20,16 @@ use Rattle.job.specs.declared.Winds.{Winds}
 use Rattle.job.specs.declared.Internals.{Internals}
 use Rattle.job.specs.declared.Profile.{Profile}
 use Rattle.job.specs.declared.Faces.{Faces}
-use Rattle.job.specs.Carried.{Carried, before, carried}
-use Rattle.job.specs.Judging.{JudgesAs}
+use Rattle.job.specs.Carried.{Carried, before, carried, mostFaces}
+use Rattle.job.specs.Judging.{EntriesAs, JudgesAs}
 use Rattle.rules.specs.Sections.{about, lineFault}
 use Rattle.entry_written.specs.Fields.{yearFields, internalFields}
 use Rattle.job.specs.Lines.{entriesOf}
 use Rattle.job.proofs.Walk.{learnAll, EntriesInOrder}
-use Rattle.job.proofs.Sections.{Counted, countLine}
-use Rattle.job.proofs.Alone.{entry-is, entry-judged, step-judged, alone, most-24, alone-count}
+use Rattle.job.proofs.Sections.{Counted, countLine, count-counted}
+use Rattle.job.proofs.Alone.{entry-is, entry-judged, step-judged, alone, alone-count}
 use Rattle.job.proofs.Alone.{alone-counted, alone-entry, alone-next, alone-passed}
+use Rattle.job.proofs.Room.{most-roomed}
 use borrow.Author.Needs.{needs, sfits-of}
 use Rattle.job.proofs.judge.judge_section.Statement.{statement}
 use Rattle.job.proofs.judge.judge_section.Tie as tie
@@ -83,11 +84,14 @@ module _ (c : tie.After-count-fault Inv-loop μ-loop) where
   many : c .before .entry-count .result ≡ length lines
   many = c .before .entry-count .ensures ∙ ap (λ (k : Job). length (entriesOf (carried k) section)) (sym same)
 
-  count-judged : (d : Carried) → c .count-fault .result ≡ lineFault (Count section) (before d)
-      (countLine section (length lines))
-  count-judged d =
-      c .count-fault .ensures (before d)
-      ∙ ap (λ (n : ℕ). lineFault (Count section) (before d) (countLine section n)) many
+  own-count : c .count-fault .result ≡ lineFault (Count section) (start .args .b) (countLine section (length lines))
+  own-count =
+      c .count-fault .ensures
+      ∙ ap (λ (n : ℕ). lineFault (Count section) (start .args .b) (countLine section n)) many
+
+  count-judged : (d : Carried) → JudgesAs section (start .args .b) d
+      → c .count-fault .result ≡ lineFault (Count section) (before d) (countLine section (length lines))
+  count-judged d u = own-count ∙ sym (u .count (countLine section (length lines)))
 
   -- what is found of the job in parts is found of the job
   whole : {v : Verdict} (d : Carried) → v ≡ alone section d (start .args .line) lines
@@ -98,15 +102,22 @@ module _ (c : tie.After-count-fault Inv-loop μ-loop) where
 returns : tie.Need-returns Inv-loop μ-loop
 returns c d u =
     let f = c .before in
-    whole f d (alone-count (section f) d _ (lines f) _ (count-judged f d) (c .if1 .taken))
+    whole f d (alone-count (section f) d _ (lines f) _ (count-judged f d u) (c .if1 .taken))
 
-counted : (c : tie.After-faces Inv-loop μ-loop) → Carried
-    → Counted (section (c .before .before .before .before .before)) (length (lines
-    (c .before .before .before .before .before)))
-counted c d =
-    let t = c .before .before .before .before in
-    let f = t .before in
-    alone-counted (section f) d 0 (lines f) _ (count-judged f d) (t .if1 .left)
+module _ (c : tie.After-faces Inv-loop μ-loop) where
+  abbrev passed : tie.After-count-fault Inv-loop μ-loop
+  passed = c .before .before .before .before .before
+
+  own-counted : Counted (start passed .args .b .year) (section passed) (length (lines passed))
+  own-counted =
+      count-counted (section passed) (start passed .args .b) (length (lines passed))
+      (sym (own-count passed) ∙ c .before .before .before .before .if1 .left)
+
+  counted : (d : Carried) → JudgesAs (section passed) (start passed .args .b) d
+      → Counted (d .year) (section passed) (length (lines passed))
+  counted d u =
+      alone-counted (section passed) d 0 (lines passed) _ (count-judged passed d u)
+      (c .before .before .before .before .if1 .left)
 
 loop-holds : tie.Need-loop-holds Inv-loop μ-loop
 loop-holds c = (search needs, λ d u. tt)
@@ -119,13 +130,13 @@ module _ (c : tie.In-loop Inv-loop μ-loop) where
   within : c .before .loop .i < length (lines here)
   within = omega (arith, many here)
 
-  room : (t : Section) → section here ≡ t → c .before .loop .i < about t .most
+  room : (t : Section) → section here ≡ t → c .before .loop .i < about t .most (start here .args .b .year)
   room t e =
-      let h = ap (λ (u : Section). about u .most) e in
-      omega (arith, within, counted (c .before .before) (carried (job here)) .high)
+      let h = ap (λ (u : Section). about u .most (start here .args .b .year)) e in
+      omega (arith, within, own-counted (c .before .before) .high)
 
-  small : c .before .loop .i < 24
-  small = omega (arith, room (section here) refl, most-24 (section here))
+  small : c .before .loop .i < mostFaces
+  small = omega (arith, room (section here) refl, most-roomed (start here .args .b .year) (section here))
 
 -- the fault of entry i, where d is what is read before the section
 module _ (c : tie.At-match-came Inv-loop μ-loop) (d : Carried) where
@@ -147,13 +158,13 @@ module _ (c : tie.At-match-came Inv-loop μ-loop) (d : Carried) where
   module _ (u : JudgesAs (section turn) b d) where
     -- what holds of this section
     holds : (t : Section) → section turn ≡ t
-        → JudgesAs t b d × (i < length (entriesOf (carried (job turn)) t))
+        → EntriesAs t b d × (i < length (entriesOf (carried (job turn)) t))
         × EntriesInOrder t d (take i (entriesOf (carried (job turn)) t))
     holds t e =
         subst
-        (λ (s : Section). JudgesAs s b d × (i < length (entriesOf (carried (job turn)) s))
+        (λ (s : Section). EntriesAs s b d × (i < length (entriesOf (carried (job turn)) s))
         × EntriesInOrder s d (take i (entriesOf (carried (job turn)) s)))
-        e (u, within (c .before), c .before .before .loop .inv .1 d u)
+        e (u .entries, within (c .before), c .before .before .loop .inv .1 d u)
 
     found-as : (t : Section) → section turn ≡ t → Found t → Found (section turn)
     found-as t e f = subst Found (sym e) f
@@ -189,7 +200,7 @@ returns-2 c d u =
     let m = c .before in
     let l = m .before .before in
     let k = turn m d in
-    whole k d (alone-entry (section k) d _ (lines k) (counted (l .before) d) (i m d) _ (within (m .before))
+    whole k d (alone-entry (section k) d _ (lines k) (counted (l .before) d u) (i m d) _ (within (m .before))
     (l .loop .inv .1 d u) (fault m d u) (c .if2 .taken))
 
 loop-again : tie.Need-loop-again Inv-loop μ-loop
@@ -198,7 +209,7 @@ loop-again c =
     let l = m .before .before in (
       omega arith,
       λ d u. let k = turn m d in
-          alone-next (section k) d 0 (lines k) (counted (l .before) d) (i m d) _ (within (m .before))
+          alone-next (section k) d 0 (lines k) (counted (l .before) d u) (i m d) _ (within (m .before))
           (l .loop .inv .1 d u) (fault m d u) (c .if2 .left),
     )
 
@@ -207,7 +218,7 @@ returns-3 c d u =
     let l = c .before in
     let k = l .before .before .before .before .before .before in
     whole k d
-    (alone-passed (section k) d _ (lines k) (counted (l .before) d) (l .loop .i) (omega (arith, many k))
+    (alone-passed (section k) d _ (lines k) (counted (l .before) d u) (l .loop .i) (omega (arith, many k))
     (l .loop .inv .1 d u))
 
 pub judge-section-spec : {M : Type 1} → statement M
@@ -223,7 +234,6 @@ judge-section-spec =
     (λ c. room (c .before .before) P (c .enum-told5 .given .1))
     (λ c κs. omega (arith, room (c .before .before .before) P (c .before .enum-told5 .given .1)))
     (λ c κs. search needs) (λ c. search needs)
-    (λ c. omega (arith, room (c .before .before) F (c .enum-told6 .given .1)))
-    (λ c. room (c .before .before) F (c .enum-told6 .given .1)) (λ c κs. search needs) (λ c. search needs)
+    (λ c. omega (arith, small (c .before .before))) (λ c. small (c .before .before)) (λ c κs. search needs) (λ c. search needs)
     (λ c. omega (arith, small (c .before .before))) returns-2 (λ c. search needs) (λ c. search needs) loop-again
     returns-3)
