@@ -7,7 +7,7 @@ use mathlib.Core.Logic.{_⊎_, ⊎-elim}
 use Prim.Native.Nat.{ℕ, zero, suc, _+_, _-_, _*_, _/_, _^_, _≤_, _<_}
 use native.Mathlib.Nat.{le-trans, le-refl, mul-le-mul, lt-of-le-of-lt, le-div-iff-mul-le, div-mul-le-self, div-zero}
 use native.Mathlib.Omega.{arith}
-use mathlib.Core.Bool.{true, false}
+use mathlib.Core.Bool.{Bool, true, false}
 use lib.Dec.{T, ltb, ltb→lt}
 use lib.IntN.{ℤ, pos, negsuc, negℤ, natAbs, _+ℤ_, _-ℤ_, _*ℤ_}
 use lib.Signed.{mag, quotZ, natAbs-le, nonNeg, yes-nonNeg, pos-natAbs, _≤ℤ_, _<ℤ_, ltZ}
@@ -211,6 +211,9 @@ size n = ap natAbs (n .same)
 -- a signed test leaves an equation of its flag
 pub lt-yes : (m n : Num) → ltZ (m .has) (n .has) ≡ true → m .is <ℤ n .is
 lt-yes m n e = subst₂ (λ (x y : ℤ). x <ℤ y) (m .same) (n .same) (lt-true (m .has) (n .has) e)
+
+pub lt-flag : (m n : Num) {t : Bool} → ltZ (m .has) (n .has) ≡ t → ltZ (m .is) (n .is) ≡ t
+lt-flag m n e = sym (ap₂ ltZ (m .same) (n .same)) ∙ e
 
 pub lt-no : (m n : Num) → ltZ (m .has) (n .has) ≡ false → n .is ≤ℤ m .is
 lt-no m n e = subst₂ (λ (x y : ℤ). y ≤ℤ x) (m .same) (n .same) (lt-false (m .has) (n .has) e)

@@ -25,6 +25,12 @@ pub by-test : {P : Type 0} (t : Bool) → (t ≡ true → P) → (t ≡ false �
 by-test true f g = f refl
 by-test false f g = g refl
 
+-- tests that hold of the same
+pub same-flag : (s t : Bool) → (s ≡ true → t ≡ true) → (t ≡ true → s ≡ true) → s ≡ t
+same-flag true t f g = sym (f refl)
+same-flag false true f g = g refl
+same-flag false false f g = refl
+
 pub and-true : (s t : Bool) → s && t ≡ true → (s ≡ true) × (t ≡ true)
 and-true true t e = (refl, e)
 and-true false t e = absurd (subst T (sym e) tt)

@@ -1,0 +1,2 @@
+-- A total as a pair.
+pub mod Total
