@@ -1,5 +1,6 @@
 -- For the code: the gap between doubles, and products that lose nothing. For the reader: what doubles are worth and
--- how they are ordered, that the panel is right, that nothing else is, and the panel at its edges.
+-- how they are ordered, that the panel is right, that nothing else is, the same of newtons with a remainder, and the
+-- panel at its edges.
 pub mod Gap
 pub mod Product
 pub mod Worth
@@ -7,4 +8,5 @@ pub mod Negative
 pub mod Order
 pub mod Right
 pub mod Unique
+pub mod Apart
 pub mod Cases

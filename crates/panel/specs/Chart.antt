@@ -14,13 +14,17 @@ abbrev pub highOf : Panel → Float
 highOf (Exact x) = x
 highOf (Between low high) = high
 
-abbrev pub pointOf : ℤ → ℤ → ℤ → Point
-pointOf x y z =
+-- of a panel for each axis
+abbrev pub pointIn : Panel → Panel → Panel → Point
+pointIn x y z =
     record {
-      «x_low» = lowOf (panelOf x);
-      «x_high» = highOf (panelOf x);
-      «y_low» = lowOf (panelOf y);
-      «y_high» = highOf (panelOf y);
-      «z_low» = lowOf (panelOf z);
-      «z_high» = highOf (panelOf z);
+      «x_low» = lowOf x;
+      «x_high» = highOf x;
+      «y_low» = lowOf y;
+      «y_high» = highOf y;
+      «z_low» = lowOf z;
+      «z_high» = highOf z;
     }
+
+abbrev pub pointOf : ℤ → ℤ → ℤ → Point
+pointOf x y z = pointIn (panelOf x) (panelOf y) (panelOf z)

@@ -1,8 +1,10 @@
-// The panel's doubles: for any signed 64-bit total the double that equals it, or the two on either side; and the
-// chart point of three totals.
+// The panel's doubles: for any signed 64-bit total the double that equals it, or the two on either side; the chart
+// point of three totals; and both of newtons with a remainder.
 ghost use mathlib.Core.Path.{_≡_};
 ghost use Rattle.panel.specs.Bracket.{gap, ofSize, mirrored, panelOf};
-ghost use Rattle.panel.specs.Chart.{lowOf, highOf, pointOf};
+ghost use Rattle.panel.specs.Chart.{lowOf, highOf, pointIn, pointOf};
+
+pub mod newtons; // the panel and the chart point of newtons with a remainder
 
 pub enum Panel {
     // The double equal to the total.
@@ -23,7 +25,7 @@ fn unit(m: u64) -> u64
 }
 
 // The panel of a total that is not negative. Both factors are doubles, and so is their product.
-fn of_size(m: u64) -> Panel
+pub(crate) fn of_size(m: u64) -> Panel
     ensures { λ r. ⌜ r ≡ ofSize m ⌝ }
 {
     let p = unit(m);
@@ -66,7 +68,7 @@ pub struct Point {
     pub z_high: f64,
 }
 
-fn low(p: Panel) -> f64
+pub(crate) fn low(p: Panel) -> f64
     ensures { λ r. ⌜ r ≡ lowOf p ⌝ }
 {
     match p {
@@ -75,12 +77,26 @@ fn low(p: Panel) -> f64
     }
 }
 
-fn high(p: Panel) -> f64
+pub(crate) fn high(p: Panel) -> f64
     ensures { λ r. ⌜ r ≡ highOf p ⌝ }
 {
     match p {
         Panel::Exact(x) => x,
         Panel::Between(_, above) => above,
+    }
+}
+
+// The point of the panels on the three axes.
+pub(crate) fn point_in(a: Panel, b: Panel, c: Panel) -> Point
+    ensures { λ r. ⌜ r ≡ pointIn a b c ⌝ }
+{
+    Point {
+        x_low: low(a),
+        x_high: high(a),
+        y_low: low(b),
+        y_high: high(b),
+        z_low: low(c),
+        z_high: high(c),
     }
 }
 
@@ -91,12 +107,5 @@ pub fn chart(x: i64, y: i64, z: i64) -> Point
     let a = panel_of(x);
     let b = panel_of(y);
     let c = panel_of(z);
-    Point {
-        x_low: low(a),
-        x_high: high(a),
-        y_low: low(b),
-        y_high: high(b),
-        z_low: low(c),
-        z_high: high(c),
-    }
+    point_in(a, b, c)
 }

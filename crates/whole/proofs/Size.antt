@@ -26,6 +26,12 @@ natAbs-add x y =
     ⊎-elim (λ h. omega (arith, add-law x y, natAbs-is x, natAbs-is y, natAbs-is (x +ℤ y)))
     (λ h. omega (arith, add-law x y, natAbs-is x, natAbs-is y, natAbs-is (x +ℤ y))) (one-is-zero (x +ℤ y))
 
+-- one more than a number below zero is no larger
+pub rise-small : (z : ℤ) {k : ℕ} → z <ℤ pos 0 → natAbs z ≤ k + 1 → natAbs (z +ℤ pos 1) ≤ k
+rise-small z {k} h g =
+    ⊎-elim (λ e. omega (arith, lt-at _ _ h, natAbs-is z, natAbs-is (z +ℤ pos 1), add-law z (pos 1)))
+    (λ e. omega (arith, lt-at _ _ h, natAbs-is z, natAbs-is (z +ℤ pos 1), add-law z (pos 1))) (one-is-zero (z +ℤ pos 1))
+
 -- a number of size k at most lies between -k and k, and the other way
 pub size-low : (z : ℤ) (k : ℕ) → natAbs z ≤ k → negℤ (pos k) ≤ℤ z
 size-low z k h = le-by _ _ (omega (arith, natAbs-is z, up-neg (pos k), down-neg (pos k)))

@@ -1,28 +1,18 @@
 -- `newtons` meets its contract: a division rounds towards zero, so that below zero it is one less than that of one
 -- more.
 use mathlib.Core.Path.{_∙_}
-use mathlib.Core.Logic.{⊎-elim}
-use Prim.Native.Nat.{ℕ, _+_, _≤_}
-use native.Mathlib.Omega.{arith}
 use lib.Dec.{lit<}
-use lib.IntN.{ℤ, pos, natAbs, _+ℤ_}
+use lib.IntN.{pos}
 use lib.Signed.{_<ℤ_}
 use mir.Syntax.{w64}
 use Rattle.whole.specs.Newton.{newton}
-use Rattle.whole.proofs.Parts.{order, add-law, natAbs-is, one-is-zero}
 use Rattle.whole.proofs.Rounding.{down-below, down-above}
-use Rattle.whole.proofs.Size.{Num, num, param, back, tight, over, fit, lt-yes, lt-no, _⊕_, _⊖_}
+use Rattle.whole.proofs.Size.{Num, num, rise-small, param, back, tight, over, fit, lt-yes, lt-no, _⊕_, _⊖_}
 use Rattle.whole.proofs.newtons.Statement.{statement}
 use Rattle.whole.proofs.newtons.Tie as tie
 
 below : (c : tie.Then1) → c .before .args .total <ℤ pos 0
 below c = lt-yes (param (c .before .fits .total)) (num (pos 0)) (c .if1 .taken)
-
--- one more than a number below zero is no larger
-rise-small : (z : ℤ) {k : ℕ} → z <ℤ pos 0 → natAbs z ≤ k + 1 → natAbs (z +ℤ pos 1) ≤ k
-rise-small z {k} h g =
-    ⊎-elim (λ e. omega (arith, order, natAbs-is z, natAbs-is (z +ℤ pos 1), add-law z (pos 1)))
-    (λ e. omega (arith, order, natAbs-is z, natAbs-is (z +ℤ pos 1), add-law z (pos 1))) (one-is-zero (z +ℤ pos 1))
 
 -- one more, and what the code then takes of it
 abbrev more : tie.Then1 → Num
