@@ -1,11 +1,13 @@
 -- Laws of lists: of what holds of every one in a list, and of the first so many.
 use Prim.Native.Nat.{ℕ, zero, suc, _+_, _≤_, _<_}
-use mathlib.Core.Path.{_≡_, refl, sym, ap, subst}
+use mathlib.Core.Path.{_≡_, refl, sym, ap, _∙_, subst}
 use mathlib.Core.Logic.{⊎-elim}
-use mathlib.Core.List.{List, [], _∷_, _++_, map, List·Memᴰ, List·Memᴰ·not-nil, List·Memᴰ·cases-cons}
+use mathlib.Core.List.{List, [], _∷_, _++_, map, append-assoc, append-nil}
+use mathlib.Core.List.{List·Memᴰ, List·Memᴰ·not-nil, List·Memᴰ·cases-cons}
 use native.Mathlib.Numerals.{add-one}
 use native.Mathlib.Omega.{arith}
-use lib.ListN.{length, getD, take, drop, set, replicate}
+use lib.ListN.{length, getD, take, drop, set, replicate, length-append}
+use lib.Seq.{sets, drop-length}
 use Rattle.whole.specs.Lists.{firstOf, Every}
 
 -- ---- every
@@ -115,10 +117,41 @@ module _ {A : Type 0} (d : A) where
   firstOf-getD (suc n) (suc i) [] h = firstOf-getD n i [] (omega arith)
   firstOf-getD (suc n) (suc i) (x ∷ l) h = firstOf-getD n i l (omega arith)
 
-  -- one more at the end of the list takes the place of the first that it lacked
+  -- one more at the end of the list takes the place of the first that it lacked, where there is room for it
+  pub firstOf-put : (n : ℕ) (l : List A) (x : A) → firstOf d n (l ++ (x ∷ [])) ≡ set (firstOf d n l) (length l) x
+  unfolding firstOf
+  firstOf-put zero l x = refl
+  firstOf-put (suc n) [] x = refl
+  firstOf-put (suc n) (y ∷ l) x = ap (λ (k : List A). y ∷ k) (firstOf-put n l x)
+
   pub firstOf-more : (n : ℕ) (l : List A) (x : A) → length l < n
       → firstOf d n (l ++ (x ∷ [])) ≡ set (firstOf d n l) (length l) x
+  firstOf-more n l x h = firstOf-put n l x
+
+  -- so do several
+  pub firstOf-puts : (n : ℕ) (l xs : List A) → firstOf d n (l ++ xs) ≡ sets (firstOf d n l) (length l) xs
+  firstOf-puts n l [] = ap (firstOf d n) (append-nil l)
+  firstOf-puts n l (x ∷ xs) =
+      let e : length (l ++ (x ∷ [])) ≡ suc (length l) = omega (arith, length-append l (x ∷ [])) in
+      ap (firstOf d n) (sym (append-assoc l (x ∷ []) xs))
+      ∙ firstOf-puts n (l ++ (x ∷ [])) xs
+      ∙ (λ i. sets (firstOf-put n l x i) (e i) xs)
+
+  -- ---- a list whose first i are nothing any more
+
+  abbrev pub clearedTo : List A → ℕ → List A
+  clearedTo l i = firstOf d i [] ++ drop i l
+
+  pub cleared-next : (l : List A) (i : ℕ) → i < length l → set (clearedTo l i) i d ≡ clearedTo l (i + 1)
   unfolding firstOf
-  firstOf-more zero l x h = absurd (omega arith)
-  firstOf-more (suc n) [] x h = refl
-  firstOf-more (suc n) (y ∷ l) x h = ap (λ (k : List A). y ∷ k) (firstOf-more n l x (omega arith))
+  cleared-next l i h = go l i h ∙ ap (clearedTo l) (sym (add-one i))
+    where
+      go : (l : List A) (i : ℕ) → i < length l → set (clearedTo l i) i d ≡ clearedTo l (suc i)
+      go [] i h = absurd (omega arith)
+      go (x ∷ l) zero h = refl
+      go (x ∷ l) (suc i) h = ap (λ (k : List A). d ∷ k) (go l i (omega arith))
+
+  pub cleared-all : (l : List A) {i : ℕ} → i ≡ length l → clearedTo l i ≡ firstOf d (length l) []
+  cleared-all l {i} e =
+      ap (clearedTo l) e ∙ ap (λ (k : List A). firstOf d (length l) [] ++ k) (drop-length l)
+      ∙ append-nil (firstOf d (length l) [])

@@ -1,0 +1,2 @@
+-- The laws of faces as plain numbers.
+pub mod Flat
