@@ -1,14 +1,14 @@
 -- Laws of faces as plain numbers: one face more, and that the numbers give the faces back.
 use Prim.Native.Nat.{ℕ, zero, suc, _+_, _*_, _≤_, _<_, _%_}
 use mathlib.Core.Path.{_≡_, refl, sym, ap, _∙_}
-use mathlib.Core.List.{List, [], _∷_, _++_, append-assoc}
+use mathlib.Core.List.{List, [], _∷_, _++_, map, append-assoc}
 use native.Mathlib.Omega.{arith}
 use lib.IntN.{ℤ, pos, natAbs}
-use lib.ListN.{length, getD, length-append}
+use lib.ListN.{length, getD, length-append, length-map}
 use lib.Seq.{sets}
-use Rattle.whole.specs.Lists.{firstOf, Every}
+use Rattle.whole.specs.Lists.{firstOf, Every, numbers}
 use Rattle.whole.proofs.Lists.{firstOf-getD, firstOf-puts}
-use Rattle.whole.proofs.Numbers.{by-places}
+use Rattle.whole.proofs.Numbers.{by-places, length-numbers, numbers-next}
 use Rattle.entry.specs.declared.Face.{Face}
 use Rattle.entry.specs.Flat.{perFace, numbersOf, flat, numberIn, faceIn, facesIn}
 
@@ -33,6 +33,28 @@ flat-put n fs f =
     ap (firstOf (pos 0) n) (flat-more fs f)
     ∙ firstOf-puts (pos 0) n (flat fs) (numbersOf f)
     ∙ ap (λ (i : ℕ). sets (firstOf (pos 0) n (flat fs)) i (numbersOf f)) (flat-length fs)
+
+-- ---- faces read one by one
+
+pub faces-length : (n : ℕ) (l : List ℤ) → length (facesIn n l) ≡ n
+unfolding facesIn
+faces-length n l = length-map (numbers n 0) (faceIn l) ∙ length-numbers n 0
+
+pub faces-none : (l : List ℤ) → facesIn 0 l ≡ []
+unfolding facesIn numbers
+faces-none l = refl
+
+pub faces-more : (n : ℕ) (l : List ℤ) → facesIn (n + 1) l ≡ facesIn n l ++ (faceIn l n ∷ [])
+unfolding facesIn
+faces-more n l =
+    let e : 0 + n ≡ n = omega arith in
+    ap (map (faceIn l)) (sym (numbers-next n 0))
+    ∙ go (numbers n 0)
+    ∙ ap (λ (i : ℕ). map (faceIn l) (numbers n 0) ++ (faceIn l i ∷ [])) e
+  where
+    go : (ns : List ℕ) → map (faceIn l) (ns ++ ((0 + n) ∷ [])) ≡ map (faceIn l) ns ++ (faceIn l (0 + n) ∷ [])
+    go [] = refl
+    go (k ∷ ns) = ap (λ (fs : List Face). faceIn l k ∷ fs) (go ns)
 
 -- ---- the faces again
 

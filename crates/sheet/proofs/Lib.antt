@@ -8,6 +8,7 @@ pub mod Length
 pub mod Part
 pub mod RoundTrip
 pub mod Answered
+pub mod FacesBack
 pub mod Steps
 pub mod OneMore
 pub mod SoFar

@@ -39,6 +39,7 @@ use Rattle.rules.proofs.Form.{Formed, letter, plus, minus, dash, AllFormed, non
 use Rattle.rules.proofs.Rising.{found-none}
 use Rattle.rules.proofs.Line.{in-order}
 use Rattle.job.proofs.Lines.{all-not-bad}
+use Rattle.job.proofs.Room.{limit-roomed}
 use Rattle.job.proofs.Sections.{CountLine, count-says}
 use Rattle.job.proofs.Years.{between}
 use Rattle.job.proofs.InOrder.{wind-line, internal-line, step-line, face-line, height-line}
@@ -55,9 +56,21 @@ digits-mono = by-tens (λ n. (m : ℕ) → m ≤ n → length (digits m) ≤ len
     (λ t. omega (arith, length-small m (ltb-true m 10 t), length-more n h))
     (λ t. omega (arith, length-more m (ltb-false m 10 t), length-more n h, ih (m / 10) (omega arith))))
 
+-- the greatest count of a section in any year: no year has more than the fourth
+abbrev greatest : Section → ℕ
+greatest s = about s .most (pos 4)
+
+most-greatest : (year : ℤ) (s : Section) → about s .most year ≤ greatest s
+most-greatest year «V» = omega arith
+most-greatest year B = omega arith
+most-greatest year W = omega arith
+most-greatest year I = omega arith
+most-greatest year P = omega arith
+most-greatest year F = limit-roomed year
+
 -- the longest line in order, with its spaces and its LF
 unfoldable pub longestLine : Kind → ℕ
-longestLine (Count s) = 3 + length (digits (about s .most))
+longestLine (Count s) = 3 + length (digits (greatest s))
 longestLine (Entry «V») = 2
 longestLine (Entry B) = 30
 longestLine (Entry W) = 9
@@ -131,12 +144,15 @@ face-bytes false g (more letter (more m (more a (more b (more d none))))) o r =
       signed 5 d (omega (arith, o .z)),
     )
 
-count-bytes : (s : Section) (x : List Field) → CountLine s x → fieldBytes x ≤ 3 + length (digits (about s .most))
-count-bytes s x t = rw (t .is) (omega (arith, digits-mono (about s .most) (t .count) (t .counted .high)))
+count-bytes : (year : ℤ) (s : Section) (x : List Field) → CountLine year s x
+    → fieldBytes x ≤ 3 + length (digits (greatest s))
+count-bytes year s x t =
+    let h : t .count ≤ greatest s = omega (arith, t .counted .high, most-greatest year s) in
+    rw (t .is) (omega (arith, digits-mono (greatest s) (t .count) h))
 
 in-order-bytes : (k : Kind) (b : Before) (x : List Field) → lineFault k b x ≡ 0 → fieldBytes x ≤ longestLine k
 unfolding longestLine buildingFault
-in-order-bytes (Count s) b x z = count-bytes s x (count-says s b x z)
+in-order-bytes (Count s) b x z = count-bytes (b .year) s x (count-says s b x z)
 in-order-bytes (Entry «V») b x z =
     let o = in-order (Entry «V») b x z in
     year-bytes (o .formed) (between (pos 2) (pos lastYear) _ (o .none .0))
@@ -160,19 +176,19 @@ in-order-short k b l z =
 -- a count may call for as many entries as the section has at most
 unfoldable pub longest : List Kind → ℕ
 longest [] = 0
-longest (Count s ∷ ks) = longestLine (Count s) + about s .most * longestLine (Entry s) + longest ks
+longest (Count s ∷ ks) = longestLine (Count s) + greatest s * longestLine (Entry s) + longest ks
 longest (Entry s ∷ ks) = longestLine (Entry s) + longest ks
 
--- 4 + 2 for V, 4 + 30 for B, 4 + 8 · 9 for W, 4 + 4 · 5 for I, 5 + 16 · 11 for P, 5 + 24 · 36 for F
-longest-tall : longest (sheet true) ≡ 1190
+-- 4 + 2 for V, 4 + 30 for B, 4 + 8 · 9 for W, 4 + 4 · 5 for I, 5 + 16 · 11 for P, 6 + 240 · 36 for F
+longest-tall : longest (sheet true) ≡ 8967
 unfolding longest longestLine digits digitsWithin
 longest-tall = refl
 
-longest-plain : longest (sheet false) ≡ 1003
+longest-plain : longest (sheet false) ≡ 8780
 unfolding longest longestLine digits digitsWithin
 longest-plain = refl
 
-pub longest-sheet-is : (h : Bool) → longest (sheet h) ≤ 1190
+pub longest-sheet-is : (h : Bool) → longest (sheet h) ≤ 8967
 longest-sheet-is true = omega (arith, longest-tall)
 longest-sheet-is false = omega (arith, longest-plain)
 
@@ -183,7 +199,7 @@ longest-entries s zero ks = omega arith
 longest-entries s (suc n) ks = omega (arith, longest-entries s n ks, suc-mul n (longestLine (Entry s)))
 
 pub count-most : (s : Section) (b : Before) (x : List Field) → lineFault (Count s) b x ≡ 0
-    → size (at x 1) ≤ about s .most
+    → size (at x 1) ≤ about s .most (b .year)
 count-most s b x z = let t = count-says s b x z in rw (t .is) (t .counted .high)
 
 -- a line in order leaves room for the lines that are then called for
@@ -191,5 +207,6 @@ pub longest-on : (k : Kind) (ks : List Kind) (b : Before) (x : List Field) → l
     → longestLine k + longest (calls k x ++ ks) ≤ longest (k ∷ ks)
 unfolding longest
 longest-on (Count s) ks b x z =
-    omega (arith, longest-entries s (size (at x 1)) ks, mul-le-mul-right (longestLine (Entry s)) (count-most s b x z))
+    let h : size (at x 1) ≤ greatest s = omega (arith, count-most s b x z, most-greatest (b .year) s) in
+    omega (arith, longest-entries s (size (at x 1)) ks, mul-le-mul-right (longestLine (Entry s)) h)
 longest-on (Entry s) ks b x z = omega arith

@@ -1,60 +1,76 @@
--- Laws of a record with one entry more: it records what is then carried, what is judged by it, and it counts one more
--- of its section and none of a later one.
-use Prim.Native.Nat.{ℕ, zero, suc, _+_, _≤_, _<_}
+-- Laws of what is kept with one entry more: it is that of what is then carried, what is judged by it, and it counts one
+-- more of its section and none of a later one.
+use Prim.Native.Nat.{ℕ, zero, suc, _+_, _*_, _≤_}
 use mathlib.Core.Path.{_≡_, refl, sym}
 use mathlib.Core.Bool.{Bool, true, false}
 use mathlib.Core.List.{List, [], _∷_}
 use native.Mathlib.Omega.{arith}
 use lib.IntN.{ℤ, pos, negℤ}
 use lib.ListN.{length, getD, drop, set, length-append}
+use lib.Seq.{sets}
 use Rattle.whole.specs.Lists.{firstOf, Every}
-use Rattle.whole.proofs.Lists.{firstOf-more}
+use Rattle.whole.proofs.Lists.{firstOf-put}
 use Rattle.field.specs.declared.Field.{Field}
 use Rattle.entry.specs.declared.Step.{Step}
 use Rattle.building.specs.Year.{hasHeights}
+use Rattle.entry.specs.Flat.{perFace, numbersOf, flat}
 use Rattle.entry.specs.Says.{yearOf, buildingOf, windOf, internalOf, stepOf, faceOf}
+use Rattle.entry.proofs.Flat.{flat-put}
 use Rattle.rules.specs.declared.Before.{Before}
 use Rattle.rules.specs.declared.Section.{Section}
 use Rattle.rules.specs.declared.Section.the-variants.{«V», B, W, I, P, F}
 use Rattle.rules.specs.declared.Kind.the-variants.{Entry}
 use Rattle.rules.specs.Sections.{about, sections, sectionAt}
-use Rattle.job.specs.declared.Job.{Job}
-use Rattle.job.specs.Carried.{Carried, noWind, noStep, noFace, lowestOf, before, recorded}
+use Rattle.job.specs.declared.Setting.{Setting}
+use Rattle.job.specs.Carried.{Carried, noWind, noStep, lowestOf, before, recorded}
+use Rattle.job.specs.Setting.{settingIn}
 use Rattle.job.specs.Walk.{learn}
 use Rattle.job.proofs.Years.{last-height}
 
--- ---- what it records
+-- ---- what is kept
 
--- the entry that a line says, stored behind the others of its section
-abbrev pub stored : Section → List Field → Job → Job
-stored «V» fs j =
+-- while a text is read: the setting so far, how many faces there are, and the lent list
+pub record Kept : Type 0 where
+  pub setting : Setting
+  pub faces : ℕ
+  pub list : List ℤ
+
+-- that of what is carried, in a list of this length
+abbrev pub keptOf : ℕ → Carried → Kept
+keptOf lent c =
+    record {
+      setting = settingIn (recorded c);
+      faces = length (c .faces);
+      list = firstOf (pos 0) lent (flat (c .faces));
+    }
+
+-- the setting with the entry that a line says, stored behind the others of its section
+abbrev pub withEntry : Section → List Field → Setting → Setting
+withEntry «V» fs j =
     record {
       year = yearOf fs;
       building = j .building;
       winds = j .winds;
       internals = j .internals;
       profile = j .profile;
-      faces = j .faces;
     }
-stored B fs j =
+withEntry B fs j =
     record {
       year = j .year;
       building = buildingOf fs;
       winds = j .winds;
       internals = j .internals;
       profile = j .profile;
-      faces = j .faces;
     }
-stored W fs j =
+withEntry W fs j =
     record {
       year = j .year;
       building = j .building;
       winds = record { count = j .winds .count + 1; entry = set (j .winds .entry) (j .winds .count) (windOf fs) };
       internals = j .internals;
       profile = j .profile;
-      faces = j .faces;
     }
-stored I fs j =
+withEntry I fs j =
     record {
       year = j .year;
       building = j .building;
@@ -65,9 +81,8 @@ stored I fs j =
             entry = set (j .internals .entry) (j .internals .count) (internalOf fs);
           };
       profile = j .profile;
-      faces = j .faces;
     }
-stored P fs j =
+withEntry P fs j =
     record {
       year = j .year;
       building = j .building;
@@ -75,42 +90,41 @@ stored P fs j =
       internals = j .internals;
       profile =
           record { count = j .profile .count + 1; entry = set (j .profile .entry) (j .profile .count) (stepOf fs) };
-      faces = j .faces;
     }
-stored F fs j =
+withEntry F fs j = j
+
+-- and all that is kept with it
+abbrev pub stored : Section → List Field → Kept → Kept
+stored «V» fs k = record { setting = withEntry «V» fs (k .setting); faces = k .faces; list = k .list }
+stored B fs k = record { setting = withEntry B fs (k .setting); faces = k .faces; list = k .list }
+stored W fs k = record { setting = withEntry W fs (k .setting); faces = k .faces; list = k .list }
+stored I fs k = record { setting = withEntry I fs (k .setting); faces = k .faces; list = k .list }
+stored P fs k = record { setting = withEntry P fs (k .setting); faces = k .faces; list = k .list }
+stored F fs k =
     record {
-      year = j .year;
-      building = j .building;
-      winds = j .winds;
-      internals = j .internals;
-      profile = j .profile;
-      faces =
-          record {
-            count = j .faces .count + 1;
-            entry = set (j .faces .entry) (j .faces .count) (faceOf (hasHeights (j .year)) fs);
-          };
+      setting = k .setting;
+      faces = k .faces + 1;
+      list = sets (k .list) (perFace * k .faces) (numbersOf (faceOf (hasHeights (k .setting .year)) fs));
     }
 
--- how many entries of a section a record holds; its year and its building are no lists
-abbrev pub countIn : Job → Section → ℕ
-countIn j «V» = 0
-countIn j B = 0
-countIn j W = j .winds .count
-countIn j I = j .internals .count
-countIn j P = j .profile .count
-countIn j F = j .faces .count
+-- how many entries of a section are kept; the year and the building are no lists
+abbrev pub countIn : Kept → Section → ℕ
+countIn k «V» = 0
+countIn k B = 0
+countIn k W = k .setting .winds .count
+countIn k I = k .setting .internals .count
+countIn k P = k .setting .profile .count
+countIn k F = k .faces
 
-module _ (fs : List Field) {j : Job} (c : Carried) (e : j ≡ recorded c) where
-  pub stored-records : (t : Section) → countIn j t < about t .most → stored t fs j ≡ recorded (learn (Entry t) fs c)
-  unfolding recorded
-  stored-records «V» few = rw e
-  stored-records B few = rw e
-  stored-records W few = let q : length (c .winds) < 8 = rw e at few in rw (e, length-append, firstOf-more noWind 8)
-  stored-records I few =
-      let q : length (c .internals) < 4 = rw e at few in rw (e, length-append, firstOf-more (pos 0) 4)
-  stored-records P few =
-      let q : length (c .profile) < 16 = rw e at few in rw (e, length-append, firstOf-more noStep 16)
-  stored-records F few = let q : length (c .faces) < 24 = rw e at few in rw (e, length-append, firstOf-more noFace 24)
+pub stored-keeps : (lent : ℕ) (fs : List Field) {k : Kept} (c : Carried) → k ≡ keptOf lent c → (t : Section)
+    → stored t fs k ≡ keptOf lent (learn (Entry t) fs c)
+unfolding recorded
+stored-keeps lent fs c e «V» = rw e
+stored-keeps lent fs c e B = rw e
+stored-keeps lent fs c e W = rw (e, length-append, firstOf-put noWind 8)
+stored-keeps lent fs c e I = rw (e, length-append, firstOf-put (pos 0) 4)
+stored-keeps lent fs c e P = rw (e, length-append, firstOf-put noStep 16)
+stored-keeps lent fs c e F = rw (e, length-append, flat-put lent)
 
 -- ---- what the lines behind it are judged by
 
@@ -125,6 +139,16 @@ nextBefore I fs z b = b
 nextBefore P fs z b =
     record { year = b .year; building = b .building; lowest = z; highest = stepOf fs .height }
 nextBefore F fs z b = b
+
+-- a year that is read changes no limit of its own section
+pub most-kept : (t : Section) (fs : List Field) (z : ℤ) (b : Before)
+    → about t .most (nextBefore t fs z b .year) ≡ about t .most (b .year)
+most-kept «V» fs z b = refl
+most-kept B fs z b = refl
+most-kept W fs z b = refl
+most-kept I fs z b = refl
+most-kept P fs z b = refl
+most-kept F fs z b = refl
 
 pub lowest-recorded : (c : Carried) → getD (recorded c .profile .entry) 0 noStep .height ≡ lowestOf (c .profile)
 unfolding recorded firstOf
@@ -151,32 +175,33 @@ next-judges F fs c z e = refl
 
 -- ---- what it counts
 
-pub one-more : (t : Section) (c : Carried) (fs : List Field)
-    → countIn (recorded (learn (Entry t) fs c)) t ≤ countIn (recorded c) t + 1
+pub one-more : (lent : ℕ) (t : Section) (c : Carried) (fs : List Field)
+    → countIn (keptOf lent (learn (Entry t) fs c)) t ≤ countIn (keptOf lent c) t + 1
 unfolding recorded
-one-more «V» c fs = omega arith
-one-more B c fs = omega arith
-one-more W c fs = omega (arith, length-append (c .winds) (windOf fs ∷ []))
-one-more I c fs = omega (arith, length-append (c .internals) (internalOf fs ∷ []))
-one-more P c fs = omega (arith, length-append (c .profile) (stepOf fs ∷ []))
-one-more F c fs = omega (arith, length-append (c .faces) (faceOf (hasHeights (c .year)) fs ∷ []))
+one-more lent «V» c fs = omega arith
+one-more lent B c fs = omega arith
+one-more lent W c fs = omega (arith, length-append (c .winds) (windOf fs ∷ []))
+one-more lent I c fs = omega (arith, length-append (c .internals) (internalOf fs ∷ []))
+one-more lent P c fs = omega (arith, length-append (c .profile) (stepOf fs ∷ []))
+one-more lent F c fs = omega (arith, length-append (c .faces) (faceOf (hasHeights (c .year)) fs ∷ []))
 
--- of these sections a record holds nothing
-abbrev pub Unread : Job → List Section → Type 0
-Unread j ts = Every (λ t. countIn j t ≡ 0) ts
+-- of these sections nothing is kept
+abbrev pub Unread : Kept → List Section → Type 0
+Unread k ts = Every (λ t. countIn k t ≡ 0) ts
 
-pub none-later : (h : Bool) (i : ℕ) (c : Carried) (fs : List Field) → Unread (recorded c) (drop (suc i) (sections h))
-    → Unread (recorded (learn (Entry (sectionAt h i)) fs c)) (drop (suc i) (sections h))
+pub none-later : (lent : ℕ) (h : Bool) (i : ℕ) (c : Carried) (fs : List Field)
+    → Unread (keptOf lent c) (drop (suc i) (sections h))
+    → Unread (keptOf lent (learn (Entry (sectionAt h i)) fs c)) (drop (suc i) (sections h))
 unfolding recorded
-none-later true zero c fs u = u
-none-later true (suc zero) c fs u = u
-none-later true (suc (suc zero)) c fs u = u
-none-later true (suc (suc (suc zero))) c fs u = u
-none-later true (suc (suc (suc (suc zero)))) c fs u = u
-none-later true (suc (suc (suc (suc (suc zero))))) c fs u = tt
-none-later true (suc (suc (suc (suc (suc (suc n)))))) c fs u = tt
-none-later false zero c fs u = u
-none-later false (suc zero) c fs u = u
-none-later false (suc (suc zero)) c fs u = u
-none-later false (suc (suc (suc zero))) c fs u = tt
-none-later false (suc (suc (suc (suc n)))) c fs u = tt
+none-later lent true zero c fs u = u
+none-later lent true (suc zero) c fs u = u
+none-later lent true (suc (suc zero)) c fs u = u
+none-later lent true (suc (suc (suc zero))) c fs u = u
+none-later lent true (suc (suc (suc (suc zero)))) c fs u = u
+none-later lent true (suc (suc (suc (suc (suc zero))))) c fs u = tt
+none-later lent true (suc (suc (suc (suc (suc (suc n)))))) c fs u = tt
+none-later lent false zero c fs u = u
+none-later lent false (suc zero) c fs u = u
+none-later lent false (suc (suc zero)) c fs u = u
+none-later lent false (suc (suc (suc zero))) c fs u = tt
+none-later lent false (suc (suc (suc (suc n)))) c fs u = tt

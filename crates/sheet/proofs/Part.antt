@@ -1,4 +1,4 @@
--- An accepted sheet has at most 1190 bytes, and a part of a text that holds as much and a longest line in form decides
+-- An accepted sheet has at most 8967 bytes, and a part of a text that holds as much and a longest line in form decides
 -- the answer for the whole.
 use Prim.Native.Nat.{ℕ, zero, suc, _+_, _-_, _≤_, _<_}
 use mathlib.Core.Path.{_≡_, refl, ap, _∙_, sym}
@@ -83,7 +83,7 @@ walk-short (ended l t f b) (k ∷ ks) c e n a =
     )
 
 -- no accepted sheet is longer
-pub longest-sheet : (s : List ℕ) (c : Carried) → reading s ≡ Accepted c → length s ≤ 1190
+pub longest-sheet : (s : List ℕ) (c : Carried) → reading s ≡ Accepted c → length s ≤ 8967
 unfolding reading readLines
 longest-sheet s c a =
     let h = opening (linesIn s) in
@@ -154,7 +154,7 @@ walk-part (ended l t f b) (k ∷ ks) c n m h =
     (omega (arith, in-order-short k (before c) l z, longest-on k ks (before c) (fieldsOf l) z))))
 
 -- so for a whole sheet: its first line opens the part as well, or no sheet has that line
-sheet-part : {s : List ℕ} → ByLines s → (m : ℕ) → 1244 ≤ m → readLines (linesIn (take m s)) ≡ readLines (linesIn s)
+sheet-part : {s : List ℕ} → ByLines s → (m : ℕ) → 9021 ≤ m → readLines (linesIn (take m s)) ≡ readLines (linesIn s)
 unfolding readLines
 sheet-part none m h = rw take-nil
 sheet-part (unended x s f) m h = rw (rows-part m (x ∷ s) (omega arith) (omega arith) f, rows-open x s f)
@@ -175,7 +175,7 @@ sheet-part (ended l t f b) m h =
     (no-line (sheet (opening (fieldsOf l ∷ linesIn t))) nothing 1 (fieldsOf l) (linesIn t)
     (λ i b. line-long i b l (omega arith)))))
 
--- the first 1244 bytes, 1190 and 54 more, decide
-pub part-decides : (s : List ℕ) (n : ℕ) → 1244 ≤ n → reading (take n s) ≡ reading s
+-- the first 9021 bytes, 8967 and 54 more, decide
+pub part-decides : (s : List ℕ) (n : ℕ) → 9021 ≤ n → reading (take n s) ≡ reading s
 unfolding reading
 part-decides s n h = sheet-part (by-lines s) n h

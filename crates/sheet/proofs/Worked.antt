@@ -153,6 +153,10 @@ cases =
     ∷ case (plan "3" "1000 1000") 1 5
     ∷ case (plan "3" "999 1000") 4 4
     ∷ case (plan "2" "1001 1000") 1 5
+    -- and at most 24 faces up to year 3
+    ∷ case (tall "2" & "P 1\n600 500\nF 25\n") 2 11
+    ∷ case (tall "3" & "P 1\n600 500\nF 25\n") 2 11
+    ∷ case (tall "3" & "P 1\n600 500\nF 24\n") 1 12
     -- it has a profile, whose heights rise
     ∷ case (tall "2" & "F 1\nA 0 600 1 0 0\n") 1 9
     ∷ case (profile "P 0\n") 2 9

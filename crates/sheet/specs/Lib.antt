@@ -1,3 +1,4 @@
--- The text of a sheet and what it says, and the text of a job put into a lent buffer.
+-- The text of a sheet and what it says, with a record or without one, and the text of a job put into a lent buffer.
 pub mod Sheet
+pub mod Head
 pub mod Parts

@@ -1,18 +1,31 @@
-// The record that is all zero.
+// The setting that is all zero, and the face.
 use building::Building;
 use entry::Face;
 use entry::Step;
 use entry::Wind;
-use job::Faces;
 use job::Internals;
-use job::Job;
 use job::Profile;
+use job::Setting;
 use job::Winds;
 ghost use mathlib.Core.Path.{_≡_};
-ghost use Rattle.job.specs.Carried.{noJob};
+ghost use Rattle.job.specs.Carried.{noFace, noJob};
+ghost use Rattle.job.specs.Setting.{settingIn};
 
-pub(crate) fn no_job() -> Job
-    ensures { λ r. ⌜ r ≡ noJob ⌝ }
+pub(crate) fn no_face() -> Face
+    ensures { λ r. ⌜ r ≡ noFace ⌝ }
+{
+    Face {
+        zone: 0,
+        mark: 0,
+        height: 0,
+        x: 0,
+        y: 0,
+        z: 0,
+    }
+}
+
+pub(crate) fn no_setting() -> Setting
+    ensures { λ r. ⌜ r ≡ settingIn noJob ⌝ }
 {
     let building = Building {
         h: 0,
@@ -30,19 +43,10 @@ pub(crate) fn no_job() -> Job
         height: 0,
         factor: 0,
     };
-    let face = Face {
-        zone: 0,
-        mark: 0,
-        height: 0,
-        x: 0,
-        y: 0,
-        z: 0,
-    };
     let winds = [wind; 8];
     let internals = [0i64; 4];
     let steps = [step; 16];
-    let faces = [face; 24];
-    Job {
+    Setting {
         year: 0,
         building: building,
         winds: Winds {
@@ -56,10 +60,6 @@ pub(crate) fn no_job() -> Job
         profile: Profile {
             count: 0,
             entry: steps,
-        },
-        faces: Faces {
-            count: 0,
-            entry: faces,
         },
     }
 }

@@ -1,3 +1,4 @@
-// The sheet of a job: its text read.
+// The sheet of a job: its text read, into a record or without one.
 mod empty;
+mod flat;
 pub mod read;

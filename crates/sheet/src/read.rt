@@ -1,6 +1,10 @@
 // A sheet read: its sections in order, each its count and as many entries, up to the first fault; and nothing after
-// them.
-use crate::empty::no_job;
+// them. The faces are put into a lent list, and no record is made for the lines.
+use crate::empty::no_setting;
+use crate::flat::MOST_NUMBERS;
+use crate::flat::clear;
+use crate::flat::faces_in;
+use crate::flat::put_face;
 use building::year::has_heights;
 use entry::says::building_of;
 use entry::says::face_of;
@@ -14,6 +18,7 @@ use job::Faces;
 use job::Internals;
 use job::Job;
 use job::Profile;
+use job::Setting;
 use job::Winds;
 use lines::field_at;
 use lines::line_at;
@@ -28,9 +33,19 @@ ghost use mathlib.Core.Path.{_≡_};
 ghost use Rattle.verdict.specs.Verdict.{accepted};
 ghost use Rattle.lines.specs.Lines.{linesIn};
 ghost use Rattle.job.specs.Carried.{nothing};
-ghost use Rattle.job.specs.Walk.{Refused, walk, sheet};
-ghost use Rattle.sheet.specs.Parts.{jobOf};
+ghost use Rattle.job.specs.Setting.{recordWith};
+ghost use Rattle.job.specs.Walk.{Refused, verdict, walk, sheet};
+ghost use Rattle.sheet.specs.Head.{headOf, flatAfter};
+ghost use Rattle.sheet.specs.Parts.{settingOf};
 ghost use Rattle.sheet.specs.Sheet.{reading, answer};
+
+// What comes of reading without a record: accepted or refused, all of the job but its faces, and how many these are;
+// all zero where it is refused.
+pub struct Head {
+    pub verdict: Verdict,
+    pub setting: Setting,
+    pub faces: u32,
+}
 
 // What comes of reading: accepted or refused, and the job, all zero where it is refused.
 pub struct Read {
@@ -38,28 +53,34 @@ pub struct Read {
     pub job: Job,
 }
 
-fn refused(verdict: Verdict) -> Read
-    ensures { λ r. ⌜ r ≡ answer (Refused verdict) ⌝ }
+fn refused(verdict: Verdict, flat: &mut [i64]) -> Head
+    ensures { λ r. ⌜ (r ≡ headOf (Refused verdict))
+        × (now (flat .exit) ≡ flatAfter (Refused verdict) (now (flat .entry))) ⌝ }
 {
-    let job = no_job();
-    Read { verdict, job }
+    clear(flat);
+    let setting = no_setting();
+    Head {
+        verdict,
+        setting,
+        faces: 0,
+    }
 }
 
-fn accepted(b: Before, winds: Winds, internals: Internals, profile: Profile, faces: Faces) -> Read
-    ensures { λ r. ⌜ r ≡ record { verdict = accepted; job = jobOf b winds internals profile faces } ⌝ }
+fn accepted(b: Before, winds: Winds, internals: Internals, profile: Profile, faces: u32) -> Head
+    ensures { λ r. ⌜ r ≡ record { verdict = accepted; setting = settingOf b winds internals profile; faces = faces } ⌝ }
 {
     let building = b.building;
-    let job = Job {
+    let setting = Setting {
         year: b.year,
         building,
         winds,
         internals,
         profile,
-        faces,
     };
-    Read {
+    Head {
         verdict: Verdict { number: 0, line: 0 },
-        job,
+        setting,
+        faces,
     }
 }
 
@@ -71,12 +92,14 @@ fn opens_tall(s: &[u8]) -> bool
     letter_of(field_at(x, 0)) == b'V'
 }
 
-// What the text s says.
-pub fn read_sheet(s: &[u8]) -> Read
-    ensures { λ r. ⌜ r ≡ answer (reading (now (s .entry))) ⌝ }
+// What the text s says, with the faces in a lent list as far as it has room.
+pub fn read_into(s: &[u8], flat: &mut [i64]) -> Head
+    ensures { λ r. ⌜ (r ≡ headOf (reading (now (s .entry))))
+        × (now (flat .exit) ≡ flatAfter (reading (now (s .entry))) (now (flat .entry))) ⌝ }
 {
+    clear(flat);
     let heights = opens_tall(s);
-    let none = no_job();
+    let none = no_setting();
     let building = none.building;
     let mut b = Before {
         year: 1,
@@ -87,7 +110,7 @@ pub fn read_sheet(s: &[u8]) -> Read
     let mut winds = none.winds;
     let mut internals = none.internals;
     let mut profile = none.profile;
-    let mut faces = none.faces;
+    let mut faces: u32 = 0;
     let mut line: u32 = 1;
     let mut next: usize = 0;
     for i in 0..section_count(heights) {
@@ -96,7 +119,7 @@ pub fn read_sheet(s: &[u8]) -> Read
         let x = line_at(s, next);
         let n = line_fault(Kind::Count(sec), b, x);
         if n != 0 {
-            return refused(Verdict { number: n, line });
+            return refused(Verdict { number: n, line }, flat);
         }
         line += 1;
         next = x.next;
@@ -105,7 +128,7 @@ pub fn read_sheet(s: &[u8]) -> Read
             let x = line_at(s, next);
             let n = line_fault(Kind::Entry(sec), b, x);
             if n != 0 {
-                return refused(Verdict { number: n, line });
+                return refused(Verdict { number: n, line }, flat);
             }
             line += 1;
             next = x.next;
@@ -130,14 +153,51 @@ pub fn read_sheet(s: &[u8]) -> Read
                     b.highest = t.height;
                 }
                 Section::F => {
-                    faces.entry[faces.count as usize] = face_of(has_heights(b.year), x);
-                    faces.count += 1;
+                    put_face(flat, faces, face_of(has_heights(b.year), x));
+                    faces += 1;
                 }
             }
         }
     }
     if next < s.len() {
-        return refused(Verdict { number: 1, line });
+        return refused(Verdict { number: 1, line }, flat);
     }
     accepted(b, winds, internals, profile, faces)
+}
+
+// Its verdict alone.
+pub fn verdict_of(s: &[u8]) -> Verdict
+    ensures { λ r. ⌜ r ≡ verdict (reading (now (s .entry))) ⌝ }
+{
+    let mut none = [0i64; 1];
+    let head = read_into(s, &mut none);
+    head.verdict
+}
+
+fn with_faces(s: Setting, faces: Faces) -> Job
+    ensures { λ r. ⌜ r ≡ recordWith s faces ⌝ }
+{
+    let building = s.building;
+    let winds = s.winds;
+    let internals = s.internals;
+    let profile = s.profile;
+    Job {
+        year: s.year,
+        building,
+        winds,
+        internals,
+        profile,
+        faces,
+    }
+}
+
+// What the text s says, as a record.
+pub fn read_sheet(s: &[u8]) -> Read
+    ensures { λ r. ⌜ r ≡ answer (reading (now (s .entry))) ⌝ }
+{
+    let mut flat = [0i64; MOST_NUMBERS];
+    let head = read_into(s, &mut flat);
+    let verdict = head.verdict;
+    let job = with_faces(head.setting, faces_in(&flat, head.faces));
+    Read { verdict, job }
 }

@@ -1,0 +1,86 @@
+// Faces as plain numbers in a list, six for each: put there one by one, and taken out as a record.
+use crate::empty::no_face;
+use entry::Face;
+use job::Faces;
+use job::MOST_FACES;
+ghost use mathlib.Core.Path.{_≡_};
+ghost use mathlib.Core.List.{[]};
+ghost use Prim.Native.Nat.{_*_, _≤_, _<_};
+ghost use lib.IntN.{pos};
+ghost use lib.ListN.{length, set};
+ghost use lib.Seq.{sets};
+ghost use Rattle.whole.specs.Lists.{firstOf};
+ghost use Rattle.entry.specs.Flat.{perFace, numbersOf, faceIn, facesIn};
+ghost use Rattle.job.specs.Carried.{noFace, mostFaces};
+
+// The numbers of as many faces as a record has room for.
+pub(crate) const MOST_NUMBERS: usize = 6 * MOST_FACES;
+
+pub(crate) fn clear(flat: &mut [i64])
+    ensures { λ r. ⌜ now (flat .exit) ≡ firstOf (pos 0) (length (now (flat .entry))) [] ⌝ }
+{
+    let mut i: usize = 0;
+    while i < flat.len() {
+        flat[i] = 0;
+        i += 1;
+    }
+}
+
+// Where there is room for it.
+fn put_number(flat: &mut [i64], at: usize, z: i64)
+    ensures { λ r. ⌜ now (flat .exit) ≡ set (now (flat .entry)) at z ⌝ }
+{
+    if at < flat.len() {
+        flat[at] = z;
+    }
+}
+
+// Face n, from 0: those of its numbers that find no room are dropped.
+pub(crate) fn put_face(flat: &mut [i64], n: u32, f: Face)
+    ensures { λ r. ⌜ now (flat .exit) ≡ sets (now (flat .entry)) (perFace * n) (numbersOf f) ⌝ }
+{
+    let at = 6 * (n as usize);
+    put_number(flat, at, f.zone as i64);
+    put_number(flat, at + 1, f.mark);
+    put_number(flat, at + 2, f.height);
+    put_number(flat, at + 3, f.x);
+    put_number(flat, at + 4, f.y);
+    put_number(flat, at + 5, f.z);
+}
+
+// Face i, from 0.
+fn face_in(flat: &[i64; MOST_NUMBERS], i: usize) -> Face
+    requires { ⌜ i < mostFaces ⌝ }
+    ensures { λ r. ⌜ r ≡ faceIn (now (flat .entry)) i ⌝ }
+{
+    let at = 6 * i;
+    let zone = flat[at];
+    let mark = flat[at + 1];
+    let height = flat[at + 2];
+    let x = flat[at + 3];
+    let y = flat[at + 4];
+    let z = flat[at + 5];
+    Face {
+        zone: (whole::magnitude(zone) % 256) as u8,
+        mark,
+        height,
+        x,
+        y,
+        z,
+    }
+}
+
+// The first n faces as a record.
+pub(crate) fn faces_in(flat: &[i64; MOST_NUMBERS], n: u32) -> Faces
+    requires { ⌜ n ≤ mostFaces ⌝ }
+    ensures { λ r. ⌜ r ≡ record { count = n; entry = firstOf noFace mostFaces (facesIn n (now (flat .entry))) } ⌝ }
+{
+    let mut entry = [no_face(); MOST_FACES];
+    let count = n as usize;
+    let mut i: usize = 0;
+    while i < count {
+        entry[i] = face_in(flat, i);
+        i += 1;
+    }
+    Faces { count: n, entry }
+}
