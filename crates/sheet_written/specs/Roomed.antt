@@ -8,4 +8,4 @@ use Rattle.job.specs.Carried.{Carried}
 use Rattle.job.specs.Lines.{entriesOf}
 
 abbrev pub Roomed : Carried → Type 0
-Roomed c = Every (λ s. length (entriesOf c s) ≤ about s .most) (sections (hasHeights (c .year)))
+Roomed c = Every (λ s. length (entriesOf c s) ≤ about s .most (c .year)) (sections (hasHeights (c .year)))

@@ -29,7 +29,7 @@ ghost use Rattle.sheet_written.specs.Roomed.{Roomed};
 
 // A section: its count, and the entries.
 fn put_section(buf: &mut [u8], at: usize, j: Job, sec: Section) -> usize
-    requires { ⌜ length (entriesOf (carried j) sec) ≤ about sec .most ⌝ }
+    requires { ⌜ length (entriesOf (carried j) sec) ≤ about sec .most (j .year) ⌝ }
     ensures { λ r. ⌜ Put (now (buf .entry)) at (textOfLines (sectionOf sec (entriesOf (carried j) sec)))
         (now (buf .exit)) r ⌝ }
 {
@@ -84,7 +84,7 @@ fn put_sheet(buf: &mut [u8], j: Job) -> usize
     next
 }
 
-// The text of j at the start of `buf`; no accepted job has one of more than 1190 bytes.
+// The text of j at the start of `buf`; no accepted job has one of more than 8967 bytes.
 pub fn write_sheet(j: Job, buf: &mut [u8]) -> Writing
     ensures { λ r. ⌜ (r ≡ jobWriting sheetText (judged j) (now (buf .entry)))
         × (now (buf .exit) ≡ jobBuffer sheetText (judged j) (now (buf .entry))) ⌝ }
@@ -93,7 +93,7 @@ pub fn write_sheet(j: Job, buf: &mut [u8]) -> Writing
     if v.number != 0 {
         return Writing::Refused(v);
     }
-    let mut page = [0u8; 1190];
+    let mut page = [0u8; 8967];
     let n = put_sheet(&mut page, j);
     page::emit(&page, n, buf)
 }

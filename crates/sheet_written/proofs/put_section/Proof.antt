@@ -16,12 +16,13 @@ use Rattle.page.proofs.Put.{put-length}
 use Rattle.rules.specs.declared.Section.{Section}
 use Rattle.rules.specs.declared.Section.the-variants.{W, I, P, F}
 use Rattle.job.specs.declared.Job.{Job}
-use Rattle.job.specs.Carried.{noFace, carried}
+use Rattle.job.specs.Carried.{noFace, carried, mostFaces}
 use Rattle.rules.specs.Sections.{about}
 use Rattle.entry_written.specs.Fields.{yearFields, internalFields, faceFields}
 use Rattle.job.specs.Lines.{entriesOf}
 use Rattle.job.proofs.Sections.{countLine}
-use Rattle.job.proofs.Alone.{entryOf, most-24}
+use Rattle.job.proofs.Alone.{entryOf}
+use Rattle.job.proofs.Room.{most-roomed}
 use Rattle.sheet_written.proofs.Puts.{entry-held, put-none, put-entry, put-all}
 use borrow.Author.Needs.{needs, sfits-of}
 use Rattle.sheet_written.proofs.put_section.Statement.{statement}
@@ -51,11 +52,12 @@ module _ (c : tie.In-loop Inv-loop μ-loop) where
   abbrev i : ℕ
   i = c .before .loop .i
 
-  below : (t : Section) → start .args .sec ≡ t → i < about t .most
-  below t e = subst (λ (u : Section). i < about u .most) e (omega (arith, within, start .pre))
+  below : (t : Section) → start .args .sec ≡ t → i < about t .most (start .args .j .year)
+  below t e =
+      subst (λ (u : Section). i < about u .most (start .args .j .year)) e (omega (arith, within, start .pre))
 
-  below-24 : i < 24
-  below-24 = omega (arith, within, start .pre, most-24 (start .args .sec))
+  below-most : i < mostFaces
+  below-most = omega (arith, within, start .pre, most-roomed (start .args .j .year) (start .args .sec))
 
   heights-are : tested .has-heights .result ≡ hasHeights (start .args .j .year)
   heights-are =
@@ -65,7 +67,7 @@ loop-holds : tie.Need-loop-holds Inv-loop μ-loop
 loop-holds c = (search needs, put-none (c .before .before .put-line .ensures))
 
 cast-k : tie.Need-cast-k Inv-loop μ-loop
-cast-k c = record { fits = omega (arith, below-24 c) }
+cast-k c = record { fits = omega (arith, below-most c) }
 
 -- the line that was made is entry i
 module _ (c : tie.At-match-came Inv-loop μ-loop) where
@@ -99,7 +101,7 @@ module _ (c : tie.At-match-came Inv-loop μ-loop) where
       of-section e = ap (λ (t : Section). heldLine 0 (entryOf job t (i (c .before)))) (sym e)
 
 add-i : tie.Need-add-i Inv-loop μ-loop
-add-i c = record { fits = omega (arith, below-24 (c .before .before .before .before .before)) }
+add-i c = record { fits = omega (arith, below-most (c .before .before .before .before .before)) }
 
 loop-again : tie.Need-loop-again Inv-loop μ-loop
 loop-again c =
@@ -135,11 +137,11 @@ put-section-spec =
     (tie.spec Inv-loop μ-loop (λ c κs. search needs) (λ c κs. search needs) (λ c κs. search needs)
     (λ c κs. search needs) loop-holds cast-k (λ c. search needs) (λ c κs. search needs) (λ c. search needs)
     (λ c κs. search needs) (λ c. search needs)
-    (λ c. omega (arith, below-24 (c .before .before))) (λ c. below (c .before .before) W (c .enum-told3 .given .1))
+    (λ c. omega (arith, below-most (c .before .before))) (λ c. below (c .before .before) W (c .enum-told3 .given .1))
     (λ c κs. search needs) (λ c. search needs)
-    (λ c. omega (arith, below-24 (c .before .before))) (λ c. below (c .before .before) I (c .enum-told4 .given .1))
+    (λ c. omega (arith, below-most (c .before .before))) (λ c. below (c .before .before) I (c .enum-told4 .given .1))
     (λ c κs. search needs) (λ c. search needs)
-    (λ c. omega (arith, below-24 (c .before .before))) (λ c. below (c .before .before) P (c .enum-told5 .given .1))
+    (λ c. omega (arith, below-most (c .before .before))) (λ c. below (c .before .before) P (c .enum-told5 .given .1))
     (λ c κs. search needs) (λ c. search needs)
-    (λ c. omega (arith, below-24 (c .before .before))) (λ c. below (c .before .before) F (c .enum-told6 .given .1))
+    (λ c. omega (arith, below-most (c .before .before))) (λ c. below-most (c .before .before))
     (λ c κs. search needs) (λ c κs. search needs) add-i (λ c. search needs) loop-again same-length returns)

@@ -65,7 +65,7 @@ put-section-requires : tie.Need-put-section-requires Inv-loop μ-loop
 unfolding carried
 put-section-requires c κs =
     let t = turn c in
-    subst (λ (s : Section). length (entriesOf (carried (job t)) s) ≤ about s .most) (sym (section-is c))
+    subst (λ (s : Section). length (entriesOf (carried (job t)) s) ≤ about s .most (job t .year)) (sym (section-is c))
     (every-at _ (sections (hasHeights (job t .year))) «V» (t .loop .i) (few c) (start t .pre))
 
 loop-again : tie.Need-loop-again Inv-loop μ-loop
