@@ -16,6 +16,10 @@ use Rattle.book.specs.declared.Values.{Values}
 use Rattle.book.specs.declared.Values.the-variants.{One, Two}
 use Rattle.panel.specs.declared.Panel.{Panel}
 use Rattle.panel.specs.declared.Panel.the-variants.{Exact, Between}
+use Rattle.building.specs.Year.{hasLongSheds}
+use Rattle.pair.specs.declared.Pair.{Pair}
+use Rattle.pair.specs.Total.{asUnits}
+use Rattle.job.specs.Carried.{mostFaces}
 use Rattle.job.specs.Walk.{Reading, Accepted, Refused}
 use Rattle.worst.specs.declared.Extreme as worst
 use Rattle.worst.specs.declared.Six.{Six}
@@ -71,17 +75,25 @@ noHostExtreme v =
     record {
       verdict = v;
       total = pos 0;
+      newtons = pos 0;
+      remainder = 0;
       wind = 0;
       internal = 0;
       faces = 0;
-      alternative = replicate 24 0;
+      alternative = replicate mostFaces 0;
     }
 
-abbrev pub hostExtreme : worst.Extreme → Extreme
-hostExtreme e =
+-- the total in units, which from year 4 on is 0: there it is the newtons and the remainder alone
+abbrev pub hostUnits : ℤ → Pair → ℤ
+hostUnits year p = cond (hasLongSheds year) (pos 0) (asUnits p)
+
+abbrev pub hostExtreme : ℤ → worst.Extreme → Extreme
+hostExtreme year e =
     record {
       verdict = accepted;
-      total = e .total;
+      total = hostUnits year (e .total);
+      newtons = e .total .newtons;
+      remainder = e .total .remainder;
       wind = e .wind;
       internal = e .internal;
       faces = e .faces;
@@ -89,21 +101,21 @@ hostExtreme e =
     }
 
 -- x max, x min, y max, y min, z max, z min; no other line
-unfoldable pub reportLine : Six → ℕ → Extreme
-reportLine s n =
-    cond (eqb n 1) (hostExtreme (s .x .greatest))
-    (cond (eqb n 2) (hostExtreme (s .x .least))
-    (cond (eqb n 3) (hostExtreme (s .y .greatest))
-    (cond (eqb n 4) (hostExtreme (s .y .least))
-    (cond (eqb n 5) (hostExtreme (s .z .greatest))
-    (cond (eqb n 6) (hostExtreme (s .z .least))
+unfoldable pub reportLine : ℤ → Six → ℕ → Extreme
+reportLine year s n =
+    cond (eqb n 1) (hostExtreme year (s .x .greatest))
+    (cond (eqb n 2) (hostExtreme year (s .x .least))
+    (cond (eqb n 3) (hostExtreme year (s .y .greatest))
+    (cond (eqb n 4) (hostExtreme year (s .y .least))
+    (cond (eqb n 5) (hostExtreme year (s .z .greatest))
+    (cond (eqb n 6) (hostExtreme year (s .z .least))
     (noHostExtreme (refusal 3 0)))))))
 
-abbrev pub hostLine : Six → ℤ → Extreme
-hostLine s (pos n) = reportLine s n
-hostLine s (negsuc n) = noHostExtreme (refusal 3 0)
+abbrev pub hostLine : ℤ → Six → ℤ → Extreme
+hostLine year s (pos n) = reportLine year s n
+hostLine year s (negsuc n) = noHostExtreme (refusal 3 0)
 
 -- the sheet's own refusal first
 abbrev pub hostTotal : Reading → ℤ → Extreme
-hostTotal (Accepted c) line = hostLine (sixExtremes c) line
+hostTotal (Accepted c) line = hostLine (c .year) (sixExtremes c) line
 hostTotal (Refused v) line = noHostExtreme v

@@ -2,12 +2,14 @@
 // one. Each that can refuse begins with a verdict: its number and line are the first two fields in C.
 use book::Cited;
 use book::Values;
+use building::year::has_long_sheds;
 use page::Writing;
+use pair::Pair;
 use panel::Panel;
 use verdict::Verdict;
 ghost use mathlib.Core.Path.{_≡_};
 ghost use Rattle.answers.specs.Answers.{noHostText, hostText, hostCited, hostValues, hostCoefficient};
-ghost use Rattle.answers.specs.Answers.{hostDouble, noHostExtreme, hostExtreme, hostLine};
+ghost use Rattle.answers.specs.Answers.{hostDouble, noHostExtreme, hostUnits, hostExtreme, hostLine};
 
 // The length of a text that is written, 0 where it is refused.
 #[repr(C)]
@@ -29,15 +31,17 @@ pub struct Coefficient {
     pub whole: u32,
 }
 
-// A total with the first case that reaches it, all zero where it is refused.
+// A total, in units and as newtons with a remainder, and the first case that reaches it; all zero where it is refused.
 #[repr(C)]
 pub struct Extreme {
     pub verdict: Verdict,
     pub total: i64,
+    pub newtons: i64,
+    pub remainder: u64,
     pub wind: u32,
     pub internal: u32,
     pub faces: u32,
-    pub alternative: [u8; 24],
+    pub alternative: [u8; 240],
 }
 
 // Where exact is 1, low and high are the number.
@@ -131,10 +135,12 @@ pub fn double_of(p: Panel) -> Double
 pub fn no_extreme(v: Verdict) -> Extreme
     ensures { λ r. ⌜ r ≡ noHostExtreme v ⌝ }
 {
-    let alternative = [0u8; 24];
+    let alternative = [0u8; 240];
     Extreme {
         verdict: v,
         total: 0,
+        newtons: 0,
+        remainder: 0,
         wind: 0,
         internal: 0,
         faces: 0,
@@ -142,13 +148,26 @@ pub fn no_extreme(v: Verdict) -> Extreme
     }
 }
 
-fn extreme_of(e: worst::Extreme) -> Extreme
-    ensures { λ r. ⌜ r ≡ hostExtreme e ⌝ }
+// A total in units, which from year 4 on is 0.
+fn units_of(year: i64, p: Pair) -> i64
+    ensures { λ r. ⌜ r ≡ hostUnits year p ⌝ }
 {
+    if has_long_sheds(year) {
+        return 0;
+    }
+    pair::as_units(p)
+}
+
+fn extreme_of(year: i64, e: worst::Extreme) -> Extreme
+    ensures { λ r. ⌜ r ≡ hostExtreme year e ⌝ }
+{
+    let p = e.total;
     let alternative = e.alternative;
     Extreme {
         verdict: Verdict { number: 0, line: 0 },
-        total: e.total,
+        total: units_of(year, p),
+        newtons: p.newtons,
+        remainder: p.remainder,
         wind: e.wind,
         internal: e.internal,
         faces: e.faces,
@@ -156,17 +175,17 @@ fn extreme_of(e: worst::Extreme) -> Extreme
     }
 }
 
-// One line of the report, counted from 1.
-pub fn line_of(six: worst::Six, line: i64) -> Extreme
-    ensures { λ r. ⌜ r ≡ hostLine six line ⌝ }
+// One line of the report of a job of this year, counted from 1.
+pub fn line_of(year: i64, six: worst::Six, line: i64) -> Extreme
+    ensures { λ r. ⌜ r ≡ hostLine year six line ⌝ }
 {
     match line {
-        1 => extreme_of(six.x.greatest),
-        2 => extreme_of(six.x.least),
-        3 => extreme_of(six.y.greatest),
-        4 => extreme_of(six.y.least),
-        5 => extreme_of(six.z.greatest),
-        6 => extreme_of(six.z.least),
+        1 => extreme_of(year, six.x.greatest),
+        2 => extreme_of(year, six.x.least),
+        3 => extreme_of(year, six.y.greatest),
+        4 => extreme_of(year, six.y.least),
+        5 => extreme_of(year, six.z.greatest),
+        6 => extreme_of(year, six.z.least),
         _ => no_extreme(Verdict { number: 3, line: 0 }),
     }
 }

@@ -7,7 +7,7 @@ use Rattle.building.specs.Test.{is, within}
 
 -- a sheet of year 1 does not say its year; a later one says 2, or a year up to this
 abbrev pub lastYear : ℕ
-lastYear = 3
+lastYear = 4
 
 abbrev pub isYear : ℤ → Bool
 isYear year = within (pos 1) (pos lastYear) year
@@ -20,9 +20,13 @@ hasHeights year = not (is (pos 1) year)
 abbrev pub hasSquares : ℤ → Bool
 hasSquares year = ltZ (pos 2) year
 
--- the most faces that a sheet of a year may have: from year 4 on those of a quay shed
+-- from year 4 on there are long sheds, whose totals are shown as newtons with a remainder
+abbrev pub hasLongSheds : ℤ → Bool
+hasLongSheds year = ltZ (pos 3) year
+
+-- the most faces that a sheet of a year may have
 abbrev pub faceLimit : ℤ → ℕ
-faceLimit year = cond (ltZ (pos 3) year) 240 24
+faceLimit year = cond (hasLongSheds year) 240 24
 
 -- where the building stands in its sheet: behind the year, where that is said
 abbrev pub buildingLine : ℤ → ℕ

@@ -1,10 +1,10 @@
 // The year of a sheet, and what goes by it.
 ghost use mathlib.Core.Path.{_≡_};
-ghost use Rattle.building.specs.Year.{isYear, hasHeights, hasSquares, faceLimit, buildingLine};
+ghost use Rattle.building.specs.Year.{isYear, hasHeights, hasSquares, hasLongSheds, faceLimit, buildingLine};
 use super::limits::beyond;
 
 // The last year that a sheet may say.
-pub const LAST_YEAR: i64 = 3;
+pub const LAST_YEAR: i64 = 4;
 
 pub(crate) fn is_year(year: i64) -> bool
     ensures { λ r. ⌜ r ≡ isYear year ⌝ }
@@ -29,11 +29,18 @@ pub(crate) fn has_squares(year: i64) -> bool
     2 < year
 }
 
-// The most faces that a sheet of a year may have: from year 4 on those of a quay shed.
+// From year 4 on there are long sheds, whose totals are shown as newtons with a remainder.
+pub fn has_long_sheds(year: i64) -> bool
+    ensures { λ r. ⌜ r ≡ hasLongSheds year ⌝ }
+{
+    3 < year
+}
+
+// The most faces that a sheet of a year may have.
 pub fn face_limit(year: i64) -> u32
     ensures { λ r. ⌜ r ≡ faceLimit year ⌝ }
 {
-    if 3 < year {
+    if has_long_sheds(year) {
         return 240;
     }
     24

@@ -8,7 +8,7 @@ use lib.IntN.{ℤ, pos, _+ℤ_, _*ℤ_}
 use Rattle.whole.specs.Newton.{newton, newtons, remainder}
 use Rattle.whole.proofs.Newton.{remainder-small, newtons-and-remainder, newtons-unique}
 use Rattle.pair.specs.declared.Pair.{Pair}
-use Rattle.pair.specs.Total.{pairOf, units, proper}
+use Rattle.pair.specs.Total.{pairOf, units, noPair, proper}
 
 pub units-pairOf : (z : ℤ) → units (pairOf z) ≡ z
 units-pairOf z = newtons-and-remainder z
@@ -31,3 +31,6 @@ pair-is q r h =
 
 pub pairOf-units : (p : Pair) → proper p ≡ true → pairOf (units p) ≡ p
 pairOf-units p h = sym (pair-is (p .newtons) (p .remainder) (ltb-true (p .remainder) newton h))
+
+pub no-pair : noPair ≡ pairOf (pos 0)
+no-pair = pair-is (pos 0) 0 (omega arith)

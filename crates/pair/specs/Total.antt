@@ -15,6 +15,10 @@ pairOf total = record { newtons = newtons total; remainder = remainder total }
 abbrev pub units : Pair → ℤ
 units p = p .newtons *ℤ pos newton +ℤ pos (p .remainder)
 
+-- nothing
+abbrev pub noPair : Pair
+noPair = record { newtons = pos 0; remainder = 0 }
+
 -- its remainder is less than 1 N, as that of every total is
 abbrev pub proper : Pair → Bool
 proper p = ltb (p .remainder) newton

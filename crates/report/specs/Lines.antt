@@ -1,9 +1,14 @@
--- The six lines: x, y and z, each with its greatest and its least total. After the total come wind, internal and each
--- face's alternative.
+-- The six lines: x, y and z, each with its greatest and its least total, as its year shows it. After the total come
+-- wind, internal and each face's alternative.
 use Prim.Native.Nat.{ℕ}
 use mathlib.Core.List.{List, [], _∷_, _++_}
+use mathlib.Core.Bool.{cond}
+use lib.IntN.{ℤ}
 use lib.ListN.{take}
 use Rattle.whole.specs.Digits.{digits, decimal}
+use Rattle.building.specs.Year.{hasLongSheds}
+use Rattle.pair.specs.declared.Pair.{Pair}
+use Rattle.pair.specs.Total.{units}
 use Rattle.worst.specs.declared.Extreme.{Extreme}
 use Rattle.worst.specs.declared.Extremes.{Extremes}
 use Rattle.worst.specs.declared.Six.{Six}
@@ -34,11 +39,17 @@ spaced (n ∷ ns) = 32 ∷ digits n ++ spaced ns
 abbrev pub caseNumbers : Extreme → List ℕ
 caseNumbers e = e .wind ∷ e .internal ∷ take (e .faces) (e .alternative)
 
-unfoldable pub extremeText : ℕ → List ℕ → Extreme → List ℕ
-extremeText axis word e = (axis ∷ word) ++ (decimal (e .total) ++ (spaced (caseNumbers e) ++ (10 ∷ [])))
+-- a total: its units, and from year 4 on its newtons and the remainder, separated by a space
+unfoldable pub totalText : ℤ → Pair → List ℕ
+totalText year p =
+    cond (hasLongSheds year) (decimal (p .newtons) ++ (32 ∷ digits (p .remainder))) (decimal (units p))
 
-unfoldable pub axisText : ℕ → Extremes → List ℕ
-axisText axis e = extremeText axis max (e .greatest) ++ extremeText axis min (e .least)
+unfoldable pub extremeText : ℤ → ℕ → List ℕ → Extreme → List ℕ
+extremeText year axis word e =
+    (axis ∷ word) ++ (totalText year (e .total) ++ (spaced (caseNumbers e) ++ (10 ∷ [])))
 
-unfoldable pub sixText : Six → List ℕ
-sixText s = axisText x (s .x) ++ (axisText y (s .y) ++ axisText z (s .z))
+unfoldable pub axisText : ℤ → ℕ → Extremes → List ℕ
+axisText year axis e = extremeText year axis max (e .greatest) ++ extremeText year axis min (e .least)
+
+unfoldable pub sixText : ℤ → Six → List ℕ
+sixText year s = axisText year x (s .x) ++ (axisText year y (s .y) ++ axisText year z (s .z))

@@ -13,15 +13,15 @@ use Rattle.job.specs.Walk.{Reading, Accepted, Refused}
 use Rattle.worst.specs.declared.Stored.{Stored}
 use Rattle.worst.specs.declared.Reckoning.{Reckoning}
 use Rattle.worst.specs.Worst.{sixExtremes}
-use Rattle.worst.specs.Stored.{sixBy}
+use Rattle.worst.specs.Stored.{sixBy, telling}
 use Rattle.report.specs.Lines.{spaced, sixText}
 
 unfoldable pub reportText : Carried → List ℕ
-reportText c = sixText (sixExtremes c)
+reportText c = sixText (c .year) (sixExtremes c)
 
--- the six lines that stored sums tell
+-- the six lines that stored sums tell, where a job of its year can have such sums
 unfoldable pub storedText : Stored → Carried → List ℕ
-storedText t c = sixText (sixBy t c)
+storedText t c = sixText (c .year) (sixBy (telling t c) c)
 
 -- "refused"
 abbrev pub refused : List ℕ
@@ -38,7 +38,8 @@ totalsText (Refused v) = refusedText v
 
 -- what was reckoned, put into a buffer: a refusal, or its six lines
 abbrev pub sixWriting : Reckoning → List ℕ → Writing
-sixWriting w buf = cond (eqb (w .verdict .number) 0) (writing (sixText (w .six)) buf) (written.Refused (w .verdict))
+sixWriting w buf =
+    cond (eqb (w .verdict .number) 0) (writing (sixText (w .year) (w .six)) buf) (written.Refused (w .verdict))
 
 abbrev pub sixBuffer : Reckoning → List ℕ → List ℕ
-sixBuffer w buf = cond (eqb (w .verdict .number) 0) (bufferAfter (sixText (w .six)) buf) buf
+sixBuffer w buf = cond (eqb (w .verdict .number) 0) (bufferAfter (sixText (w .year) (w .six)) buf) buf

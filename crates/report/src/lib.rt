@@ -9,26 +9,50 @@ ghost use Rattle.job.specs.Walk.{judged};
 ghost use Rattle.sheet.specs.Sheet.{reading, jobWriting, jobBuffer};
 ghost use Rattle.plain.specs.Plain.{plainly};
 ghost use Rattle.report.specs.Report.{reportText, storedText, totalsText, sixWriting, sixBuffer};
-ghost use Rattle.report.specs.Short.{ShortCase, AllSix};
+ghost use Rattle.report.specs.Lines.{sixText};
+ghost use Rattle.report.specs.Short.{facesOf, SixPrintable};
+ghost use Prim.Native.Nat.{_≤_};
 
 mod refusal;
 mod six;
 
+// Six lines of at most 24 faces, which are 492 bytes at most; and of at most 240 faces, which are 3084.
+fn write_short(w: Reckoning, buf: &mut [u8]) -> Writing
+    requires { ⌜ SixPrintable w × (facesOf (w .six) ≤ 24) ⌝ }
+    ensures { λ r. ⌜ (r ≡ writing (sixText (w .year) (w .six)) (now (buf .entry)))
+        × (now (buf .exit) ≡ bufferAfter (sixText (w .year) (w .six)) (now (buf .entry))) ⌝ }
+{
+    let mut text = [0u8; 492];
+    let n = six::put_six(&mut text, 0, w.year, w.six);
+    page::emit(&text, n, buf)
+}
+
+fn write_long(w: Reckoning, buf: &mut [u8]) -> Writing
+    requires { ⌜ SixPrintable w ⌝ }
+    ensures { λ r. ⌜ (r ≡ writing (sixText (w .year) (w .six)) (now (buf .entry)))
+        × (now (buf .exit) ≡ bufferAfter (sixText (w .year) (w .six)) (now (buf .entry))) ⌝ }
+{
+    let mut text = [0u8; 3084];
+    let n = six::put_six(&mut text, 0, w.year, w.six);
+    page::emit(&text, n, buf)
+}
+
 // What was reckoned of a job: its own refusal, or six lines at the start of `buf`.
 fn write_six(w: Reckoning, buf: &mut [u8]) -> Writing
-    requires { ⌜ (w .verdict .number ≡ 0 → AllSix ShortCase (w .six)) ⌝ }
+    requires { ⌜ (w .verdict .number ≡ 0 → SixPrintable w) ⌝ }
     ensures { λ r. ⌜ (r ≡ sixWriting w (now (buf .entry))) × (now (buf .exit) ≡ sixBuffer w (now (buf .entry))) ⌝ }
 {
     let v = w.verdict;
     if v.number != 0 {
         return Writing::Refused(v);
     }
-    let mut text = [0u8; 474];
-    let n = six::put_six(&mut text, 0, w.six);
-    page::emit(&text, n, buf)
+    if w.six.x.greatest.faces <= 24 {
+        return write_short(w, buf);
+    }
+    write_long(w, buf)
 }
 
-// The report of j at the start of `buf`. None is longer than 474 bytes.
+// The report of j at the start of `buf`. None is longer than 3084 bytes.
 pub fn write_report(j: Job, buf: &mut [u8]) -> Writing
     ensures { λ r. ⌜ (r ≡ jobWriting reportText (judged j) (now (buf .entry)))
         × (now (buf .exit) ≡ jobBuffer reportText (judged j) (now (buf .entry))) ⌝ }
@@ -53,14 +77,22 @@ pub fn write_plain(j: Job, buf: &mut [u8]) -> Writing
     write_six(plain::plain_cases(j), buf)
 }
 
+// The report of the sheet s, of which no record is made.
+pub fn write_read(s: &[u8], buf: &mut [u8]) -> Writing
+    ensures { λ r. ⌜ (r ≡ jobWriting reportText (reading (now (s .entry))) (now (buf .entry)))
+        × (now (buf .exit) ≡ jobBuffer reportText (reading (now (s .entry))) (now (buf .entry))) ⌝ }
+{
+    write_six(worst::worst_in(s), buf)
+}
+
 // What the program `totals` writes for the sheet s: its report, or one line that refuses it.
 pub fn write_totals(s: &[u8], buf: &mut [u8]) -> Writing
     ensures { λ r. ⌜ (r ≡ writing (totalsText (reading (now (s .entry)))) (now (buf .entry)))
         × (now (buf .exit) ≡ bufferAfter (totalsText (reading (now (s .entry)))) (now (buf .entry))) ⌝ }
 {
-    let r = sheet::read::read_sheet(s);
-    if r.verdict.number != 0 {
-        return refusal::write_refused(r.verdict, buf);
+    let w = worst::worst_in(s);
+    if w.verdict.number != 0 {
+        return refusal::write_refused(w.verdict, buf);
     }
-    write_report(r.job, buf)
+    write_six(w, buf)
 }

@@ -1,4 +1,6 @@
 // The text of the six lines, put after one another.
+use building::year::has_long_sheds;
+use pair::Pair;
 use worst::Extreme;
 use worst::Extremes;
 use worst::Six;
@@ -6,8 +8,8 @@ ghost use lib.ListN.{take};
 ghost use mathlib.Core.Path.{_≡_};
 ghost use mathlib.Core.List.{[], _∷_};
 ghost use Rattle.page.specs.Writing.{Put};
-ghost use Rattle.report.specs.Lines.{spaced, caseNumbers, extremeText, axisText, sixText};
-ghost use Rattle.report.specs.Short.{ShortTotal, Both, AllSix};
+ghost use Rattle.report.specs.Lines.{spaced, caseNumbers, totalText, extremeText, axisText, sixText};
+ghost use Rattle.report.specs.Short.{Fair, Both, AllSix};
 
 fn wide(n: u8) -> u32
     ensures { λ r. ⌜ r ≡ n ⌝ }
@@ -39,11 +41,11 @@ fn put_numbers(buf: &mut [u8], at: usize, ns: &[u8]) -> usize
     next
 }
 
-// The alternatives of the faces, of which an array holds 24 at most.
-fn put_alternatives(buf: &mut [u8], at: usize, alternative: [u8; 24], faces: usize) -> usize
+// The alternatives of the faces, of which an array holds 240 at most.
+fn put_alternatives(buf: &mut [u8], at: usize, alternative: [u8; 240], faces: usize) -> usize
     ensures { λ r. ⌜ Put (now (buf .entry)) at (spaced (take faces alternative)) (now (buf .exit)) r ⌝ }
 {
-    if faces < 24 {
+    if faces < 240 {
         return put_numbers(buf, at, &alternative[..faces]);
     }
     put_numbers(buf, at, &alternative)
@@ -59,30 +61,45 @@ fn put_case(buf: &mut [u8], at: usize, e: Extreme) -> usize
     put_alternatives(buf, inside, alternative, e.faces as usize)
 }
 
+// A total: its units, and from year 4 on its newtons and the remainder.
+fn put_total(buf: &mut [u8], at: usize, year: i64, p: Pair) -> usize
+    requires { ⌜ Fair year p ⌝ }
+    ensures { λ r. ⌜ Put (now (buf .entry)) at (totalText year p) (now (buf .exit)) r ⌝ }
+{
+    if has_long_sheds(year) {
+        let whole = digits::put_decimal(buf, at, p.newtons);
+        let parted = page::put_byte(buf, whole, b' ');
+        return digits::put_natural(buf, parted, p.remainder);
+    }
+    digits::put_decimal(buf, at, pair::as_units(p))
+}
+
 // One line: the axis, the word, the total and the numbers of its case.
-fn put_line(buf: &mut [u8], at: usize, axis: u8, word: &[u8; 5], e: Extreme) -> usize
-    ensures { λ r. ⌜ Put (now (buf .entry)) at (extremeText axis (now (word .entry)) e) (now (buf .exit)) r
-        × ShortTotal e ⌝ }
+fn put_line(buf: &mut [u8], at: usize, year: i64, axis: u8, word: &[u8; 5], e: Extreme) -> usize
+    requires { ⌜ Fair year (e .total) ⌝ }
+    ensures { λ r. ⌜ Put (now (buf .entry)) at (extremeText year axis (now (word .entry)) e) (now (buf .exit)) r ⌝ }
 {
     let named = page::put_byte(buf, at, axis);
     let worded = page::put_bytes(buf, named, word);
-    let totalled = digits::put_decimal(buf, worded, e.total);
+    let totalled = put_total(buf, worded, year, e.total);
     let cased = put_case(buf, totalled, e);
     page::put_byte(buf, cased, b'\n')
 }
 
-fn put_axis(buf: &mut [u8], at: usize, axis: u8, e: Extremes) -> usize
-    ensures { λ r. ⌜ Put (now (buf .entry)) at (axisText axis e) (now (buf .exit)) r × Both ShortTotal e ⌝ }
+fn put_axis(buf: &mut [u8], at: usize, year: i64, axis: u8, e: Extremes) -> usize
+    requires { ⌜ Both (λ x. Fair year (x .total)) e ⌝ }
+    ensures { λ r. ⌜ Put (now (buf .entry)) at (axisText year axis e) (now (buf .exit)) r ⌝ }
 {
-    let next = put_line(buf, at, axis, b" max ", e.greatest);
-    put_line(buf, next, axis, b" min ", e.least)
+    let next = put_line(buf, at, year, axis, b" max ", e.greatest);
+    put_line(buf, next, year, axis, b" min ", e.least)
 }
 
 // All six.
-pub(crate) fn put_six(buf: &mut [u8], at: usize, s: Six) -> usize
-    ensures { λ r. ⌜ Put (now (buf .entry)) at (sixText s) (now (buf .exit)) r × AllSix ShortTotal s ⌝ }
+pub(crate) fn put_six(buf: &mut [u8], at: usize, year: i64, s: Six) -> usize
+    requires { ⌜ AllSix (λ x. Fair year (x .total)) s ⌝ }
+    ensures { λ r. ⌜ Put (now (buf .entry)) at (sixText year s) (now (buf .exit)) r ⌝ }
 {
-    let x = put_axis(buf, at, b'x', s.x);
-    let y = put_axis(buf, x, b'y', s.y);
-    put_axis(buf, y, b'z', s.z)
+    let x = put_axis(buf, at, year, b'x', s.x);
+    let y = put_axis(buf, x, year, b'y', s.y);
+    put_axis(buf, y, year, b'z', s.z)
 }

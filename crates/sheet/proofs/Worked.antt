@@ -146,17 +146,20 @@ cases =
     ∷ case "V 1\n" 1 2
     ∷ case (tall "1") 3 2
     ∷ case (tall "0") 3 2
-    ∷ case (tall "4") 3 2
+    ∷ case (tall "5") 3 2
     ∷ case (tall "2 2") 1 2
     -- a square plan has a row from year 3 on: the sheet ends behind it, where W is called for
     ∷ case (plan "2" "1000 1000") 4 4
     ∷ case (plan "3" "1000 1000") 1 5
     ∷ case (plan "3" "999 1000") 4 4
     ∷ case (plan "2" "1001 1000") 1 5
-    -- and at most 24 faces up to year 3
+    -- and at most 24 faces up to year 3, and 240 in year 4
     ∷ case (tall "2" & "P 1\n600 500\nF 25\n") 2 11
     ∷ case (tall "3" & "P 1\n600 500\nF 25\n") 2 11
     ∷ case (tall "3" & "P 1\n600 500\nF 24\n") 1 12
+    ∷ case (tall "4" & "P 1\n600 500\nF 25\n") 1 12
+    ∷ case (tall "4" & "P 1\n600 500\nF 240\n") 1 12
+    ∷ case (tall "4" & "P 1\n600 500\nF 241\n") 2 11
     -- it has a profile, whose heights rise
     ∷ case (tall "2" & "F 1\nA 0 600 1 0 0\n") 1 9
     ∷ case (profile "P 0\n") 2 9

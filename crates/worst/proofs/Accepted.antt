@@ -28,9 +28,10 @@ use Rattle.book.proofs.Answers.{zone-answered, zone-small}
 use Rattle.entry.specs.declared.Wind.{Wind}
 use Rattle.entry.specs.declared.Step.{Step}
 use Rattle.entry.specs.declared.Face.{Face}
-use Rattle.building.specs.Year.{lastYear, hasHeights}
+use Rattle.building.specs.Year.{lastYear, hasHeights, faceLimit}
 use Rattle.building.proofs.Judged.{InYear}
 use Rattle.book.proofs.Readings.{readings-agree, last-year}
+use Rattle.job.proofs.Room.{few-faces}
 use Rattle.job.proofs.Years.{year-is}
 use Rattle.entry.specs.Says.{both}
 use Rattle.job.specs.declared.Job.{Job}
@@ -176,7 +177,7 @@ module _ (c : Carried) (o : InOrder c) where
       (c .faces) (y .heights))
       (o .form)
 
-  pub given-in-range : InRange (given c)
+  pub given-in-range : InRange (faceLimit (c .year)) (given c)
   given-in-range =
       record {
         density = good-fields (c .year) (c .building) (o .building) .density .to;
@@ -215,11 +216,11 @@ module _ (j : Job) (o : InOrder (carried j)) where
       let h = counted-face (FaceInOrder (j .building)) (o .faces) i t in
       record { zone = h .zone; on = h .on; mark = h .mark; wall = h .wall; x = h .x; y = h .y; z = h .z }
 
-  fewFaces : j .faces .count ≤ 24
+  fewFaces : j .faces .count ≤ 240
   unfolding carried
   fewFaces =
       let all = length-map (facesOf (j .faces)) (asCarried j) in
-      omega (arith, o .faces-counted .high, all, firstOf-length noFace (j .faces .count) (j .faces .entry))
+      omega (arith, few-faces (carried j) o, all, firstOf-length noFace (j .faces .count) (j .faces .entry))
 
   all-met : (k : ℕ) → k < j .winds .count → AllMet (j .building) (j .faces) (getD (j .winds .entry) k noWind)
   unfolding carried

@@ -1,29 +1,26 @@
--- Faces added up one by one: with face i, the sums of the first i become those of one more, and stay as small as n + 1
--- faces can make them.
+-- Faces added up one by one: with face i, the sums of the first i become those of one more.
 use mathlib.Core.Path.{_≡_, sym, ap, _∙_}
 use mathlib.Core.Bool.{true, false}
 use mathlib.Core.List.{List, [], _∷_, _++_, map, map-append}
-use Prim.Native.Nat.{ℕ, _+_, _≤_, _<_}
-use native.Mathlib.Omega.{arith}
-use lib.IntN.{ℤ, pos, natAbs, _+ℤ_, +ℤ-assoc, +ℤ-idl, +ℤ-idr}
+use Prim.Native.Nat.{ℕ, _+_, _<_}
+use lib.IntN.{ℤ, pos, _+ℤ_, +ℤ-assoc, +ℤ-idl, +ℤ-idr}
 use lib.ListN.{getD, set, length-map}
 use Rattle.whole.specs.Lists.{firstOf}
 use Rattle.whole.proofs.Lists.{firstOf-length}
 use Rattle.whole.proofs.FirstOf.{firstOf-next}
-use Rattle.whole.proofs.Size.{natAbs-add}
 use Rattle.whole.proofs.Tests.{by-test}
 use Rattle.building.specs.declared.Building.{Building}
 use Rattle.building.specs.Places.{F}
 use Rattle.entry.specs.declared.Wind.{Wind}
 use Rattle.entry.specs.declared.Step.{Step}
 use Rattle.entry.specs.declared.Face.{Face}
-use Rattle.job.specs.Carried.{noFace}
+use Rattle.job.specs.Carried.{mostFaces, noFace}
 use Rattle.worst.specs.declared.Side.{Side}
 use Rattle.worst.specs.declared.Side.the-variants.{Greatest, Least}
 use Rattle.worst.specs.declared.Axis.{Axis}
 use Rattle.worst.specs.declared.Axis.the-variants.{X, Y, Z}
-use Rattle.worst.specs.declared.sums.Sums.{Sums}
-use Rattle.worst.specs.declared.sums.Axes.{Axes}
+use Rattle.worst.specs.Sums.{Sums}
+use Rattle.worst.specs.Sums.{Axes}
 use Rattle.worst.specs.declared.speeds.Factor.{Factor}
 use Rattle.worst.specs.declared.outside.Outside.{Outside}
 use Rattle.worst.specs.Quick.{sum}
@@ -33,10 +30,8 @@ use Rattle.worst.specs.Forces.{acts, factorOf, pressure}
 use Rattle.worst.specs.Table.{outsideAt}
 use Rattle.worst.specs.Engine.{weight, reach, reachOf, pickOf, sumsOf, axesOf, withWeight, withPressure}
 use Rattle.worst.specs.Engine.{withFace, alternativesOf}
-use Rattle.worst.specs.Factors.{Fraction}
-use Rattle.worst.specs.Small.{OutsideSmall, Weight, SumsSmall, AxesSmall, Met}
+use Rattle.worst.specs.Small.{Met}
 use Rattle.worst.proofs.Padded.{padded-set}
-use Rattle.worst.proofs.Ranges.{weight-small, reach-small}
 use Rattle.worst.proofs.OneFace.{no-reach, no-pick, one-pick}
 
 -- ---- a face that takes part adds what it has at its pressure number, and another nothing
@@ -102,66 +97,11 @@ module _ (b : Building) (profile : List Step) (w : Wind) (l : List Face) (i : �
           }
 
   -- its alternative stands where the first zero stood
-  pub alternatives-next : (axis : Axis) (s : Side) → i < 24
+  pub alternatives-next : (axis : Axis) (s : Side) → i < mostFaces
       → set (alternativesOf axis s b profile w before) i (pickOf s axis b w (factorOf profile next) next)
       ≡ alternativesOf axis s b profile w (firstOf noFace (i + 1) l)
   alternatives-next axis s h =
       let pick : Face → ℕ = λ f. pickOf s axis b w (factorOf profile f) f in
-      padded-set 24 (map pick before) i (pick next) (length-map before pick ∙ firstOf-length noFace i l) h
-      ∙ ap (padded 24) (sym (map-append pick before (next ∷ [])))
+      padded-set mostFaces (map pick before) i (pick next) (length-map before pick ∙ firstOf-length noFace i l) h
+      ∙ ap (padded mostFaces) (sym (map-append pick before (next ∷ [])))
       ∙ ap (alternativesOf axis s b profile w) (firstOf-next noFace l i)
-
--- ---- bounds
-
--- no face added yet
-abbrev none : Sums
-none = record { greatest = pos 0; least = pos 0; weight = pos 0 }
-
-pub nothing-small : AxesSmall 0 (record { x = none; y = none; z = none })
-nothing-small =
-    let small : SumsSmall 0 none = record { greatest = omega arith; least = omega arith; weight = omega arith } in
-    record { x = small; y = small; z = small }
-
--- with one face more
-module _ (n : ℕ) where
-  with-weight-small : (o : Outside) (weight : ℤ) (p : Sums) → OutsideSmall o → Weight weight → SumsSmall n p
-      → SumsSmall (n + 1) (withWeight o weight p)
-  with-weight-small o weight p h k small =
-      let reached : (s : Side) → natAbs (reach s o weight) ≤ 180000000000000000 =
-      λ s. reach-small s o weight h k in
-      record {
-        greatest = omega (
-          arith,
-          natAbs-add (p .greatest) (reach Greatest o weight),
-          reached Greatest,
-          small .greatest,
-        );
-        least = omega (arith, natAbs-add (p .least) (reach Least o weight), reached Least, small .least);
-        weight = omega (arith, natAbs-add (p .weight) weight, k, small .weight);
-      }
-
-  pub with-face-small : (b : Building) (w : Wind) (k : Factor) (f : Face) (p : Axes) → Met b w f → Fraction k
-      → AxesSmall n p → AxesSmall (n + 1) (withFace b w k f p)
-  with-face-small b w k f p met h small =
-      record { x = on X (p .x) (small .x); y = on Y (p .y) (small .y); z = on Z (p .z) (small .z) }
-    where
-      on : (axis : Axis) (q : Sums) → SumsSmall n q
-          → SumsSmall (n + 1) (withWeight (outsideAt b (w .direction) (f .zone)) (weight axis b w k f) q)
-      on axis q = with-weight-small _ _ q (met .outside) (weight-small axis b w k f met h)
-
-  -- n faces and more
-  sums-more : (m : ℕ) (p : Sums) → n ≤ m → SumsSmall n p → SumsSmall m p
-  sums-more m p t s =
-      record {
-        greatest = omega (arith, s .greatest);
-        least = omega (arith, s .least);
-        weight = omega (arith, s .weight);
-      }
-
-  pub axes-more : (m : ℕ) (p : Axes) → n ≤ m → AxesSmall n p → AxesSmall m p
-  axes-more m p t s =
-      record {
-        x = sums-more m (p .x) t (s .x);
-        y = sums-more m (p .y) t (s .y);
-        z = sums-more m (p .z) t (s .z);
-      }

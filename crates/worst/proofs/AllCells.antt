@@ -16,7 +16,9 @@ use Rattle.job.specs.declared.Job.{Job}
 use Rattle.entry.specs.declared.Wind.{Wind}
 use Rattle.entry.specs.declared.Step.{Step}
 use Rattle.entry.specs.declared.Face.{Face}
-use Rattle.job.specs.Carried.{carried, noWind, noFace}
+use Rattle.pair.specs.Total.{pairOf, units}
+use Rattle.pair.proofs.Units.{pairOf-units}
+use Rattle.job.specs.Carried.{carried, mostFaces, noWind, noFace}
 use Rattle.worst.specs.declared.Side.{Side}
 use Rattle.worst.specs.declared.Side.the-variants.{Greatest, Least}
 use Rattle.worst.specs.declared.Axis.{Axis}
@@ -40,6 +42,8 @@ use Rattle.worst.specs.Engine.{weight, reach, pick, reachOf, pickOf, fac
 use Rattle.worst.specs.Engine.{cellTotal, Cell, cell, topAt}
 use Rattle.worst.specs.Engine.{windNumbered, internalNumbered, cellWith, bestUpTo, alternativesAt}
 use Rattle.worst.specs.Engine.{extremeWith, sixOf}
+use Rattle.worst.specs.Proper.{Proper, ProperEnds}
+use Rattle.worst.proofs.Kept.{proper-top}
 use Rattle.worst.proofs.Better.{best-over, over-each, over-map, over-same, over-same-in, tagged-over}
 use Rattle.worst.proofs.Quick.{best-choice, worst-cells}
 use Rattle.whole.proofs.Numbers.{numbers-member}
@@ -202,16 +206,24 @@ module _ (j : Job) (last : ByLast j) (axis : Axis) (s : Side) where
   abbrev case : Top → Extreme
   case t = extremeWith t (j .faces .count) (alternativesAt axis s j t)
 
-  extreme-is : Sound g → (t : Stored) (e : Top)
-      → at (e .total) (cell (e .wind) (e .internal)) ≡ bestUpTo axis s t (j .internals .count) (j .winds .count)
+  extreme-is : Sound g → (t : Stored) (e : Top) → Proper (e .total)
+      → at (units (e .total)) (cell (e .wind) (e .internal))
+      ≡ bestUpTo axis s t (j .internals .count) (j .winds .count)
       → case e ≡ extremeBy axis s t (carried j)
   unfolding carried shown tagged
-  extreme-is sound t e q =
+  extreme-is sound t e p q =
       let fs = facesOf (j .faces) in
       let all = length-map fs (asCarried j) ∙ firstOf-length noFace (j .faces .count) (j .faces .entry) in
       let faces = sym all in
       let picks = picks-carried j axis s (windNumbered (j .winds) (e .wind)) fs in
-      ap (λ ks. extremeWith e (j .faces .count) (padded 24 ks)) (sym picks)
+      let same : pairOf (units (e .total)) ≡ e .total = pairOf-units (e .total) p in
+      (λ k. record {
+        total = sym same k;
+        wind = e .wind;
+        internal = e .internal;
+        faces = j .faces .count;
+        alternative = padded mostFaces (sym picks k);
+      })
       ∙ ap (λ b. shown (j .faces .count) (tagged caseAt b)) q
       ∙ (λ k. shown (faces k) (sym (cells-are sound (storedAt axis s t)) k))
 
@@ -232,12 +244,12 @@ module _ (j : Job) (last : ByLast j) (axis : Axis) (s : Side) where
       ∙ sym (worst-cells l s)
 
 -- so the tops that the engine finds, shown, are what the stored sums tell
-pub six-are : (j : Job) → ByLast j → Sound (given (carried j)) → (t : Stored) (e : Ends)
+pub six-are : (j : Job) → ByLast j → Sound (given (carried j)) → (t : Stored) (e : Ends) → ProperEnds e
     → ((axis : Axis) (s : Side) → let u = topAt axis s e in
-    at (u .total) (cell (u .wind) (u .internal)) ≡ bestUpTo axis s t (j .internals .count) (j .winds .count))
+    at (units (u .total)) (cell (u .wind) (u .internal)) ≡ bestUpTo axis s t (j .internals .count) (j .winds .count))
     → sixOf j e ≡ sixBy t (carried j)
 unfolding sixBy
-six-are j last sound t e h =
+six-are j last sound t e p h =
     λ k. record {
       x = record { greatest = on X Greatest k; least = on X Least k };
       y = record { greatest = on Y Greatest k; least = on Y Least k };
@@ -245,7 +257,7 @@ six-are j last sound t e h =
     }
   where
     on : (axis : Axis) (s : Side) → case j last axis s (topAt axis s e) ≡ extremeBy axis s t (carried j)
-    on axis s = extreme-is j last axis s sound t (topAt axis s e) (h axis s)
+    on axis s = extreme-is j last axis s sound t (topAt axis s e) (proper-top e p axis s) (h axis s)
 
 -- ---- the sums of a cell
 
@@ -260,6 +272,7 @@ cell-is j last sound w i mw mi =
       z = record { greatest = on Z Greatest k; least = on Z Least k };
     }
   where
-    on : (axis : Axis) (s : Side) → valueOf (bestChoice s (loads axis (given (carried j))) w i)
-        ≡ cellTotal s (sumsOn axis (axesUnder j (windNumbered (j .winds) w))) (internalNumbered (j .internals) i)
-    on axis s = ap valueOf (choice-is j last axis s sound w i mw mi)
+    on : (axis : Axis) (s : Side) → pairOf (valueOf (bestChoice s (loads axis (given (carried j))) w i))
+        ≡ pairOf (cellTotal s (sumsOn axis (axesUnder j (windNumbered (j .winds) w)))
+        (internalNumbered (j .internals) i))
+    on axis s = ap (λ b. pairOf (valueOf b)) (choice-is j last axis s sound w i mw mi)

@@ -2,7 +2,7 @@
 -- become those of one more.
 use mathlib.Core.Path.{_≡_, refl, sym, ap, _∙_, subst}
 use mathlib.Core.List.{List, []}
-use Prim.Native.Nat.{ℕ, suc, zero, _+_, _<_}
+use Prim.Native.Nat.{ℕ, suc, zero, _+_, _≤_, _<_}
 use native.Mathlib.Omega.{arith}
 use lib.IntN.{ℤ, pos}
 use lib.ListN.{length, getD, set, replicate, length-set}
@@ -27,35 +27,34 @@ getD-replicate (suc n) zero z h = refl
 getD-replicate (suc n) (suc i) z h = getD-replicate n i z (omega arith)
 
 -- which is what no profile gives
-pub ones-stand : (fs : Faces) (parts wholes : List ℤ) → AllOne parts wholes → fs .count < 25
-    → FactorsStand [] fs parts wholes
+pub ones-stand : (fs : Faces) (parts wholes : List ℤ) → AllOne parts wholes → fs .count ≤ length parts
+    → fs .count ≤ length wholes → FactorsStand [] fs parts wholes
 unfolding factorAt
-ones-stand fs parts wholes h few i t =
-    let one = getD-replicate 24 i (pos 1) (omega arith) in
+ones-stand fs parts wholes h few few′ i t =
     λ j. record {
-      part = (ap (λ l. getD l i (pos 0)) (h .0) ∙ one) j;
-      whole = (ap (λ l. getD l i (pos 0)) (h .1) ∙ one) j;
+      part = (ap (λ l. getD l i (pos 0)) (h .0) ∙ getD-replicate (length parts) i (pos 1) (omega arith)) j;
+      whole = (ap (λ l. getD l i (pos 0)) (h .1) ∙ getD-replicate (length wholes) i (pos 1) (omega arith)) j;
     }
 
 -- ---- one face more
 
--- the factors of the first i faces, in arrays of 24
-pub record FirstStand (profile : List Step) (fs : List Face) (i : ℕ) (parts wholes : List ℤ) : Type 0 where
-  pub parts-long : length parts ≡ 24
-  pub wholes-long : length wholes ≡ 24
+-- the factors of the first i faces, in lists with room for n
+pub record FirstStand (n : ℕ) (profile : List Step) (fs : List Face) (i : ℕ) (parts wholes : List ℤ) : Type 0 where
+  pub parts-long : n ≤ length parts
+  pub wholes-long : n ≤ length wholes
   pub stand : (m : ℕ) → m < i → factorIn parts wholes m ≡ factorOf profile (getD fs m noFace)
 
-pub none-stand : (profile : List Step) (fs : List Face) (parts wholes : List ℤ) → AllOne parts wholes
-    → FirstStand profile fs 0 parts wholes
-none-stand profile fs parts wholes h =
+pub none-stand : (n : ℕ) (profile : List Step) (fs : List Face) (parts wholes : List ℤ) → n ≤ length parts
+    → n ≤ length wholes → FirstStand n profile fs 0 parts wholes
+none-stand n profile fs parts wholes p w =
     record {
-      parts-long = ap length (h .0);
-      wholes-long = ap length (h .1);
+      parts-long = p;
+      wholes-long = w;
       stand = λ m t. absurd (omega arith);
     }
 
-module _ (profile : List Step) (fs : List Face) (i : ℕ) (parts wholes : List ℤ) (k : Factor)
-    (was : FirstStand profile fs i parts wholes) (room : i < 24) (e : k ≡ factorOf profile (getD fs i noFace)) where
+module _ (n : ℕ) (profile : List Step) (fs : List Face) (i : ℕ) (parts wholes : List ℤ) (k : Factor)
+    (was : FirstStand n profile fs i parts wholes) (room : i < n) (e : k ≡ factorOf profile (getD fs i noFace)) where
   abbrev Stands : ℕ → Type 0
   Stands m = factorIn (set parts i (k .part)) (set wholes i (k .whole)) m ≡ factorOf profile (getD fs m noFace)
 
@@ -77,11 +76,11 @@ module _ (profile : List Step) (fs : List Face) (i : ℕ) (parts wholes : List �
       })
       ∙ s
 
-  pub next-stands : FirstStand profile fs (i + 1) (set parts i (k .part)) (set wholes i (k .whole))
+  pub next-stands : FirstStand n profile fs (i + 1) (set parts i (k .part)) (set wholes i (k .whole))
   next-stands =
       record {
-        parts-long = length-set parts i (k .part) ∙ was .parts-long;
-        wholes-long = length-set wholes i (k .whole) ∙ was .wholes-long;
+        parts-long = omega (arith, length-set parts i (k .part), was .parts-long);
+        wholes-long = omega (arith, length-set wholes i (k .whole), was .wholes-long);
         stand = λ m t. by-test (eqb m i) (λ q. subst Stands (sym (eqb-true m i q)) here)
             (λ q. let other = eqb-false m i q in there m other (was .stand m (omega (arith, other))));
       }

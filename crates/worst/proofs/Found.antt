@@ -4,6 +4,7 @@ use mathlib.Core.Bool.{Bool, true, false, cond}
 use Prim.Native.Nat.{ℕ, zero, suc, _+_, _≤_, _<_}
 use native.Mathlib.Omega.{arith}
 use lib.Dec.{eqb}
+use Rattle.pair.specs.Total.{units}
 use Rattle.job.specs.declared.Job.{Job}
 use Rattle.worst.specs.declared.Side.{Side}
 use Rattle.worst.specs.declared.Axis.{Axis}
@@ -62,7 +63,7 @@ module _ (axis : Axis) (s : Side) (t : Stored) (j : Job) (h : Ready j) where
   -- the best cell, as a top has it
   pub record IsTop (e : Top) : Type 0 where
     pub onJob : OnJob j e
-    pub best : at (e .total) (cell (e .wind) (e .internal))
+    pub best : at (units (e .total)) (cell (e .wind) (e .internal))
         ≡ bestUpTo axis s t (j .internals .count) (j .winds .count)
 
   pub is-top : (e : Top) → topOf e ≡ best → IsTop e
@@ -74,5 +75,5 @@ module _ (axis : Axis) (s : Side) (t : Stored) (j : Job) (h : Ready j) where
           let counts = rw z at f in
           record {
             onJob = record { wind = counts .0; wind≤ = counts .1 };
-            best = sym (ap (λ b. cond b none (at (e .total) (cell (e .wind) (e .internal)))) z) ∙ q;
+            best = sym (ap (λ b. cond b none (at (units (e .total)) (cell (e .wind) (e .internal)))) z) ∙ q;
           }

@@ -8,6 +8,7 @@ use native.Mathlib.Omega.{arith}
 use lib.IntN.{pos}
 use lib.ListN.{length, getD}
 use Rattle.whole.proofs.Lists.{firstOf-length}
+use Rattle.pair.proofs.Units.{units-pairOf}
 use Rattle.building.specs.declared.Building.{Building}
 use Rattle.entry.specs.declared.Step.{Step}
 use Rattle.job.specs.declared.Job.{Job}
@@ -102,12 +103,12 @@ module _ (j : Job) (o : InOrder (carried j)) where
       where
         by : (axis : Axis) (s : Side)
             → spanSide s (spanOn axis (cellOf g w i)) ≡ valueOf (bestChoice s (loads axis g) w i)
-        by X Greatest = refl
-        by X Least = refl
-        by Y Greatest = refl
-        by Y Least = refl
-        by Z Greatest = refl
-        by Z Least = refl
+        by X Greatest = units-pairOf _
+        by X Least = units-pairOf _
+        by Y Greatest = units-pairOf _
+        by Y Least = units-pairOf _
+        by Z Greatest = units-pairOf _
+        by Z Least = units-pairOf _
 
     pub own-sum : (w i : ℕ) → WindNumber j w → InternalNumber j i
         → storedAt axis s (storedOf (carried j)) w i ≡ valueOf (bestChoice s (loads axis g) w i)

@@ -9,33 +9,40 @@ use lib.IntN.{ℤ}
 use mir.Syntax.{w64}
 use mir.Val.{SFits, toZ, ofZ}
 use mir.ValLaws.{toZ-ofZ}
+use Rattle.pair.specs.declared.Pair.{Pair}
+use Rattle.pair.specs.Total.{units, noPair}
 use Rattle.worst.specs.declared.Side.{Side}
 use Rattle.worst.specs.declared.Side.the-variants.{Greatest, Least}
 use Rattle.worst.specs.declared.Axis.{Axis}
 use Rattle.worst.specs.declared.Axis.the-variants.{X, Y, Z}
 use Rattle.worst.specs.declared.tops.Top.{Top}
+use Rattle.worst.specs.declared.tops.Ends.{Ends}
 use Rattle.worst.specs.Best.{short, none, at, better}
-use Rattle.worst.specs.Engine.{Cell, cell, topOf, noEnds, topAt}
+use Rattle.worst.specs.Engine.{Cell, cell, topOf, noTops, noEnds, topAt}
+use Rattle.worst.specs.Proper.{Proper, ProperTops, ProperEnds}
 
 -- the later cell as the code makes it
-abbrev pub made : ℤ → ℕ → ℕ → Top
-made v w i = record { total = toZ w64 (ofZ w64 v); wind = w; internal = i }
+abbrev pub made : Pair → ℕ → ℕ → Top
+made p w i = record { total = p; wind = w; internal = i }
 
-module _ (s : Side) (top : Top) (v : ℤ) (w i : ℕ) (fits : SFits w64 v) (some : 0 < w) where
-  made-is : topOf (made v w i) ≡ at v (cell w i)
-  made-is = rw (ne-eqb w 0 (omega arith)) (ap (λ (x : ℤ). at x (cell w i)) (toZ-ofZ w64 v fits))
+module _ (s : Side) (top : Top) (p : Pair) (w i : ℕ) (some : 0 < w) where
+  abbrev v : ℤ
+  v = units p
 
-  pub kept-first : top .wind ≡ 0 → topOf (made v w i) ≡ better s (topOf top) (at v (cell w i))
+  made-is : topOf (made p w i) ≡ at v (cell w i)
+  made-is = rw (ne-eqb w 0 (omega arith))
+
+  pub kept-first : top .wind ≡ 0 → topOf (made p w i) ≡ better s (topOf top) (at v (cell w i))
   unfolding better
   kept-first e = made-is ∙ rw (eq-eqb (top .wind) 0 e)
 
-  pub kept-later : (top .wind ≡ 0 → ⊥) → short s (top .total) v ≡ true
-      → topOf (made v w i) ≡ better s (topOf top) (at v (cell w i))
+  pub kept-later : (top .wind ≡ 0 → ⊥) → short s (units (top .total)) v ≡ true
+      → topOf (made p w i) ≡ better s (topOf top) (at v (cell w i))
   unfolding better
   kept-later e h = made-is ∙ rw (ne-eqb (top .wind) 0 e, h)
 
-pub kept-earlier : (s : Side) (top : Top) (v : ℤ) (t : Cell) → (top .wind ≡ 0 → ⊥) → short s (top .total) v ≡ false
-    → topOf top ≡ better s (topOf top) (at v t)
+pub kept-earlier : (s : Side) (top : Top) (v : ℤ) (t : Cell) → (top .wind ≡ 0 → ⊥)
+    → short s (units (top .total)) v ≡ false → topOf top ≡ better s (topOf top) (at v t)
 unfolding better
 kept-earlier s top v t e h = rw (ne-eqb (top .wind) 0 e, h)
 
@@ -55,6 +62,15 @@ every-axis P x y z X = x
 every-axis P x y z Y = y
 every-axis P x y z Z = z
 
+-- a top whose total is one
+pub proper-top : (e : Ends) → ProperEnds e → (axis : Axis) (s : Side) → Proper (topAt axis s e .total)
+proper-top e p X Greatest = p .x .greatest
+proper-top e p X Least = p .x .least
+proper-top e p Y Greatest = p .y .greatest
+proper-top e p Y Least = p .y .least
+proper-top e p Z Greatest = p .z .greatest
+proper-top e p Z Least = p .z .least
+
 -- at first there is no top
 pub no-top : (axis : Axis) (s : Side) → topOf (topAt axis s noEnds) ≡ none
 no-top X Greatest = refl
@@ -63,3 +79,9 @@ no-top Y Greatest = refl
 no-top Y Least = refl
 no-top Z Greatest = refl
 no-top Z Least = refl
+
+pub no-ends-proper : ProperEnds noEnds
+no-ends-proper =
+    let zero : Proper noPair = refl in
+    let none : ProperTops noTops = record { greatest = zero; least = zero } in
+    record { x = none; y = none; z = none }

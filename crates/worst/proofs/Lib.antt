@@ -12,6 +12,7 @@ pub mod Without  -- a wind that the worst case does not have, left out
 -- ---- numbers and lists as the code has them
 pub mod Padded  -- arrays filled from their start
 pub mod StoredSums  -- stored cells
+pub mod InBounds  -- and the test of their bounds
 pub mod ReadBack  -- a signed result read back
 pub mod AtHeight  -- the factor at a height, and the speed there
 pub mod Climb  -- the factor within a rising profile
@@ -21,6 +22,10 @@ pub mod Table  -- the table of coefficients
 pub mod Ranges  -- how large every number can be
 -- ---- from one face to all cells
 pub mod OneFace  -- the best of its alternatives
+pub mod SixNumbers  -- the numbers of a face, stored
+pub mod LentFaces  -- faces as numbers in a lent list
+pub mod MovedOver  -- newtons and units of one amount
+pub mod SumsGrow  -- how large the sums are
 pub mod Added  -- faces added up
 pub mod CarriedFaces  -- faces without their heights
 pub mod Found  -- a job has a best cell
@@ -29,9 +34,12 @@ pub mod AllCells  -- which is what stored sums tell, and its own the worst of al
 pub mod Demand  -- the third demand, for what a job gives
 pub mod Accepted  -- what an accepted job gives
 pub mod JobSums  -- the sums of a job
+pub mod FourCells  -- the cells of one wind
+pub mod ProperSums  -- stored sums that a job can have
 pub mod Parts  -- stored sums, by the parts of the faces
 pub mod Promises  -- the third demand, for accepted jobs
 pub mod Dropped  -- a wind that no extreme names
+pub mod ReadSheet  -- a sheet that was read
 pub mod Reckoned  -- refused, or accepted as what it carries
 pub mod PerFace  -- the forces of each face under a wind and an internal coefficient
 pub mod Rows  -- and these handed over, row by row

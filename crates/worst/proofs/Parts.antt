@@ -15,6 +15,7 @@ use Rattle.entry.specs.declared.Wind.{Wind}
 use Rattle.entry.specs.declared.Face.{Face}
 use Rattle.job.specs.Carried.{Carried, withFaces, noWind}
 use Rattle.job.specs.InOrder.{InOrder}
+use Rattle.pair.proofs.Units.{units-pairOf}
 use Rattle.worst.specs.declared.Side.{Side}
 use Rattle.worst.specs.declared.Side.the-variants.{Greatest, Least}
 use Rattle.worst.specs.declared.Axis.{Axis}
@@ -126,14 +127,14 @@ module _ (c : Carried) (axis : Axis) (s : Side) (w i : ℕ) where
 abbrev pub storedOn : Axis → Side → Carried → ℕ → ℤ
 storedOn axis s c k = spanSide s (spanOn axis (sumsAt (given c) k))
 
-on-cell : (axis : Axis) (s : Side) (g : Given) (w i : ℕ)
+pub on-cell : (axis : Axis) (s : Side) (g : Given) (w i : ℕ)
     → spanSide s (spanOn axis (cellOf g w i)) ≡ valueOf (bestChoice s (loads axis g) w i)
-on-cell X Greatest g w i = refl
-on-cell X Least g w i = refl
-on-cell Y Greatest g w i = refl
-on-cell Y Least g w i = refl
-on-cell Z Greatest g w i = refl
-on-cell Z Least g w i = refl
+on-cell X Greatest g w i = units-pairOf _
+on-cell X Least g w i = units-pairOf _
+on-cell Y Greatest g w i = units-pairOf _
+on-cell Y Least g w i = units-pairOf _
+on-cell Z Greatest g w i = units-pairOf _
+on-cell Z Least g w i = units-pairOf _
 
 pub on-none : (axis : Axis) (s : Side) → spanSide s (spanOn axis noCell) ≡ pos 0
 on-none X Greatest = refl
@@ -191,7 +192,7 @@ best-small s f n h l = go (best s f l) refl
     go none e = omega arith
     go (at v a) e = subst (λ z. natAbs z ≤ n) (best-is s f l v a e .reached) (h a)
 
-module _ (g : Given) (r : InRange g) (axis : Axis) (s : Side) (w i : ℕ) where
+module _ (g : Given) {n : ℕ} (r : InRange n g) (axis : Axis) (s : Side) (w i : ℕ) where
   sum-small : natAbs (valueOf (bestChoice s (loads axis g) w i)) ≤ length (g .faces) * 330000000000000000
   sum-small =
       best-small s _ _

@@ -19,7 +19,7 @@ use Rattle.entry.specs.declared.Wind.{Wind}
 use Rattle.entry.specs.declared.Step.{Step}
 use Rattle.entry.specs.declared.Face.{Face}
 use Rattle.job.specs.declared.Job.{Job}
-use Rattle.job.specs.Carried.{Carried, carried, noWind, noFace}
+use Rattle.job.specs.Carried.{Carried, carried, mostFaces, noWind, noFace}
 use Rattle.job.specs.InOrder.{InOrder}
 use Rattle.worst.specs.declared.AxisForces.{AxisForces}
 use Rattle.worst.specs.declared.FaceForces.{FaceForces}
@@ -79,7 +79,7 @@ module _ (year : ℤ) (b : Building) (profile : List Step) (w : Wind) (internal 
   rowsOf fs = forcesUpTo (map rowOf fs)
 
   -- one face more stands where the first zeros stood
-  pub row-next : (l : List Face) (i : ℕ) → i < 24
+  pub row-next : (l : List Face) (i : ℕ) → i < mostFaces
       → record { face = set (rowsOf (firstOf noFace i l) .face) i (rowOf (getD l i noFace)) }
       ≡ rowsOf (firstOf noFace (i + 1) l)
   row-next l i h =
@@ -88,7 +88,7 @@ module _ (year : ℤ) (b : Building) (profile : List Step) (w : Wind) (internal 
       let long : length (map rowOf before) ≡ i = length-map before rowOf ∙ firstOf-length noFace i l in
       ap (λ (k : ℕ). record { face = set (rowsOf before .face) k (rowOf next) }) (sym long)
       ∙ ap (λ (k : List FaceForces). record { face = k })
-      (sym (firstOf-more noFaceForces 24 (map rowOf before) (rowOf next) (omega (arith, long))))
+      (sym (firstOf-more noFaceForces mostFaces (map rowOf before) (rowOf next) (omega (arith, long))))
       ∙ ap forcesUpTo (sym (map-append rowOf before (next ∷ [])))
       ∙ ap rowsOf (firstOf-next noFace l i)
 

@@ -21,7 +21,8 @@ use Rattle.worst.specs.Best.{NoFurther, Best, at, IsBest}
 use Rattle.whole.specs.Lists.{numbers}
 use Rattle.worst.specs.Cases.{Case, cases, caseTotal, worst, Permitted}
 use Rattle.worst.specs.Forces.{acts, outsides, alternatives, windAt, loads}
-use Rattle.worst.specs.Shown.{shown}
+use Rattle.pair.proofs.Units.{units-pairOf}
+use Rattle.worst.specs.Shown.{shown, totalIn}
 use Rattle.worst.specs.Worst.{given, extreme}
 use Rattle.worst.specs.Stored.{storedAt, extremeBy}
 use Rattle.whole.proofs.ByPlace.{getD-member}
@@ -53,10 +54,10 @@ module _ (axis : Axis) (s : Side) (c : Carried) where
   -- the case that an extreme names, and that it is the first worst one
   pub record Shows : Type 0 where
     pub case : Case ℕ ℕ ℕ
-    pub found : worst s (loads axis (given c)) ≡ at (extreme axis s c .total) case
+    pub found : worst s (loads axis (given c)) ≡ at (totalIn (extreme axis s c)) case
     pub best : IsBest s (caseTotal (loads axis (given c))) (cases (loads axis (given c)))
-        (extreme axis s c .total) case
-    pub named : extreme axis s c ≡ shown (length (c .faces)) (at (extreme axis s c .total) case)
+        (totalIn (extreme axis s c)) case
+    pub named : extreme axis s c ≡ shown (length (c .faces)) (at (totalIn (extreme axis s c)) case)
 
   pub extreme-shows : InOrder c → Shows
   unfolding shown
@@ -71,13 +72,13 @@ module _ (axis : Axis) (s : Side) (c : Carried) where
       let hi = member-numbers 1 (length (c .internals)) 1 one′ in
       let w = getD-member (c .winds) 0 noWind (omega (arith, o .winds-counted .low)) in
       let r = worst-found s l 1 1 hw hi (some-alternative o first w) in
-      let e : extreme axis s c .total ≡ r .0 =
-      ap (λ (b : Best (Case ℕ ℕ ℕ)). shown (length (c .faces)) b .total) (r .2) in
-      let f : worst s l ≡ at (extreme axis s c .total) (r .1) = r .2 ∙ ap (λ (v : ℤ). at v (r .1)) (sym e) in
+      let e : totalIn (extreme axis s c) ≡ r .0 =
+      ap (λ (b : Best (Case ℕ ℕ ℕ)). totalIn (shown (length (c .faces)) b)) (r .2) ∙ units-pairOf (r .0) in
+      let f : worst s l ≡ at (totalIn (extreme axis s c)) (r .1) = r .2 ∙ ap (λ (v : ℤ). at v (r .1)) (sym e) in
       record {
         case = r .1;
         found = f;
-        best = worst-is s l (extreme axis s c .total) (r .1) f;
+        best = worst-is s l (totalIn (extreme axis s c)) (r .1) f;
         named = ap (shown (length (c .faces))) f;
       }
 
@@ -132,7 +133,7 @@ module _ (c c′ : Carried) (building : c .building ≡ c′ .building) (profile
 
   -- every wind and internal coefficient of c is one of c′
   pub extreme-more : AllIn _≡_ (c .winds) (c′ .winds) → AllIn _≡_ (c .internals) (c′ .internals)
-      → (axis : Axis) (s : Side) → NoFurther s (extreme axis s c .total) (extreme axis s c′ .total)
+      → (axis : Axis) (s : Side) → NoFurther s (totalIn (extreme axis s c)) (totalIn (extreme axis s c′))
   extreme-more hw hi axis s =
       let f = extreme-shows axis s c o in
       let f′ = extreme-shows axis s c′ o′ in
@@ -141,8 +142,8 @@ module _ (c c′ : Carried) (building : c .building ≡ c′ .building) (profile
   -- every wind of c has one of c′ in its direction that is no slower, at one factor for all faces
   pub extreme-faster : (one : OneFactor (given c)) → AllIn (Faster (one .factor)) (c .winds) (c′ .winds)
       → AllIn _≡_ (c .internals) (c′ .internals)
-      → (axis : Axis) (s : Side) → NoFurther s (pos 0) (extreme axis s c .total)
-      → NoFurther s (extreme axis s c .total) (extreme axis s c′ .total)
+      → (axis : Axis) (s : Side) → NoFurther s (pos 0) (totalIn (extreme axis s c))
+      → NoFurther s (totalIn (extreme axis s c)) (totalIn (extreme axis s c′))
   extreme-faster one hw hi axis s =
       let f = extreme-shows axis s c o in
       let f′ = extreme-shows axis s c′ o′ in

@@ -29,13 +29,13 @@ use Rattle.worst.specs.Small.{OutsideSmall, FaceSmall, Pressure, Weight,
 use Rattle.whole.proofs.ByPlace.{getD-all}
 use Rattle.worst.proofs.AtHeight.{speed-no-larger}
 
--- what a job gives, each number within its range
-pub record InRange (g : Given) : Type 0 where
+-- what a job of at most n faces gives, each number within its range
+pub record InRange (n : ℕ) (g : Given) : Type 0 where
   pub density : natAbs (g .density) ≤ 1500
   pub speed : (w : Wind) → List·Memᴰ w (g .winds) → natAbs (w .speed) ≤ 1000
   pub factor : (f : Face) → List·Memᴰ f (g .faces) → Fraction (factorOf (g .profile) f)
   pub internal : (i : ℤ) → List·Memᴰ i (g .internals) → natAbs i ≤ 100
-  pub fewFaces : length (g .faces) ≤ 24
+  pub fewFaces : length (g .faces) ≤ n
   pub face : (f : Face) → List·Memᴰ f (g .faces) → FaceSmall f
   pub outside : (d : ℤ) (f : Face) → List·Memᴰ f (g .faces) → (k : ℕ)
       → natAbs (getD (g .outside d (f .zone)) k (pos 0)) ≤ 1200
@@ -94,7 +94,7 @@ total-small force k (f ∷ fs) h (a ∷ as′) =
     let rest = total-small force k fs (λ g m. h g (List·Memᴰ·tail m)) as′ in
     omega (arith, natAbs-add (force f a) (total force fs as′))
 
-module _ (g : Given) (r : InRange g) (axis : Axis) where
+module _ (g : Given) {n : ℕ} (r : InRange n g) (axis : Axis) where
   -- a face at its alternative k
   module _ (w : Wind) (i : ℤ) (f : Face) (k : ℕ) where
     abbrev o : ℤ
@@ -120,7 +120,7 @@ module _ (g : Given) (r : InRange g) (axis : Axis) where
             times-small (net o i *ℤ p) (area axis f) pressed (area-small axis f (r .face f m))
         go false = omega arith
 
-  pub caseTotal-small : (c : Case ℕ ℕ ℕ) → natAbs (caseTotal (loads axis g) c) ≤ 7920000000000000000
+  pub caseTotal-small : (c : Case ℕ ℕ ℕ) → natAbs (caseTotal (loads axis g) c) ≤ n * 330000000000000000
   unfolding caseTotal
   caseTotal-small c =
       let w = windAt g (c .wind) in

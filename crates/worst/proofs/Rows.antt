@@ -17,7 +17,7 @@ use Rattle.entry.specs.Says.{carriedFace}
 use Rattle.entry.specs.declared.Wind.{Wind}
 use Rattle.entry.specs.declared.Face.{Face}
 use Rattle.job.specs.declared.Job.{Job}
-use Rattle.job.specs.Carried.{carried, noWind, noFace}
+use Rattle.job.specs.Carried.{carried, mostFaces, noWind, noFace}
 use Rattle.job.specs.Walk.{judged}
 use Rattle.worst.specs.declared.Axis.{Axis}
 use Rattle.worst.specs.declared.Axis.the-variants.{X, Y, Z}
@@ -108,20 +108,20 @@ module _ (j : Job) (t : Taken j) where
     abbrev row : Face → FaceForces
     row = faceForces g w i
 
-    few : j .faces .count ≤ 24
+    few : j .faces .count ≤ mostFaces
     few = ready .profiled .few
 
     pub rows-are : rows (j .faces .count) (cellForces g w i) ≡ map row (g .faces)
     rows-are =
         let long : length (map row (g .faces)) ≡ j .faces .count = length-map (g .faces) row ∙ faces-counted in
-        firstOf-fewer noFaceForces (j .faces .count) 24 (map row (g .faces)) few
+        firstOf-fewer noFaceForces (j .faces .count) mostFaces (map row (g .faces)) few
         ∙ ap (λ n. rows n (record { face = map row (g .faces) })) (sym long)
         ∙ firstOf-all noFaceForces (map row (g .faces))
 
     pub row-is : (k : ℕ) → k < j .faces .count
         → getD (cellForces g w i .face) k noFaceForces ≡ row (getD (g .faces) k noFace)
     row-is k h =
-        firstOf-getD noFaceForces 24 k (map row (g .faces)) (omega (arith, few))
+        firstOf-getD noFaceForces mostFaces k (map row (g .faces)) (omega (arith, few))
         ∙ getD-map row (g .faces) k noFace noFaceForces (omega (arith, faces-counted))
 
   -- a face has one outside coefficient or two where it acts

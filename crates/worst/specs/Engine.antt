@@ -15,7 +15,7 @@ use Rattle.job.specs.declared.Faces.{Faces}
 use Rattle.entry.specs.declared.Wind.{Wind}
 use Rattle.entry.specs.declared.Step.{Step}
 use Rattle.entry.specs.declared.Face.{Face}
-use Rattle.job.specs.Carried.{noWind, noFace}
+use Rattle.job.specs.Carried.{mostFaces, noWind, noFace}
 use Rattle.worst.specs.declared.Side.{Side}
 use Rattle.worst.specs.declared.Side.the-variants.{Greatest, Least}
 use Rattle.worst.specs.declared.Axis.{Axis}
@@ -28,17 +28,17 @@ use Rattle.worst.specs.declared.Extremes.{Extremes}
 use Rattle.worst.specs.declared.Six.{Six}
 use Rattle.worst.specs.declared.speeds.Factor.{Factor}
 use Rattle.worst.specs.declared.outside.Outside.{Outside}
-use Rattle.worst.specs.declared.sums.Sums.{Sums}
-use Rattle.worst.specs.declared.sums.Axes.{Axes}
 use Rattle.worst.specs.declared.tops.Top.{Top}
 use Rattle.worst.specs.declared.tops.Tops.{Tops}
 use Rattle.worst.specs.declared.tops.Ends.{Ends}
+use Rattle.pair.specs.Total.{pairOf, units, noPair}
+use Rattle.worst.specs.Sums.{Sums, Axes}
 use Rattle.worst.specs.Best.{short, Best, none, at}
 use Rattle.worst.specs.Speed.{speedAt}
 use Rattle.worst.specs.Forces.{acts, factorOf, pressure, area}
 use Rattle.worst.specs.Factors.{profileOf}
 use Rattle.worst.specs.Shown.{padded}
-use Rattle.worst.specs.Stored.{noCell, storedAt}
+use Rattle.worst.specs.Stored.{noCell, spanOn, spanSide, storedAt}
 use Rattle.worst.specs.Quick.{over, sum}
 use Rattle.worst.specs.Table.{outsideAt}
 
@@ -140,10 +140,10 @@ cell w i = record { wind = w; internal = i }
 
 -- the best cell so far: on one side of one axis
 abbrev pub topOf : Top → Best Cell
-topOf t = cond (eqb (t .wind) 0) none (at (t .total) (cell (t .wind) (t .internal)))
+topOf t = cond (eqb (t .wind) 0) none (at (units (t .total)) (cell (t .wind) (t .internal)))
 
 abbrev pub noTop : Top
-noTop = record { total = pos 0; wind = 0; internal = 0 }
+noTop = record { total = noPair; wind = 0; internal = 0 }
 
 abbrev pub noTops : Tops
 noTops = record { greatest = noTop; least = noTop }
@@ -176,7 +176,8 @@ axesUnder j w = axesOf (j .building) (profileOf j) w (facesOf (j .faces))
 
 -- what is stored of a cell
 abbrev pub spanWith : Sums → ℤ → Span
-spanWith p internal = record { greatest = cellTotal Greatest p internal; least = cellTotal Least p internal }
+spanWith p internal =
+    record { greatest = pairOf (cellTotal Greatest p internal); least = pairOf (cellTotal Least p internal) }
 
 abbrev pub cellWith : Axes → ℤ → StoredCell
 cellWith p internal =
@@ -196,13 +197,18 @@ storedBest axis s t w i = at (storedAt axis s t w i) (cell w i)
 abbrev pub windBest : Axis → Side → Stored → ℕ → ℕ → Best Cell
 windBest axis s t internals w = over s (storedBest axis s t w) (numbers internals 1)
 
+-- of four cells that stand by themselves
+abbrev pub fourBest : Axis → Side → List StoredCell → ℕ → ℕ → Best Cell
+fourBest axis s four internals w =
+    over s (λ i. at (spanSide s (spanOn axis (getD four (i - 1) noCell))) (cell w i)) (numbers internals 1)
+
 abbrev pub bestUpTo : Axis → Side → Stored → ℕ → ℕ → Best Cell
 bestUpTo axis s t internals n = over s (windBest axis s t internals) (numbers n 1)
 
 -- ---- the cell that was found, as it is shown
 
 abbrev pub alternativesOf : Axis → Side → Building → List Step → Wind → List Face → List ℕ
-alternativesOf axis s b profile w fs = padded 24 (map (λ f. pickOf s axis b w (factorOf profile f) f) fs)
+alternativesOf axis s b profile w fs = padded mostFaces (map (λ f. pickOf s axis b w (factorOf profile f) f) fs)
 
 abbrev pub extremeWith : Top → ℕ → List ℕ → Extreme
 extremeWith t faces chosen =

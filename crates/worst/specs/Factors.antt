@@ -1,4 +1,4 @@
--- The factors of a job's faces, which the engine finds once for all winds and keeps in two arrays. Only contracts of
+-- The factors of a job's faces, which the engine finds once for all winds and keeps in two lists. Only contracts of
 -- private functions cite it.
 use mathlib.Core.Path.{_≡_}
 use mathlib.Core.Bool.{true, cond}
@@ -6,7 +6,7 @@ use mathlib.Core.List.{List, []}
 use Prim.Native.Nat.{ℕ, _≤_, _<_}
 use lib.IntN.{ℤ, pos, natAbs}
 use lib.Signed.{_≤ℤ_}
-use lib.ListN.{getD, replicate}
+use lib.ListN.{length, getD, replicate}
 use Rattle.whole.specs.Lists.{firstOf}
 use Rattle.entry.specs.declared.Step.{Step}
 use Rattle.building.specs.Year.{hasHeights}
@@ -39,7 +39,7 @@ pub record ProfileSmall (p : Profile) : Type 0 where
 
 -- where faces have heights, they and the profile are small
 pub record Profiled (j : Job) : Type 0 where
-  pub few : j .faces .count ≤ 24
+  pub few : j .faces .count ≤ 240
   pub profile : hasHeights (j .year) ≡ true → ProfileSmall (j .profile)
   pub heights : hasHeights (j .year) ≡ true → (i : ℕ) → i < j .faces .count
       → Height (getD (j .faces .entry) i noFace .height)
@@ -58,9 +58,10 @@ pub record Fraction (k : Factor) : Type 0 where
 abbrev pub factorIn : List ℤ → List ℤ → ℕ → Factor
 factorIn parts wholes i = record { part = getD parts i (pos 0); whole = getD wholes i (pos 0) }
 
--- at first each of the 24 is 1 / 1
+-- at first each is 1 / 1
 abbrev pub AllOne : List ℤ → List ℤ → Type 0
-AllOne parts wholes = (parts ≡ replicate 24 (pos 1)) × (wholes ≡ replicate 24 (pos 1))
+AllOne parts wholes =
+    (parts ≡ replicate (length parts) (pos 1)) × (wholes ≡ replicate (length wholes) (pos 1))
 
 -- then they are those of the faces
 abbrev pub FactorsStand : List Step → Faces → List ℤ → List ℤ → Type 0

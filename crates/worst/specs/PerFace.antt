@@ -9,6 +9,7 @@ use lib.ListN.{length}
 use Rattle.whole.specs.Lists.{firstOf}
 use Rattle.entry.specs.declared.Wind.{Wind}
 use Rattle.entry.specs.declared.Face.{Face}
+use Rattle.job.specs.Carried.{mostFaces}
 use Rattle.job.specs.Walk.{Reading, Accepted, Refused}
 use Rattle.worst.specs.declared.Axis.the-variants.{X, Y, Z}
 use Rattle.worst.specs.declared.AxisForces.{AxisForces}
@@ -35,9 +36,9 @@ noForce = record { x = pos 0; y = pos 0; z = pos 0 }
 abbrev pub noFaceForces : FaceForces
 noFaceForces = record { count = 0; first = noForce; last = noForce }
 
--- of the faces in order, and zeros up to 24
+-- of the faces in order, and zeros behind them
 abbrev pub forcesUpTo : List FaceForces → CellForces
-forcesUpTo all = record { face = firstOf noFaceForces 24 all }
+forcesUpTo all = record { face = firstOf noFaceForces mostFaces all }
 
 abbrev pub cellForces : Given → Wind → ℤ → CellForces
 cellForces g w internal = forcesUpTo (map (faceForces g w internal) (g .faces))

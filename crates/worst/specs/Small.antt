@@ -1,7 +1,7 @@
 -- What the numbers of an acceptable job can come to. Only contracts of private functions cite it.
 use mathlib.Core.Path.{_≡_}
 use mathlib.Core.Bool.{true}
-use Prim.Native.Nat.{ℕ, _*_, _≤_, _<_}
+use Prim.Native.Nat.{ℕ, _≤_, _<_}
 use lib.IntN.{ℤ, pos, natAbs}
 use lib.Signed.{_≤ℤ_}
 use lib.ListN.{getD}
@@ -14,8 +14,6 @@ use Rattle.entry.specs.declared.Wind.{Wind}
 use Rattle.entry.specs.declared.Face.{Face}
 use Rattle.job.specs.Carried.{noWind, noFace}
 use Rattle.worst.specs.declared.outside.Outside.{Outside}
-use Rattle.worst.specs.declared.sums.Sums.{Sums}
-use Rattle.worst.specs.declared.sums.Axes.{Axes}
 use Rattle.worst.specs.declared.tops.Top.{Top}
 use Rattle.worst.specs.Forces.{acts, factorOf}
 use Rattle.worst.specs.Factors.{Fraction, Profiled, profileOf}
@@ -35,17 +33,6 @@ Pressure p = natAbs p ≤ 1500000000
 
 abbrev pub Weight : ℤ → Type 0
 Weight z = natAbs z ≤ 150000000000000
-
--- n faces added up
-pub record SumsSmall (n : ℕ) (p : Sums) : Type 0 where
-  pub greatest : natAbs (p .greatest) ≤ n * 180000000000000000
-  pub least : natAbs (p .least) ≤ n * 180000000000000000
-  pub weight : natAbs (p .weight) ≤ n * 150000000000000
-
-pub record AxesSmall (n : ℕ) (p : Axes) : Type 0 where
-  pub x : SumsSmall n (p .x)
-  pub y : SumsSmall n (p .y)
-  pub z : SumsSmall n (p .z)
 
 abbrev pub Dense : Building → Type 0
 Dense b = natAbs (b .density) ≤ 1500
@@ -70,7 +57,7 @@ pub record Met (b : Building) (w : Wind) (f : Face) : Type 0 where
 
 -- the faces of a job, under one wind and under all
 pub record AllMet (b : Building) (fs : Faces) (w : Wind) : Type 0 where
-  pub few : fs .count ≤ 24
+  pub few : fs .count ≤ 240
   pub each : (i : ℕ) → i < fs .count → Met b w (getD (fs .entry) i noFace)
 
 pub record Ready (j : Job) : Type 0 where

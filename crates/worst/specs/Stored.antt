@@ -24,7 +24,9 @@ use Rattle.worst.specs.Best.{Best, none, at, best}
 use Rattle.whole.specs.Lists.{numbers}
 use Rattle.worst.specs.Cases.{Loads, Case, each, choices, total}
 use Rattle.worst.specs.Forces.{Given, loads}
+use Rattle.pair.specs.Total.{pairOf, units, noPair}
 use Rattle.worst.specs.Shown.{shown}
+use Rattle.worst.specs.Within.{mostNewtons, allWithin}
 use Rattle.worst.specs.Worst.{given, noSix}
 
 -- ---- a cell: one wind and one internal coefficient
@@ -42,8 +44,8 @@ valueOf (at v a) = v
 abbrev pub spanOf : Axis → Given → ℕ → ℕ → Span
 spanOf axis g w i =
     record {
-      greatest = valueOf (bestChoice Greatest (loads axis g) w i);
-      least = valueOf (bestChoice Least (loads axis g) w i);
+      greatest = pairOf (valueOf (bestChoice Greatest (loads axis g) w i));
+      least = pairOf (valueOf (bestChoice Least (loads axis g) w i));
     }
 
 abbrev pub cellOf : Given → ℕ → ℕ → StoredCell
@@ -55,7 +57,7 @@ abbrev pub storedCells : ℕ
 storedCells = 32
 
 abbrev pub noSpan : Span
-noSpan = record { greatest = pos 0; least = pos 0 }
+noSpan = record { greatest = noPair; least = noPair }
 
 abbrev pub noCell : StoredCell
 noCell = record { x = noSpan; y = noSpan; z = noSpan }
@@ -89,8 +91,8 @@ spanOn Y t = t .y
 spanOn Z t = t .z
 
 abbrev pub spanSide : Side → Span → ℤ
-spanSide Greatest p = p .greatest
-spanSide Least p = p .least
+spanSide Greatest p = units (p .greatest)
+spanSide Least p = units (p .least)
 
 -- what is stored for a wind and an internal coefficient, both from 1
 abbrev pub storedAt : Axis → Side → Stored → ℕ → ℕ → ℤ
@@ -121,6 +123,10 @@ extremesBy axis t c = record { greatest = extremeBy axis Greatest t c; least = e
 unfoldable pub sixBy : Stored → Carried → Six
 sixBy t c = record { x = extremesBy X t c; y = extremesBy Y t c; z = extremesBy Z t c }
 
+-- those that a job of its year can have tell; in the place of others its own do
+abbrev pub telling : Stored → Carried → Stored
+telling t c = cond (allWithin (mostNewtons (c .year)) (t .cell)) t (storedOf c)
+
 abbrev pub reckonedBy : Stored → Reading → Reckoning
-reckonedBy t (Accepted c) = record { verdict = accepted; six = sixBy t c }
-reckonedBy t (Refused v) = record { verdict = v; six = noSix }
+reckonedBy t (Accepted c) = record { verdict = accepted; year = c .year; six = sixBy (telling t c) c }
+reckonedBy t (Refused v) = record { verdict = v; year = pos 0; six = noSix }

@@ -7,6 +7,7 @@ ghost use Rattle.worst.specs.Forces.{area};
 ghost use Rattle.worst.specs.Engine.{pick, pickOf, endOf, topAt, windNumbered, withAlternatives, extremesOf};
 ghost use Rattle.worst.specs.Engine.{sixOf};
 ghost use Rattle.worst.specs.Small.{OutsideSmall, Weight, Met, Ready, OnJob};
+ghost use Rattle.worst.specs.Lent.{facesBy, jobBy, Lent};
 ghost use Rattle.worst.specs.Table.{Filled};
 ghost use Rattle.worst.specs.Factors.{profileOf, Fraction, FactorsStand, Fractions};
 use crate::Axis;
@@ -14,6 +15,7 @@ use crate::Extreme;
 use crate::Extremes;
 use crate::Side;
 use crate::Six;
+use crate::faces::face_in;
 use crate::outside::Outside;
 use crate::outside::found;
 use crate::outside::takes_part;
@@ -26,7 +28,7 @@ use crate::tops::falls_short;
 use building::Building;
 use entry::Face;
 use entry::Wind;
-use job::Job;
+use job::Setting;
 use job::Winds;
 
 fn area_on(axis: Axis, f: Face) -> i64
@@ -111,18 +113,20 @@ fn wind_of(winds: Winds, number: u32) -> Wind
 }
 
 // The two cases of an axis, with the alternatives of each.
-fn extremes(tops: Tops, faces: u32, high: [u8; 24], low: [u8; 24]) -> Extremes
+fn extremes(tops: Tops, faces: u32, high: [u8; 240], low: [u8; 240]) -> Extremes
     ensures { λ r. ⌜ r ≡ withAlternatives tops faces high low ⌝ }
 {
+    let most = tops.greatest.total;
+    let fewest = tops.least.total;
     let greatest = Extreme {
-        total: tops.greatest.total,
+        total: most,
         wind: tops.greatest.wind,
         internal: tops.greatest.internal,
         faces,
         alternative: high,
     };
     let least = Extreme {
-        total: tops.least.total,
+        total: fewest,
         wind: tops.least.wind,
         internal: tops.least.internal,
         faces,
@@ -134,58 +138,96 @@ fn extremes(tops: Tops, faces: u32, high: [u8; 24], low: [u8; 24]) -> Extremes
 // The two cases of one axis, in one pass over the faces.
 fn extremes_on(
     axis: Axis,
-    job: Job,
+    s: Setting,
+    faces: u32,
+    flat: &[i64],
     tops: Tops,
-    parts: &[i64; 24],
-    wholes: &[i64; 24],
+    parts: &[i64],
+    wholes: &[i64],
     asked: &mut [bool; 40],
     first: &mut [i64; 40],
     last: &mut [i64; 40],
 ) -> Extremes
-    requires { ⌜ Ready job × Fractions (job .faces) (now parts) (now wholes)
-        × FactorsStand (profileOf job) (job .faces) (now parts) (now wholes)
-        × ((s : Side) → OnJob job (endOf s tops))
-        × Filled (job .building) (now asked) (now first) (now last) ⌝ }
-    ensures { λ r. ⌜ (r ≡ extremesOf axis job tops)
-        × Filled (job .building) (now (asked .exit)) (now (first .exit)) (now (last .exit)) ⌝ }
+    requires { ⌜ Lent faces (now flat) (now parts) (now wholes) × Ready (jobBy s faces (now flat))
+        × Fractions (facesBy faces (now flat)) (now parts) (now wholes)
+        × FactorsStand (profileOf (jobBy s faces (now flat))) (facesBy faces (now flat)) (now parts) (now wholes)
+        × ((side : Side) → OnJob (jobBy s faces (now flat)) (endOf side tops))
+        × Filled (s .building) (now asked) (now first) (now last) ⌝ }
+    ensures { λ r. ⌜ (r ≡ extremesOf axis (jobBy s faces (now (flat .entry))) tops)
+        × Filled (s .building) (now (asked .exit)) (now (first .exit)) (now (last .exit)) ⌝ }
 {
-    let b = job.building;
-    let winds = job.winds;
-    let faces = job.faces;
-    let count = faces.count as usize;
+    let b = s.building;
+    let winds = s.winds;
+    let count = faces as usize;
     let up = wind_of(winds, tops.greatest.wind);
     let down = wind_of(winds, tops.least.wind);
-    let mut high = [0u8; 24];
-    let mut low = [0u8; 24];
+    let mut high = [0u8; 240];
+    let mut low = [0u8; 240];
     let mut i = 0;
     while i < count {
-        let f = faces.entry[i];
+        let f = face_in(flat, i);
         let k = factor_in(parts, wholes, i);
         high[i] = alternative(axis, Side::Greatest, b, up, k, f, asked, first, last);
         low[i] = alternative(axis, Side::Least, b, down, k, f, asked, first, last);
         i += 1;
     }
-    extremes(tops, faces.count, high, low)
+    extremes(tops, faces, high, low)
 }
 
 // All six.
 pub(crate) fn shown(
-    job: Job,
+    s: Setting,
+    faces: u32,
+    flat: &[i64],
     ends: Ends,
-    parts: &[i64; 24],
-    wholes: &[i64; 24],
+    parts: &[i64],
+    wholes: &[i64],
     asked: &mut [bool; 40],
     first: &mut [i64; 40],
     last: &mut [i64; 40],
 ) -> Six
-    requires { ⌜ Ready job × Fractions (job .faces) (now parts) (now wholes)
-        × FactorsStand (profileOf job) (job .faces) (now parts) (now wholes)
-        × ((axis : Axis) (s : Side) → OnJob job (topAt axis s ends))
-        × Filled (job .building) (now asked) (now first) (now last) ⌝ }
-    ensures { λ r. ⌜ r ≡ sixOf job ends ⌝ }
+    requires { ⌜ Lent faces (now flat) (now parts) (now wholes) × Ready (jobBy s faces (now flat))
+        × Fractions (facesBy faces (now flat)) (now parts) (now wholes)
+        × FactorsStand (profileOf (jobBy s faces (now flat))) (facesBy faces (now flat)) (now parts) (now wholes)
+        × ((axis : Axis) (side : Side) → OnJob (jobBy s faces (now flat)) (topAt axis side ends))
+        × Filled (s .building) (now asked) (now first) (now last) ⌝ }
+    ensures { λ r. ⌜ r ≡ sixOf (jobBy s faces (now (flat .entry))) ends ⌝ }
 {
-    let x = extremes_on(Axis::X, job, ends.x, parts, wholes, asked, first, last);
-    let y = extremes_on(Axis::Y, job, ends.y, parts, wholes, asked, first, last);
-    let z = extremes_on(Axis::Z, job, ends.z, parts, wholes, asked, first, last);
+    let x = extremes_on(
+        Axis::X,
+        s,
+        faces,
+        flat,
+        ends.x,
+        parts,
+        wholes,
+        asked,
+        first,
+        last,
+    );
+    let y = extremes_on(
+        Axis::Y,
+        s,
+        faces,
+        flat,
+        ends.y,
+        parts,
+        wholes,
+        asked,
+        first,
+        last,
+    );
+    let z = extremes_on(
+        Axis::Z,
+        s,
+        faces,
+        flat,
+        ends.z,
+        parts,
+        wholes,
+        asked,
+        first,
+        last,
+    );
     Six { x, y, z }
 }

@@ -15,11 +15,15 @@ ghost use Rattle.worst.specs.Worst.{given};
 ghost use Rattle.worst.specs.PerFace.{noForce, forcesUpTo, cellForces, forcesIn};
 ghost use Rattle.worst.specs.AtPressure.{coefficientsOf, coefficientsAt, forceWith, forcesWith, forcesBy};
 ghost use Rattle.worst.specs.Factors.{Fraction};
+ghost use Rattle.worst.specs.Lent.{facesBy, jobBy, Numbered};
 ghost use Rattle.worst.specs.Small.{FaceSmall, Pressure, Met, AllMet};
 use crate::AxisForces;
 use crate::CellForces;
 use crate::FaceForces;
+use crate::faces::face_in;
+use crate::faces::lay;
 use crate::outside::takes_part;
+use crate::reckon::setting_of;
 use crate::speeds::Factor;
 use crate::speeds::factor_in;
 use crate::speeds::fill;
@@ -30,6 +34,7 @@ use building::Dated;
 use entry::Face;
 use entry::Wind;
 use job::Job;
+use job::Setting;
 use verdict::Verdict;
 
 // How many outside coefficients a zone has, in thousandths the first and the last: one that it has alone is both.
@@ -131,29 +136,29 @@ fn no_cell() -> CellForces
     ensures { λ r. ⌜ r ≡ forcesUpTo [] ⌝ }
 {
     let none = no_forces(0);
-    let face = [none; 24];
+    let face = [none; 240];
     CellForces { face }
 }
 
 // All faces of a job that is in order.
-fn cell(job: Job, w: Wind, internal: i64) -> CellForces
-    requires { ⌜ InOrder (carried job) × AllMet (job .building) (job .faces) w × (natAbs internal ≤ 100) ⌝ }
-    ensures { λ r. ⌜ r ≡ cellForces (given (carried job)) w internal ⌝ }
+fn cell(s: Setting, count: u32, flat: &[i64], w: Wind, internal: i64) -> CellForces
+    requires { ⌜ Numbered count (now flat) × InOrder (carried (jobBy s count (now flat)))
+        × AllMet (s .building) (facesBy count (now flat)) w × (natAbs internal ≤ 100) ⌝ }
+    ensures { λ r. ⌜ r ≡ cellForces (given (carried (jobBy s count (now (flat .entry))))) w internal ⌝ }
 {
-    let mut parts = [1i64; 24];
-    let mut wholes = [1i64; 24];
-    fill(job, &mut parts, &mut wholes);
-    let b = job.building;
+    let mut parts = [1i64; 240];
+    let mut wholes = [1i64; 240];
+    fill(s, count, flat, &mut parts, &mut wholes);
+    let b = s.building;
     let d = Dated {
-        year: job.year,
+        year: s.year,
         building: b,
     };
-    let faces = job.faces;
-    let count = faces.count as usize;
+    let n = count as usize;
     let mut all = no_cell();
     let mut i = 0;
-    while i < count {
-        let f = faces.entry[i];
+    while i < n {
+        let f = face_in(flat, i);
         let factor = factor_in(&parts, &wholes, i);
         let one = face_forces(d, w, factor, f, internal);
         all.face[i] = one;
@@ -173,7 +178,15 @@ fn cell_at(job: Job, wind: u32, internal: u32) -> CellForces
     let internals = job.internals;
     let w = (wind - 1) as usize;
     let i = (internal - 1) as usize;
-    cell(job, winds.entry[w], internals.entry[i])
+    let mut flat = [0i64; 1440];
+    lay(job.faces, &mut flat);
+    cell(
+        setting_of(job),
+        job.faces.count,
+        &flat,
+        winds.entry[w],
+        internals.entry[i],
+    )
 }
 
 // Whether there is one of that number, from 1.

@@ -2,20 +2,26 @@
 // case that reaches it.
 ghost use mathlib.Core.Path.{_≡_};
 ghost use Rattle.job.specs.Walk.{judged};
-ghost use Rattle.worst.specs.Worst.{worstOf};
+ghost use Rattle.sheet.specs.Sheet.{reading};
+ghost use Rattle.worst.specs.Worst.{reckoned, worstOf};
 ghost use Rattle.worst.specs.Stored.{storedIn, reckonedBy};
 ghost use Rattle.worst.specs.PerFace.{forcesIn};
 use job::Job;
+use pair::Pair;
 use verdict::Verdict;
 
+mod faces; // the faces as numbers
+mod amounts; // a sum that no number of 64 bits holds
 mod speeds; // the speed of a wind at a face
 mod outside; // the outside coefficients, each looked up once
 mod sums; // the faces under a wind, added up
 mod tops; // the best cell so far
 mod cells; // the sums of every internal coefficient under a wind
 mod furthest; // the furthest of all cells
+pub mod within; // whether a job can have such sums
 mod chosen; // the cases that were found, with their alternatives
 mod engine; // the sums of all cells, and the six extremes that they tell
+mod read; // a sheet, read and reckoned
 mod reckon; // a refusal, or the six extremes
 mod forces; // the force of each face, for whoever adds up cases one by one
 
@@ -33,11 +39,11 @@ pub enum Axis {
 // A total with the first case that reaches it: the numbers of its wind and its internal coefficient, from 1, and
 // each face's alternative, with zeros past the last face.
 pub struct Extreme {
-    pub total: i64,
+    pub total: Pair,
     pub wind: u32,
     pub internal: u32,
     pub faces: u32,
-    pub alternative: [u8; 24],
+    pub alternative: [u8; 240],
 }
 
 // The two extremes of one axis.
@@ -56,8 +62,8 @@ pub struct Six {
 // The greatest and the least sum over the faces, on one axis.
 #[repr(C)]
 pub struct Span {
-    pub greatest: i64,
-    pub least: i64,
+    pub greatest: Pair,
+    pub least: Pair,
 }
 
 // Of one wind and one internal coefficient.
@@ -74,9 +80,10 @@ pub struct Stored {
     pub cell: [StoredCell; 32],
 }
 
-// A job's refusal, with zeros for extremes; or the six of one that is accepted.
+// A job's refusal, with zeros for all else; or the year of one that is accepted, and its six extremes.
 pub struct Reckoning {
     pub verdict: Verdict,
+    pub year: i64,
     pub six: Six,
 }
 
@@ -96,7 +103,14 @@ pub struct FaceForces {
 
 // Of all faces in order, under one wind and one internal coefficient, with zeros past the last.
 pub struct CellForces {
-    pub face: [FaceForces; 24],
+    pub face: [FaceForces; 240],
+}
+
+// A sheet's refusal, or its six extremes. No record is made of it.
+pub fn worst_in(s: &[u8]) -> Reckoning
+    ensures { λ r. ⌜ r ≡ reckoned (reading (now (s .entry))) ⌝ }
+{
+    read::read_six(s)
 }
 
 // A job's own refusal, or its six extremes.
@@ -115,7 +129,7 @@ pub fn sums_of(job: Job) -> Stored
     reckon::sums_by(job, v)
 }
 
-// A job's own refusal, or the six extremes that stored sums tell.
+// A job's own refusal, or the six extremes that stored sums tell: its own sums, where no job of its year has those.
 pub fn worst_stored(job: Job, stored: Stored) -> Reckoning
     ensures { λ r. ⌜ r ≡ reckonedBy stored (judged job) ⌝ }
 {

@@ -2,14 +2,17 @@
 ghost use mathlib.Core.Path.{_≡_};
 ghost use Prim.Native.Nat.{_+_, _*_, _/_, _<_, _≤_};
 ghost use lib.IntN.{pos, natAbs};
+ghost use lib.ListN.{length};
 ghost use lib.Signed.{_≤ℤ_};
 ghost use Rattle.worst.specs.Speed.{factorBetween, factorAt, speedAt};
 ghost use Rattle.worst.specs.Factors.{stepsOf, profileOf, Height, StepSmall, ProfileSmall, Profiled};
 ghost use Rattle.worst.specs.Factors.{Fraction, factorIn, AllOne, FactorsStand};
+ghost use Rattle.worst.specs.Lent.{facesBy, jobBy, Lent};
+use crate::faces::face_in;
 use building::year::has_heights;
 use entry::Step;
-use job::Job;
 use job::Profile;
+use job::Setting;
 
 // The fraction part / whole.
 pub struct Factor {
@@ -53,20 +56,21 @@ fn factor_at(profile: Profile, height: i64) -> Factor
     }
 }
 
-// The factors of a job's faces, into two arrays that hold 1 / 1 throughout: so they stay in a year without heights.
-pub(crate) fn fill(job: Job, parts: &mut [i64; 24], wholes: &mut [i64; 24])
-    requires { ⌜ AllOne (now parts) (now wholes) × Profiled job ⌝ }
-    ensures { λ r. ⌜ FactorsStand (profileOf job) (job .faces) (now (parts .exit)) (now (wholes .exit)) ⌝ }
+// The factors of a job's faces, into two lists that hold 1 / 1 throughout: so they stay in a year without heights.
+pub(crate) fn fill(s: Setting, faces: u32, flat: &[i64], parts: &mut [i64], wholes: &mut [i64])
+    requires { ⌜ Lent faces (now flat) (now parts) (now wholes) × AllOne (now parts) (now wholes)
+        × Profiled (jobBy s faces (now flat)) ⌝ }
+    ensures { λ r. ⌜ FactorsStand (profileOf (jobBy s faces (now (flat .entry)))) (facesBy faces (now (flat .entry)))
+        (now (parts .exit)) (now (wholes .exit)) ⌝ }
 {
-    if !has_heights(job.year) {
+    if !has_heights(s.year) {
         return;
     }
-    let profile = job.profile;
-    let faces = job.faces;
-    let count = faces.count as usize;
+    let profile = s.profile;
+    let count = faces as usize;
     let mut i = 0;
     while i < count {
-        let f = faces.entry[i];
+        let f = face_in(flat, i);
         let height = f.height;
         let factor = factor_at(profile, height);
         let part = factor.part;
@@ -77,9 +81,9 @@ pub(crate) fn fill(job: Job, parts: &mut [i64; 24], wholes: &mut [i64; 24])
     }
 }
 
-// The factor at place i of the two arrays.
-pub(crate) fn factor_in(parts: &[i64; 24], wholes: &[i64; 24], i: usize) -> Factor
-    requires { ⌜ i < 24 ⌝ }
+// The factor at place i of the two lists.
+pub(crate) fn factor_in(parts: &[i64], wholes: &[i64], i: usize) -> Factor
+    requires { ⌜ (i < length (now parts)) × (i < length (now wholes)) ⌝ }
     ensures { λ r. ⌜ r ≡ factorIn (now (parts .entry)) (now (wholes .entry)) i ⌝ }
 {
     let part = parts[i];

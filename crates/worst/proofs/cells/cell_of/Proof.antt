@@ -3,6 +3,7 @@ use mathlib.Core.Path.{ap, _∙_}
 use mir.Syntax.{w64}
 use borrow.Author.Needs.{needs}
 use Rattle.whole.proofs.Size.{num≤, back}
+use Rattle.worst.specs.Amounts.{sumsIn}
 use Rattle.worst.specs.Engine.{spanWith}
 use Rattle.worst.proofs.cells.cell_of.Statement.{statement}
 use Rattle.worst.proofs.cells.cell_of.Tie as tie
@@ -14,9 +15,9 @@ returns c =
     let a = x .before in
     let read = back w64 (num≤ (a .args .internal) (a .pre .1)) tt .same in
     λ j. record {
-      x = (x .span-of .ensures ∙ ap (spanWith (a .args .sums .x)) read) j;
-      y = (y .span-of2 .ensures ∙ ap (spanWith (a .args .sums .y)) read) j;
-      z = (c .span-of3 .ensures ∙ ap (spanWith (a .args .sums .z)) read) j;
+      x = (x .span-of .ensures ∙ ap (spanWith (sumsIn (a .args .sums .x))) read) j;
+      y = (y .span-of2 .ensures ∙ ap (spanWith (sumsIn (a .args .sums .y))) read) j;
+      z = (c .span-of3 .ensures ∙ ap (spanWith (sumsIn (a .args .sums .z))) read) j;
     }
 
 pub cell-of-spec : {M : Type 1} → statement M

@@ -10,6 +10,7 @@ use mir.Syntax.{w64}
 use Rattle.whole.proofs.Size.{Num, num≤, back, bound}
 use Rattle.worst.specs.declared.StoredCell.{StoredCell}
 use Rattle.whole.specs.Lists.{numbers}
+use Rattle.worst.specs.Amounts.{axesIn}
 use Rattle.worst.specs.Engine.{cellWith, UpTo}
 use Rattle.worst.proofs.StoredSums.{up-to-none, up-to-next}
 use Rattle.worst.proofs.cells.of_wind.Statement.{statement}
@@ -19,7 +20,7 @@ abbrev Inv-loop : tie.InvT-loop
 Inv-loop sums internals count four₀ i₀ four i =
     (i ≤ count)
     × ((h : ℕ → StoredCell)
-    → ((k : ℕ) → k < count → h k ≡ cellWith sums (getD (internals .entry) k (pos 0)))
+    → ((k : ℕ) → k < count → h k ≡ cellWith (axesIn sums) (getD (internals .entry) k (pos 0)))
     → UpTo 4 h i (four .cell))
 
 abbrev μ-loop : tie.MeasureT-loop
@@ -57,7 +58,7 @@ loop-again c =
     let d = c .before in
     let t = counted d in
     let before = d .before .before .loop in
-    let stored = c .cell-of .ensures ∙ ap (cellWith (a d .args .sums)) (internal d .same) in (
+    let stored = c .cell-of .ensures ∙ ap (cellWith (axesIn (a d .args .sums))) (internal d .same) in (
       omega arith,
       λ h e. up-to-next 4 h (i d) (before .four .cell) (c .cell-of .result) (few d) (before .inv .1 h e)
           (e (i d) t ∙ sym stored),

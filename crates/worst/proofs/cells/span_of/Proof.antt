@@ -1,8 +1,13 @@
--- `cells::span_of` meets its contract: each sum is built as the code builds it, and is at most 7.92 × 10^18 in size.
-use Prim.Native.Nat.{_*_, _≤_}
-use lib.IntN.{ℤ, pos, natAbs}
+-- `cells::span_of` meets its contract: each sum less the internal coefficient's part, as a pair.
+use mathlib.Core.Path.{_≡_, ap, _∙_}
+use Prim.Native.Nat.{_≤_}
+use lib.IntN.{ℤ, pos, natAbs, _-ℤ_, _*ℤ_}
 use mir.Syntax.{w64}
-use Rattle.whole.proofs.Size.{Num, num, num≤, back, fit, _⊖_, _⊗_}
+use Rattle.whole.proofs.Size.{Num, num, num≤, back, bound, fit, _⊗_}
+use Rattle.pair.specs.declared.Pair.{Pair}
+use Rattle.pair.specs.Total.{pairOf}
+use Rattle.worst.specs.declared.amounts.Amount.{Amount}
+use Rattle.worst.specs.Amounts.{amountIn}
 use Rattle.worst.proofs.cells.span_of.Statement.{statement}
 use Rattle.worst.proofs.cells.span_of.Tie as tie
 
@@ -10,37 +15,41 @@ module _ (a : tie.Start) where
   abbrev tenfold : Num
   tenfold = back w64 (num≤ (a .args .internal) (a .pre .1)) tt ⊗ num (pos 10)
 
-  abbrev inside : Num
-  inside = back w64 tenfold tt ⊗ back w64 (num≤ (a .args .sums .weight) (a .pre .0 .weight)) tt
+  abbrev weight : Num
+  weight = back w64 (num≤ (a .args .sums .weight) (a .pre .0 .weight)) tt
 
-  abbrev total : (z : ℤ) → natAbs z ≤ 24 * 180000000000000000 → Num
-  total z h = back w64 (num≤ z h) tt ⊖ back w64 inside tt
+  -- an amount less the part, settled
+  spanned : {p : Pair} (r s : Amount) → p ≡ pairOf (amountIn r)
+      → amountIn r ≡ amountIn s -ℤ back w64 tenfold tt .has *ℤ weight .has
+      → p ≡ pairOf (amountIn s -ℤ a .args .internal *ℤ pos 10 *ℤ a .args .sums .weight)
+  spanned r s e q = e ∙ ap pairOf (q ∙ (λ i. amountIn s -ℤ back w64 tenfold tt .same i *ℤ weight .same i))
 
-  abbrev high : Num
-  high = total (a .args .sums .greatest) (a .pre .0 .greatest)
+mul-tenfold : tie.Need-mul-tenfold
+mul-tenfold c = fit {w = w64} (tenfold c) tt
 
-  abbrev low : Num
-  low = total (a .args .sums .least) (a .pre .0 .least)
+less-times-requires : tie.Need-less-times-requires
+less-times-requires c κs =
+    let a = c .before in
+    (a .pre .0 .greatest, bound (back w64 (tenfold a) tt), bound (weight a))
 
-mul-inside : tie.Need-mul-inside
-mul-inside c = fit {w = w64} (tenfold c) tt
-
-mul-inside-2 : tie.Need-mul-inside-2
-mul-inside-2 c = fit {w = w64} (inside (c .before .before)) tt
-
-sub-t4 : tie.Need-sub-t4
-sub-t4 c = fit {w = w64} (high (c .before .before .before .before)) tt
-
-abbrev start : tie.After-struct-told3 → tie.Start
-start c = c .before .before .before .before .before .before
-
-sub-t5 : tie.Need-sub-t5
-sub-t5 c = fit {w = w64} (low (start c)) tt
+less-times-requires-2 : tie.Need-less-times-requires-2
+less-times-requires-2 c κs =
+    let a = c .before .before .before .before in
+    (a .pre .0 .least, bound (back w64 (tenfold a) tt), bound (weight a))
 
 returns : tie.Need-returns
 returns c =
-    let a = start c in
-    λ j. record { greatest = back w64 (high a) tt .same j; least = back w64 (low a) tt .same j }
+    let l = c .before in
+    let h = l .before .before in
+    let m = h .before in
+    let a = m .before .before in
+    λ j. record {
+      greatest = spanned a (m .less-times .result) (a .args .sums .greatest) (h .settled .ensures) (m .less-times .ensures .0) j;
+      least = spanned a (l .less-times2 .result) (a .args .sums .least) (c .settled2 .ensures) (l .less-times2 .ensures .0) j;
+    }
 
 pub span-of-spec : {M : Type 1} → statement M
-span-of-spec = tie.close (tie.spec mul-inside mul-inside-2 sub-t4 sub-t5 returns)
+span-of-spec =
+    tie.close
+    (tie.spec mul-tenfold less-times-requires (λ c κs. c .less-times .ensures .1) less-times-requires-2
+    (λ c κs. c .less-times2 .ensures .1) returns)

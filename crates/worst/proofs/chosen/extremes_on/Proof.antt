@@ -1,5 +1,5 @@
 -- `chosen::extremes_on` meets its contract: after i faces the alternatives of the first i stand in both arrays.
-use mathlib.Core.Path.{_≡_, refl, sym, ap, _∙_, subst}
+use mathlib.Core.Path.{_≡_, refl, sym, _∙_, subst, subst₂}
 use mathlib.Core.List.{List}
 use Prim.Native.Nat.{ℕ, _+_, _-_, _≤_, _<_}
 use native.Mathlib.Omega.{arith}
@@ -11,6 +11,7 @@ use Rattle.building.specs.declared.Building.{Building}
 use Rattle.entry.specs.declared.Wind.{Wind}
 use Rattle.entry.specs.declared.Step.{Step}
 use Rattle.entry.specs.declared.Face.{Face}
+use Rattle.entry.specs.Flat.{facesIn}
 use Rattle.job.specs.declared.Job.{Job}
 use Rattle.job.specs.Carried.{noFace}
 use Rattle.worst.specs.declared.Axis.{Axis}
@@ -21,6 +22,8 @@ use Rattle.worst.specs.Table.{Filled}
 use Rattle.worst.specs.Engine.{pickOf, endOf, windNumbered, alternativesOf, alternativesAt, withAlternatives}
 use Rattle.worst.specs.Factors.{profileOf, FactorsStand, Fraction}
 use Rattle.worst.specs.Small.{Met}
+use Rattle.worst.specs.Lent.{facesBy, jobBy}
+use Rattle.worst.proofs.LentFaces.{face-at}
 use Rattle.worst.proofs.Added.{alternatives-next}
 use Rattle.worst.proofs.chosen.extremes_on.Statement.{statement}
 use Rattle.worst.proofs.chosen.extremes_on.Tie as tie
@@ -30,44 +33,57 @@ abbrev HoldsFirst : Axis → Side → Building → List Step → List Face → W
 HoldsFirst axis s b profile faces w i l = l ≡ alternativesOf axis s b profile w (firstOf noFace i faces)
 
 abbrev Inv-loop : tie.InvT-loop
-Inv-loop axis tops parts wholes asked₀ first₀ last₀ b faces count up down high₀ low₀ i₀ asked first last high low i =
+Inv-loop axis faces flat tops parts wholes asked₀ first₀ last₀ b count up down high₀ low₀ i₀ asked first last high low
+    i =
     (i ≤ count) × Filled b asked first last
-    × ((profile : List Step) → FactorsStand profile faces parts wholes
-    → HoldsFirst axis Greatest b profile (faces .entry) up i high
-    × HoldsFirst axis Least b profile (faces .entry) down i low)
+    × ((profile : List Step) → FactorsStand profile (facesBy faces flat) parts wholes
+    → HoldsFirst axis Greatest b profile (facesIn faces flat) up i high
+    × HoldsFirst axis Least b profile (facesIn faces flat) down i low)
 
 abbrev μ-loop : tie.MeasureT-loop
-μ-loop axis tops parts wholes asked₀ first₀ last₀ b faces count up down high₀ low₀ i₀ asked first last high low i =
+μ-loop axis faces flat tops parts wholes asked₀ first₀ last₀ b count up down high₀ low₀ i₀ asked first last high low i =
     count - i
 
 abbrev from-winds : tie.After-wind-of2 Inv-loop μ-loop → tie.Start Inv-loop μ-loop
-from-winds c = c .before .before .before .before .before
+from-winds c = c .before .before .before .before
 
 loop-holds : tie.Need-loop-holds Inv-loop μ-loop
 unfolding padded firstOf
-loop-holds c = (search needs, from-winds c .pre .4, λ profile h. (refl, refl))
+loop-holds c = (search needs, from-winds c .pre .5, λ profile h. (refl, refl))
 
 -- the number of each case's wind
 numbered : (a : tie.Start Inv-loop μ-loop) (s : Side)
     → let t = endOf s (a .args .tops) in
     (0 < t .wind) × (t .wind < 9)
 numbered a s =
-    let on = a .pre .3 s in
-    (on .wind, omega (arith, on .wind≤, a .pre .0 .winds))
+    let on = a .pre .4 s in
+    (on .wind, omega (arith, on .wind≤, a .pre .1 .winds))
 
 wind-up : tie.Need-wind-of-requires Inv-loop μ-loop
-wind-up c κs = numbered (c .before .before .before) Greatest
+wind-up c κs = numbered (c .before .before) Greatest
 
 wind-down : tie.Need-wind-of-requires-2 Inv-loop μ-loop
-wind-down c κs = numbered (c .before .before .before .before) Least
+wind-down c κs = numbered (c .before .before .before) Least
 
--- the array has room
-room : (c : tie.In-loop Inv-loop μ-loop) → c .before .loop .i < 24
+-- the arrays have room
+room : (c : tie.In-loop Inv-loop μ-loop) → c .before .loop .i < 240
 room c =
-    let ready = from-winds (c .before .before) .pre .0 in
+    let lent = from-winds (c .before .before) .pre .0 in
     let t = c .loop-test .taken in
-    let few = ready .met 0 (ready .someWind) .few in
-    omega arith
+    omega (arith, lent .numbered .few)
+
+face-in-requires : tie.Need-face-in-requires Inv-loop μ-loop
+face-in-requires c κs =
+    let lent = from-winds (c .before .before) .pre .0 in
+    let t = c .loop-test .taken in
+    omega (arith, lent .numbered .stand)
+
+factor-in-requires : tie.Need-factor-in-requires Inv-loop μ-loop
+factor-in-requires c κs =
+    let d = c .before in
+    let lent = from-winds (d .before .before) .pre .0 in
+    let t = d .loop-test .taken in
+    (omega (arith, lent .parts-room), omega (arith, lent .wholes-room))
 
 -- face i at its factor, under the wind of a case
 module _ (c : tie.After-factor-in Inv-loop μ-loop) where
@@ -86,39 +102,46 @@ module _ (c : tie.After-factor-in Inv-loop μ-loop) where
   abbrev i : ℕ
   i = l .loop .i
 
-  abbrev face : Face
-  face = getD (a .args .job .faces .entry) i noFace
+  abbrev faces : List Face
+  faces = facesIn (a .args .faces) (now (a .args .flat))
 
-  abbrev counted : i < a .args .job .faces .count
+  abbrev face : Face
+  face = c .before .face-in .result
+
+  abbrev counted : i < a .args .faces
   counted = c .before .before .loop-test .taken
 
-  met : (s : Side) (w : Wind) → w ≡ windNumbered (a .args .job .winds) (endOf s (a .args .tops) .wind)
-      → Met (a .args .job .building) w face × Fraction (c .factor-in .result)
+  read : face ≡ getD faces i noFace
+  read = c .before .face-in .ensures ∙ sym (face-at (a .args .faces) (now (a .args .flat)) i counted)
+
+  met : (s : Side) (w : Wind) → w ≡ windNumbered (a .args .s .winds) (endOf s (a .args .tops) .wind)
+      → Met (a .args .s .building) w face × Fraction (c .factor-in .result)
   met s w e =
-      let on = a .pre .3 s in
+      let on = a .pre .4 s in
       let some = on .wind in
       let k = endOf s (a .args .tops) .wind - 1 in
-      let counts : k < a .args .job .winds .count = omega (arith, on .wind≤) in (
-        subst (λ u. Met (a .args .job .building) u face) (sym e) (a .pre .0 .met k counts .each i counted),
-        subst Fraction (sym (c .factor-in .ensures)) (a .pre .1 i counted),
+      let counts : k < a .args .s .winds .count = omega (arith, on .wind≤) in (
+        subst₂ (λ u f. Met (a .args .s .building) u f) (sym e) (sym read) (a .pre .1 .met k counts .each i counted),
+        subst Fraction (sym (c .factor-in .ensures)) (a .pre .2 i counted),
       )
 
   -- its alternative is stored
   module _ (profile : List Step)
-      (stand : FactorsStand profile (a .args .job .faces) (now (a .args .parts)) (now (a .args .wholes))) where
+      (stand : FactorsStand profile (facesBy (a .args .faces) (now (a .args .flat))) (now (a .args .parts))
+      (now (a .args .wholes))) where
     abbrev HoldsUpTo : Side → Wind → ℕ → List ℕ → Type 0
-    HoldsUpTo s = HoldsFirst (a .args .axis) s (a .args .job .building) profile (a .args .job .faces .entry)
+    HoldsUpTo s = HoldsFirst (a .args .axis) s (a .args .s .building) profile faces
 
     next : (s : Side) (w : Wind) {k : ℕ} {h : List ℕ}
-        → k ≡ pickOf s (a .args .axis) (a .args .job .building) w (c .factor-in .result) face → HoldsUpTo s w i h
+        → k ≡ pickOf s (a .args .axis) (a .args .s .building) w (c .factor-in .result) face → HoldsUpTo s w i h
         → HoldsUpTo s w (i + 1) (set h i k)
     next s w e q =
-        let b = a .args .job .building in
+        let b = a .args .s .building in
         let factor = c .factor-in .ensures ∙ stand i counted in
-        (λ j. set (q j) i ((e ∙ ap (λ v. pickOf s (a .args .axis) b w v face) factor) j))
-        ∙ alternatives-next b profile w (a .args .job .faces .entry) i (a .args .axis) s (room (c .before .before))
+        (λ j. set (q j) i ((e ∙ (λ m. pickOf s (a .args .axis) b w (factor m) (read m))) j))
+        ∙ alternatives-next b profile w faces i (a .args .axis) s (room (c .before .before))
 
-  roomy : i < 24
+  roomy : i < 240
   roomy = room (c .before .before)
 
 -- the places of the two calls
@@ -164,7 +187,7 @@ module _ (c : tie.After-loop Inv-loop μ-loop) where
   start = from-winds winds
 
   abbrev job : Job
-  job = start .args .job
+  job = jobBy (start .args .s) (start .args .faces) (now (start .args .flat))
 
   done : (s : Side) {w : Wind} {h : List ℕ} → w ≡ windNumbered (job .winds) (endOf s (start .args .tops) .wind)
       → HoldsFirst (start .args .axis) s (job .building) (profileOf job) (job .faces .entry) w (c .before .loop .i) h
@@ -182,7 +205,7 @@ returns : tie.Need-returns Inv-loop μ-loop
 returns c =
     let d = c .before in
     let inv = d .before .loop .inv in
-    let held = inv .2 (profileOf (job d)) (start d .pre .2) in
+    let held = inv .2 (profileOf (job d)) (start d .pre .3) in
     let high = done d Greatest (winds d .before .wind-of .ensures) (held .0) in
     let low = done d Least (winds d .wind-of2 .ensures) (held .1) in (
       c .extremes .ensures
@@ -193,8 +216,7 @@ returns c =
 pub extremes-on-spec : {M : Type 1} → statement M
 extremes-on-spec =
     tie.close
-    (tie.spec Inv-loop μ-loop (λ c. search needs) wind-up wind-down loop-holds
-    (λ c. record { fits = omega (arith, room c) }) room (λ c κs. room (c .before)) asks-high
+    (tie.spec Inv-loop μ-loop wind-up wind-down loop-holds face-in-requires factor-in-requires asks-high
     (λ c. roomy (from-high c)) asks-low (λ c. roomy (from-low c))
     (λ c. record { fits = omega (arith, roomy (from-low c)) }) (λ c. let t = counted (from-low c) in omega arith)
     loop-again (λ c κs. search needs) returns)

@@ -4,20 +4,20 @@ use Rattle.worst.proofs.chosen.shown.Statement.{statement}
 use Rattle.worst.proofs.chosen.shown.Tie as tie
 
 on-x : tie.Need-extremes-on-requires
-on-x c κs = let p = c .before .before .before .pre in (p .0, p .1, p .2, p .3 X, p .4)
+on-x c κs = let p = c .before .before .before .pre in (p .0, p .1, p .2, p .3, p .4 X, p .5)
 
 on-y : tie.Need-extremes-on-requires-2
 on-y c κs =
     let x = c .before .before .before in
     let p = x .before .before .before .before .pre in
-    (p .0, p .1, p .2, p .3 Y, x .extremes-on .ensures .1)
+    (p .0, p .1, p .2, p .3, p .4 Y, x .extremes-on .ensures .1)
 
 on-z : tie.Need-extremes-on-requires-3
 on-z c κs =
     let y = c .before .before .before in
     let x = y .before .before .before .before in
     let p = x .before .before .before .before .pre in
-    (p .0, p .1, p .2, p .3 Z, y .extremes-on2 .ensures .1)
+    (p .0, p .1, p .2, p .3, p .4 Z, y .extremes-on2 .ensures .1)
 
 returns : tie.Need-returns
 returns c =

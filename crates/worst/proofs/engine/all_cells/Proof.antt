@@ -16,6 +16,7 @@ use Rattle.worst.specs.Worst.{given}
 use Rattle.worst.specs.Stored.{storedCells, sumsAt, noCell}
 use Rattle.worst.specs.Engine.{cellWith, UpTo}
 use Rattle.worst.specs.Factors.{profileOf, Fraction, FactorsStand, Fractions}
+use Rattle.worst.specs.Lent.{facesBy, jobBy}
 use Rattle.worst.specs.Small.{AllMet, Ready}
 use Rattle.worst.proofs.StoredSums.{up-to-none, up-to-more, up-to-four}
 use Rattle.worst.proofs.Accepted.{job-ready}
@@ -24,22 +25,23 @@ use Rattle.worst.proofs.engine.all_cells.Statement.{statement}
 use Rattle.worst.proofs.engine.all_cells.Tie as tie
 
 abbrev Inv-loop : tie.InvT-loop
-Inv-loop parts wholes asked₀ first₀ last₀ b winds internals faces count stored₀ w₀ asked first last stored w =
+Inv-loop faces flat parts wholes asked₀ first₀ last₀ b winds internals count stored₀ w₀ asked first last stored w =
     (w ≤ count) × Filled b asked first last
-    × ((profile : List Step) → FactorsStand profile faces parts wholes → (h : ℕ → StoredCell)
-    → CellsReckoned b profile winds internals faces h → UpTo storedCells h (4 * w) (stored .cell))
+    × ((profile : List Step) → FactorsStand profile (facesBy faces flat) parts wholes → (h : ℕ → StoredCell)
+    → CellsReckoned b profile winds internals (facesBy faces flat) h → UpTo storedCells h (4 * w) (stored .cell))
 
 abbrev μ-loop : tie.MeasureT-loop
-μ-loop parts wholes asked₀ first₀ last₀ b winds internals faces count stored₀ w₀ asked first last stored w = count - w
+μ-loop faces flat parts wholes asked₀ first₀ last₀ b winds internals count stored₀ w₀ asked first last stored w =
+    count - w
 
 abbrev from-none : tie.After-none-stored Inv-loop μ-loop → tie.Start Inv-loop μ-loop
-from-none c = c .before .before .before .before .before
+from-none c = c .before .before .before .before
 
 loop-holds : tie.Need-loop-holds Inv-loop μ-loop
 loop-holds c =
     let e = ap (λ t. t .cell) (c .none-stored .ensures) in (
       search needs,
-      from-none c .pre .2,
+      from-none c .pre .3,
       λ profile s h r. subst (UpTo storedCells h 0) (sym e) (up-to-none storedCells h),
     )
 
@@ -49,10 +51,10 @@ module _ (d : tie.In-loop Inv-loop μ-loop) where
   a = from-none (d .before .before)
 
   abbrev job : Job
-  job = a .args .job
+  job = jobBy (a .args .s) (a .args .faces) (now (a .args .flat))
 
   ready : Ready job
-  ready = job-ready job (a .pre .0)
+  ready = job-ready job (a .pre .1)
 
   abbrev w : ℕ
   w = d .before .loop .w
@@ -67,7 +69,7 @@ module _ (d : tie.In-loop Inv-loop μ-loop) where
   met = ready .met w counted
 
   fractions : Fractions (job .faces) (now (a .args .parts)) (now (a .args .wholes))
-  fractions i t = subst Fraction (sym (a .pre .1 i t)) (ready .factors i t)
+  fractions i t = subst Fraction (sym (a .pre .2 i t)) (ready .factors i t)
 
 abbrev in-loop : tie.After-added Inv-loop μ-loop → tie.In-loop Inv-loop μ-loop
 in-loop c = c .before .before .before .before .before
@@ -75,7 +77,7 @@ in-loop c = c .before .before .before .before .before
 added-requires : tie.Need-added-requires Inv-loop μ-loop
 added-requires c κs =
     let d = c .before .before .before .before in
-    (met d, fractions d, d .before .loop .inv .1)
+    (a d .pre .0, met d, fractions d, d .before .loop .inv .1)
 
 of-wind-requires : tie.Need-of-wind-requires Inv-loop μ-loop
 of-wind-requires c κs = let d = in-loop c in (c .added .ensures .0, ready d .internals)
@@ -127,15 +129,13 @@ returns : tie.Need-returns Inv-loop μ-loop
 returns c =
     let l = c .before .loop in
     let a = from-none (c .before .before) in
-    let j = a .args .job in
+    let j = jobBy (a .args .s) (a .args .faces) (now (a .args .flat)) in
     let left = c .loop-test .left in
     let all : l .w ≡ j .winds .count = omega (arith, l .inv .0) in
-    let h = sumsAt (given (carried j)) in (
-      all-stored j (a .pre .0) (l .stored .cell)
-          (subst (λ n. UpTo storedCells h (4 * n) (l .stored .cell)) all
-          (l .inv .2 (profileOf j) (a .pre .1) h (job-reckoned j (a .pre .0)))),
-      l .inv .1,
-    )
+    let h = sumsAt (given (carried j)) in
+    all-stored j (a .pre .1) (l .stored .cell)
+    (subst (λ n. UpTo storedCells h (4 * n) (l .stored .cell)) all
+    (l .inv .2 (profileOf j) (a .pre .2) h (job-reckoned j (a .pre .1))))
 
 pub all-cells-spec : {M : Type 1} → statement M
 all-cells-spec =

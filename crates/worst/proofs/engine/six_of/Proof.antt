@@ -1,36 +1,31 @@
--- `engine::six_of` meets its contract: a job's own sums tell its six extremes.
-use mathlib.Core.Path.{refl, ap, _∙_}
-use Rattle.job.specs.Carried.{carried}
-use Rattle.worst.specs.Stored.{sixBy}
-use Rattle.worst.proofs.Accepted.{job-ready}
-use Rattle.worst.proofs.Table.{nothing-filled}
-use Rattle.worst.proofs.JobSums.{own-six}
+-- `engine::six_of` meets its contract: in either list there is room for every face.
+use mathlib.Core.Path.{refl}
+use native.Mathlib.Omega.{arith}
+use borrow.Author.Needs.{needs}
 use Rattle.worst.proofs.engine.six_of.Statement.{statement}
 use Rattle.worst.proofs.engine.six_of.Tie as tie
 
-fill-requires : tie.Need-fill-requires
-fill-requires c κs = let a = c .before .before in ((refl, refl), job-ready (a .args .job) (a .pre) .profiled)
+own-six-requires : tie.Need-own-six-requires
+own-six-requires c κs =
+    let t = c .before .before in
+    let a = t .before in
+    let few = t .if1 .taken in (
+      record { numbered = a .pre .0; parts-room = omega arith; wholes-room = omega arith },
+      (refl, refl),
+      a .pre .1,
+    )
 
-abbrev filled : tie.After-last → tie.After-fill
-filled c = c .before .before .before .before .before
-
-all-cells-requires : tie.Need-all-cells-requires
-all-cells-requires c κs =
-    let f = filled c in
-    (f .before .before .before .pre, f .fill .ensures, nothing-filled _)
-
-six-cases-requires : tie.Need-six-cases-requires
-six-cases-requires c κs =
-    let d = c .before .before .before .before .before in
-    let f = filled (d .before) in
-    (f .before .before .before .pre, f .fill .ensures, d .all-cells .ensures .1)
-
-returns : tie.Need-returns
-returns c =
-    let d = c .before .before .before .before .before .before in
-    let a = filled (d .before) .before .before .before in
-    let j = a .args .job in
-    c .six-cases .ensures ∙ ap (λ t. sixBy t (carried j)) (d .all-cells .ensures .0) ∙ own-six j (a .pre)
+own-six-requires-2 : tie.Need-own-six-requires-2
+own-six-requires-2 c κs =
+    let a = c .before .before .before in
+    let few = a .pre .0 .few in (
+      record { numbered = a .pre .0; parts-room = omega arith; wholes-room = omega arith },
+      (refl, refl),
+      a .pre .1,
+    )
 
 pub six-of-spec : {M : Type 1} → statement M
-six-of-spec = tie.close (tie.spec fill-requires all-cells-requires six-cases-requires returns)
+six-of-spec =
+    tie.close
+    (tie.spec (λ c. search needs) (λ c. search needs) own-six-requires (λ c. c .before .before .own-six .ensures)
+    (λ c. search needs) (λ c. search needs) own-six-requires-2 (λ c. c .before .before .own-six2 .ensures))

@@ -15,65 +15,87 @@ use Rattle.book.specs.Answer.{valuesOf}
 use Rattle.book.specs.Question.{outsideOf}
 use Rattle.entry.specs.declared.Step.{Step}
 use Rattle.entry.specs.declared.Face.{Face}
+use Rattle.entry.specs.Flat.{facesIn}
 use Rattle.job.specs.declared.Job.{Job}
 use Rattle.job.specs.Carried.{noFace}
+use Rattle.worst.specs.declared.FaceForces.{FaceForces}
+use Rattle.worst.specs.declared.speeds.Factor.{Factor}
+use Rattle.worst.specs.Lent.{facesBy, jobBy}
 use Rattle.worst.specs.Forces.{factorOf}
-use Rattle.worst.specs.Factors.{profileOf, Fraction, FactorsStand}
+use Rattle.worst.specs.Factors.{profileOf, Fraction, factorIn, FactorsStand}
+use Rattle.worst.specs.Small.{Met}
 use Rattle.worst.specs.AtPressure.{forcesBy}
 use Rattle.worst.proofs.Accepted.{job-ready}
+use Rattle.worst.proofs.LentFaces.{face-at}
 use Rattle.worst.proofs.PerFace.{rowsOf, row-next, rows-are, small-outside}
 use Rattle.worst.proofs.forces.cell.Statement.{statement}
 use Rattle.worst.proofs.forces.cell.Tie as tie
 
 abbrev Inv-loop : tie.InvT-loop
-Inv-loop w internal parts wholes d faces count all₀ i₀ all i =
-    (i ≤ count)
-    × ((profile : List Step) → FactorsStand profile faces parts wholes
-    → all ≡ rowsOf (d .year) (d .building) profile w (toZ w64 internal) (firstOf noFace i (faces .entry)))
+Inv-loop count flat w internal parts wholes d n all₀ i₀ all i =
+    (i ≤ n)
+    × ((profile : List Step) → FactorsStand profile (facesBy count flat) parts wholes
+    → all ≡ rowsOf (d .year) (d .building) profile w (toZ w64 internal) (firstOf noFace i (facesIn count flat)))
 
 abbrev μ-loop : tie.MeasureT-loop
-μ-loop w internal parts wholes d faces count all₀ i₀ all i = count - i
+μ-loop count flat w internal parts wholes d n all₀ i₀ all i = n - i
 
 fill-requires : tie.Need-fill-requires Inv-loop μ-loop
-fill-requires c κs = let a = c .before .before in ((refl, refl), job-ready (a .args .job) (a .pre .0) .profiled)
+fill-requires c κs =
+    let a = c .before .before in
+    let few = a .pre .0 .few in (
+      record { numbered = a .pre .0; parts-room = few; wholes-room = few },
+      (refl, refl),
+      job-ready (jobBy (a .args .s) (a .args .count) (a .args .flat .now)) (a .pre .1) .profiled,
+    )
 
 loop-holds : tie.Need-loop-holds Inv-loop μ-loop
 unfolding firstOf
 loop-holds c = (search needs, λ profile h. c .no-cell .ensures)
 
 abbrev filled : tie.After-no-cell Inv-loop μ-loop → tie.After-fill Inv-loop μ-loop
-filled c = c .before .before .before .before
+filled c = c .before .before .before .before .before
 
 abbrev start : tie.After-no-cell Inv-loop μ-loop → tie.Start Inv-loop μ-loop
 start c = filled c .before .before .before
 
 -- the year and the internal coefficient, read back
-year : (c : tie.After-no-cell Inv-loop μ-loop)
-    → toZ w64 (ofZ w64 (start c .args .job .year)) ≡ start c .args .job .year
-year c = let fits : SFits w64 (start c .args .job .year) = search needs in toZ-ofZ w64 _ fits
+year : (c : tie.After-no-cell Inv-loop μ-loop) → toZ w64 (ofZ w64 (start c .args .s .year)) ≡ start c .args .s .year
+year c = let fits : SFits w64 (start c .args .s .year) = search needs in toZ-ofZ w64 _ fits
 
 abbrev inside : tie.After-no-cell Inv-loop μ-loop → Num
-inside c = back w64 (num≤ (start c .args .internal) (start c .pre .2)) tt
+inside c = back w64 (num≤ (start c .args .internal) (start c .pre .3)) tt
+
+-- the job and its faces
+module _ (l : tie.After-no-cell Inv-loop μ-loop) where
+  abbrev flat : List ℤ
+  flat = start l .args .flat .now
+
+  abbrev job : Job
+  job = jobBy (start l .args .s) (start l .args .count) flat
+
+  abbrev faces : List Face
+  faces = facesIn (start l .args .count) flat
 
 -- face i
 module _ (d : tie.In-loop Inv-loop μ-loop) where
   abbrev l : tie.After-no-cell Inv-loop μ-loop
   l = d .before .before
 
-  abbrev job : Job
-  job = start l .args .job
-
   abbrev i : ℕ
   i = d .before .loop .i
 
-  counted : i < job .faces .count
+  counted : i < start l .args .count
   counted = d .loop-test .taken
 
-  room : i < 24
-  room = let t = counted in omega (arith, start l .pre .1 .few)
+  room : i < 240
+  room = let t = counted in omega (arith, start l .pre .0 .few)
 
   abbrev face : Face
-  face = getD (job .faces .entry) i noFace
+  face = getD (faces l) i noFace
+
+face-in-requires : tie.Need-face-in-requires Inv-loop μ-loop
+face-in-requires c κs = let t = counted c in omega (arith, start (l c) .pre .0 .stand)
 
 -- with its factor
 module _ (k : tie.After-factor-in Inv-loop μ-loop) where
@@ -83,24 +105,39 @@ module _ (k : tie.After-factor-in Inv-loop μ-loop) where
   abbrev a : tie.Start Inv-loop μ-loop
   a = start (l d)
 
-  factor : k .factor-in .result ≡ factorOf (profileOf (job d)) (face d)
+  abbrev met : Face
+  met = k .before .before .before .face-in .result
+
+  seen : met ≡ face d
+  seen = k .before .before .before .face-in .ensures ∙ sym (face-at (a .args .count) (flat (l d)) (i d) (counted d))
+
+  factor : k .factor-in .result ≡ factorOf (profileOf (job (l d))) (face d)
   factor = k .factor-in .ensures ∙ filled (l d) .fill .ensures (i d) (counted d)
 
 factor-in-requires : tie.Need-factor-in-requires Inv-loop μ-loop
-factor-in-requires c κs = room (c .before .before .before)
+factor-in-requires c κs =
+    let t = room (c .before .before .before) in
+    let f = filled (l (c .before .before .before)) .fill in
+    let parts : length (f .last .1 .1 .1 .0) ≡ 240 = search needs in
+    let wholes : length (f .last .1 .1 .1 .1 .0) ≡ 240 = search needs in
+    (omega (arith, parts), omega (arith, wholes))
 
 face-forces-requires : tie.Need-face-forces-requires Inv-loop μ-loop
 face-forces-requires c κs =
     let n = l (d c) in
-    let w = a c .args .w in
-    let small = small-outside (job (d c)) (a c .pre .0) (i (d c)) (counted (d c)) (w .direction) in
-    let outs : ℤ → List ℤ = λ y. valuesOf (outsideOf y (job (d c) .building) (w .direction) (face (d c) .zone)) in (
-      a c .pre .1 .each (i (d c)) (counted (d c)),
-      subst Fraction (sym (factor c)) (job-ready (job (d c)) (a c .pre .0) .factors (i (d c)) (counted (d c))),
+    let s = a c .args in
+    let w = s .w in
+    let t = counted (d c) in
+    let j = job n in
+    let small = small-outside j (a c .pre .1) (i (d c)) t (w .direction) in
+    let outs : ℤ → Face → List ℤ = λ y f. valuesOf (outsideOf y (s .s .building) (w .direction) (f .zone)) in
+    let same : outs (s .s .year) (face (d c)) ≡ outs _ (met c) = λ m. outs (sym (year n) m) (sym (seen c) m) in (
+      subst (Met (s .s .building) w) (sym (seen c)) (a c .pre .2 .each (i (d c)) t),
+      subst Fraction (sym (factor c)) (job-ready j (a c .pre .1) .factors (i (d c)) t),
       bound (inside n),
-      subst (λ y. natAbs (getD (outs y) 0 (pos 0)) ≤ 1200) (sym (year n)) (small 0),
-      subst (λ y. natAbs (getD (outs y) (length (outs y) - 1) (pos 0)) ≤ 1200) (sym (year n))
-          (small (length (outs (job (d c) .year)) - 1)),
+      subst (λ v. natAbs (getD v 0 (pos 0)) ≤ 1200) same (small 0),
+      subst (λ v. natAbs (getD v (length v - 1) (pos 0)) ≤ 1200) same
+          (small (length (outs (s .s .year) (face (d c))) - 1)),
     )
 
 loop-again : tie.Need-loop-again Inv-loop μ-loop
@@ -110,17 +147,20 @@ loop-again c =
     let t = counted (d k) in
     let s = a k .args in
     let before = d k .before .loop in
-    let y = toZ w64 (ofZ w64 (s .job .year)) in
-    let internal = toZ w64 (ofZ w64 (s .internal)) in (
+    let y = toZ w64 (ofZ w64 (s .s .year)) in
+    let internal = toZ w64 (ofZ w64 (s .internal)) in
+    let parts = filled (l (d k)) .fill .last .1 .1 .1 .0 in
+    let wholes = filled (l (d k)) .fill .last .1 .1 .1 .1 .0 in
+    let under : Factor → Face → FaceForces = λ f. forcesBy y (s .s .building) (s .w) f internal in
+    let row : (profile : List Step) → factorIn parts wholes n ≡ factorOf profile (face (d k))
+    → c .face-forces .result ≡ under (factorOf profile (face (d k))) (face (d k)) =
+    λ profile e.
+    _∙_ {b = under (k .factor-in .result) (met k)} (c .face-forces .ensures)
+    (λ m. under ((k .factor-in .ensures ∙ e) m) (seen k m)) in (
       omega arith,
       λ profile h.
-          (λ j. record {
-            face = set (before .inv .1 profile h j .face) n
-                ((c .face-forces .ensures
-                ∙ (λ m.
-                forcesBy y (s .job .building) (s .w) ((k .factor-in .ensures ∙ h n t) m) internal (face (d k)))) j);
-          })
-          ∙ row-next y (s .job .building) profile (s .w) internal (s .job .faces .entry) n (room (d k)),
+          (λ j. record { face = set (before .inv .1 profile h j .face) n (row profile (h n t) j) })
+          ∙ row-next y (s .s .building) profile (s .w) internal (faces (l (d k))) n (room (d k)),
     )
 
 returns : tie.Need-returns Inv-loop μ-loop
@@ -128,19 +168,28 @@ returns c =
     let l = c .before .loop in
     let b = c .before .before in
     let s = start b .args in
-    let j = s .job in
+    let j = job b in
     let left = c .loop-test .left in
-    let all : l .i ≡ j .faces .count = omega (arith, l .inv .0) in
+    let all : l .i ≡ s .count = omega (arith, l .inv .0) in
     l .inv .1 (profileOf j) (filled b .fill .ensures)
     ∙ (λ k.
-    rowsOf (year b k) (j .building) (profileOf j) (s .w) (inside b .same k) (firstOf noFace (all k) (j .faces .entry)))
+    rowsOf (year b k) (s .s .building) (profileOf j) (s .w) (inside b .same k) (firstOf noFace (all k) (faces b)))
     ∙ sym (rows-are j (s .w) (s .internal))
+
+trial : Unit {0}
+trial =
+    let x = (tie.spec Inv-loop μ-loop (λ c. search needs) (λ c. search needs) fill-requires (λ c κs. search needs) loop-holds
+    face-in-requires (λ c. search needs) (λ c. search needs) factor-in-requires face-forces-requires
+    (λ c. record { fits = omega (arith, room (d (c .before))) }) (λ c. room (d (c .before)))
+    (λ c. record { fits = omega (arith, room (d (c .before))) })
+    (λ c. let t = counted (d (c .before)) in omega arith) loop-again returns) in
+    tt
 
 pub cell-spec : {M : Type 1} → statement M
 cell-spec =
     tie.close
-    (tie.spec Inv-loop μ-loop fill-requires (λ c. search needs) (λ c κs. search needs) loop-holds (λ c. search needs)
-    (λ c. search needs) factor-in-requires face-forces-requires
+    (tie.spec Inv-loop μ-loop (λ c. search needs) (λ c. search needs) fill-requires (λ c κs. search needs) loop-holds
+    face-in-requires (λ c. search needs) (λ c. search needs) factor-in-requires face-forces-requires
     (λ c. record { fits = omega (arith, room (d (c .before))) }) (λ c. room (d (c .before)))
     (λ c. record { fits = omega (arith, room (d (c .before))) })
     (λ c. let t = counted (d (c .before)) in omega arith) loop-again returns)

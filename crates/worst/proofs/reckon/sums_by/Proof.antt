@@ -12,16 +12,16 @@ returns c =
     c .none-stored .ensures
     ∙ ap storedIn (sym (refused-is (a .args .job) (a .args .v) (a .pre) (c .before .if1 .taken)))
 
-sums-of-requires : tie.Need-sums-of-requires
-sums-of-requires c κs =
+own-sums-requires : tie.Need-own-sums-requires
+own-sums-requires c κs =
     let a = c .before .before in
     taken-is (a .args .job) (a .args .v) (a .pre) (c .if1 .left) .order
 
 returns-2 : tie.Need-returns-2
 returns-2 c =
     let a = c .before .before .before in
-    c .sums-of .ensures
+    c .own-sums .ensures
     ∙ ap storedIn (sym (taken-is (a .args .job) (a .args .v) (a .pre) (c .before .if1 .left) .is))
 
 pub sums-by-spec : {M : Type 1} → statement M
-sums-by-spec = tie.close (tie.spec (λ c κs. search needs) returns sums-of-requires returns-2)
+sums-by-spec = tie.close (tie.spec (λ c κs. search needs) returns own-sums-requires returns-2)

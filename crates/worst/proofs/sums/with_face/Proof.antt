@@ -2,14 +2,18 @@
 -- all as it is.
 use mathlib.Core.Path.{_≡_, sym, _∙_, subst}
 use mathlib.Core.Bool.{true}
+use Prim.Native.Nat.{_+_}
+use native.Mathlib.Omega.{arith}
 use borrow.Author.Needs.{needs}
 use Rattle.whole.proofs.Size.{Num, bound}
 use Rattle.worst.specs.Speed.{speedAt}
 use Rattle.worst.specs.Forces.{acts, pressure}
+use Rattle.worst.specs.Amounts.{axesIn}
 use Rattle.worst.specs.Engine.{withPressure}
 use Rattle.worst.specs.Small.{OutsideSmall}
 use Rattle.worst.proofs.ReadBack.{read-back}
 use Rattle.worst.proofs.Ranges.{pressure-small}
+use Rattle.worst.proofs.SumsGrow.{all-more}
 use Rattle.worst.proofs.Added.{face-acts, face-aside}
 use Rattle.worst.proofs.sums.with_face.Statement.{statement}
 use Rattle.worst.proofs.sums.with_face.Tie as tie
@@ -46,9 +50,10 @@ returns c =
     let d = c .before in
     let f = o d .found .ensures in
     let s = a d .args in (
-      c .with-pressure .ensures
-          ∙ (λ j. withPressure (s .f) (f .0 j) (pressed d .same j) (s .sums))
-          ∙ face-acts (s .b) (s .w) (s .factor) (s .f) (s .sums) (acting d),
+      c .with-pressure .ensures .0
+          ∙ (λ j. withPressure (s .f) (f .0 j) (pressed d .same j) (axesIn (s .sums)))
+          ∙ face-acts (s .b) (s .w) (s .factor) (s .f) (axesIn (s .sums)) (acting d),
+      c .with-pressure .ensures .1,
       f .1,
     )
 
@@ -57,7 +62,8 @@ returns-2 c =
     let a = c .before .before in
     let s = a .args in
     let aside = sym (c .before .takes-part .ensures) ∙ c .if1 .left in (
-      face-aside (s .b) (s .w) (s .factor) (s .f) (s .sums) aside,
+      face-aside (s .b) (s .w) (s .factor) (s .f) (axesIn (s .sums)) aside,
+      λ n h. all-more n (n + 1) (s .sums) (omega arith) h,
       a .pre .3,
     )
 

@@ -4,6 +4,7 @@ use Prim.Native.Nat.{_≤_}
 use lib.IntN.{ℤ, natAbs}
 use mir.Syntax.{w64}
 use Rattle.whole.proofs.Size.{Num, num≤, back, fit, bound, _⊗_}
+use Rattle.worst.specs.Amounts.{sumsIn}
 use Rattle.worst.specs.Engine.{withWeight}
 use Rattle.worst.proofs.sums.with_pressure.Statement.{statement}
 use Rattle.worst.proofs.sums.with_pressure.Tie as tie
@@ -57,11 +58,16 @@ returns c =
     let x-done = y-done .before .before .before in
     let o = a .args .o in
     let sums = a .args .sums in
-    λ j. record {
-      x = (x-done .with-weight .ensures ∙ (λ k. withWeight o (back w64 (x a) tt .same k) (sums .x))) j;
-      y = (y-done .with-weight2 .ensures ∙ (λ k. withWeight o (back w64 (y a) tt .same k) (sums .y))) j;
-      z = (c .with-weight3 .ensures ∙ (λ k. withWeight o (back w64 (z a) tt .same k) (sums .z))) j;
-    }
+    let gone-x = x-done .with-weight .ensures in
+    let gone-y = y-done .with-weight2 .ensures in
+    let gone-z = c .with-weight3 .ensures in (
+      (λ j. record {
+        x = (gone-x .0 ∙ (λ k. withWeight o (back w64 (x a) tt .same k) (sumsIn (sums .x)))) j;
+        y = (gone-y .0 ∙ (λ k. withWeight o (back w64 (y a) tt .same k) (sumsIn (sums .y)))) j;
+        z = (gone-z .0 ∙ (λ k. withWeight o (back w64 (z a) tt .same k) (sumsIn (sums .z)))) j;
+      }),
+      λ n h. record { x = gone-x .1 n (h .x); y = gone-y .1 n (h .y); z = gone-z .1 n (h .z) },
+    )
 
 pub with-pressure-spec : {M : Type 1} → statement M
 with-pressure-spec = tie.close (tie.spec mul-x on-x mul-y on-y mul-z on-z returns)
