@@ -2,7 +2,7 @@
 -- job.
 use mathlib.Core.Path.{_≡_, sym, ap, _∙_}
 use mathlib.Core.List.{List, map}
-use Prim.Native.Nat.{ℕ, _+_, _<_}
+use Prim.Native.Nat.{ℕ, _+_, _≤_, _<_}
 use native.Mathlib.Omega.{arith}
 use lib.IntN.{ℤ}
 use lib.ListN.{length, getD, length-map}
@@ -15,9 +15,10 @@ use Rattle.entry.specs.Flat.{faceIn, facesIn}
 use Rattle.entry.specs.Says.{carriedFace}
 use Rattle.job.specs.declared.Faces.{Faces}
 use Rattle.job.specs.declared.Job.{Job}
+use Rattle.job.specs.declared.Setting.{Setting}
 use Rattle.job.specs.Setting.{settingIn}
 use Rattle.job.specs.Carried.{carried, withFaces, noFace}
-use Rattle.worst.specs.Lent.{jobBy}
+use Rattle.worst.specs.Lent.{jobBy, Numbered}
 
 -- ---- the first n that a list has
 
@@ -62,3 +63,12 @@ unfolding carried
 lent-carried j l h =
     ap (λ (fs : List Face). withFaces (map (carriedFace (hasHeights (j .year))) fs) (carried j))
     (faces-all (j .faces .count) l ∙ lent-faces (j .faces) l h)
+
+-- with any setting that is the record's
+pub lent-same : (j : Job) (s : Setting) (l : List ℤ) → s ≡ settingIn j → Laid (j .faces) l
+    → carried (jobBy s (j .faces .count) l) ≡ carried j
+lent-same j s l e h = ap (λ t. carried (jobBy t (j .faces .count) l)) e ∙ lent-carried j l h
+
+-- there is room for all
+pub lent-numbered : (n : ℕ) (l : List ℤ) → n ≤ 240 → length l ≡ 1440 → Numbered n l
+lent-numbered n l h e = record { few = h; stand = omega arith }

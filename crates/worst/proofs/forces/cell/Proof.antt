@@ -176,15 +176,6 @@ returns c =
     rowsOf (year b k) (s .s .building) (profileOf j) (s .w) (inside b .same k) (firstOf noFace (all k) (faces b)))
     ∙ sym (rows-are j (s .w) (s .internal))
 
-trial : Unit {0}
-trial =
-    let x = (tie.spec Inv-loop μ-loop (λ c. search needs) (λ c. search needs) fill-requires (λ c κs. search needs) loop-holds
-    face-in-requires (λ c. search needs) (λ c. search needs) factor-in-requires face-forces-requires
-    (λ c. record { fits = omega (arith, room (d (c .before))) }) (λ c. room (d (c .before)))
-    (λ c. record { fits = omega (arith, room (d (c .before))) })
-    (λ c. let t = counted (d (c .before)) in omega arith) loop-again returns) in
-    tt
-
 pub cell-spec : {M : Type 1} → statement M
 cell-spec =
     tie.close

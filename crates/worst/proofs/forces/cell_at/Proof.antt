@@ -1,5 +1,5 @@
 -- `forces::cell_at` meets its contract: what has a number stands one place before it.
-use mathlib.Core.Path.{_≡_, refl, sym, ap, _∙_, subst}
+use mathlib.Core.Path.{_≡_, refl, sym, _∙_, subst}
 use mathlib.Core.List.{List}
 use Prim.Native.Nat.{_-_, _<_}
 use native.Mathlib.Omega.{arith}
@@ -13,12 +13,12 @@ use Rattle.job.specs.declared.Setting.{Setting}
 use Rattle.job.specs.Setting.{settingIn}
 use Rattle.job.specs.Carried.{carried, noWind}
 use Rattle.job.specs.InOrder.{InOrder}
-use Rattle.worst.specs.Lent.{facesBy, jobBy, Numbered}
+use Rattle.worst.specs.Lent.{facesBy, jobBy}
 use Rattle.worst.specs.Worst.{given}
 use Rattle.worst.specs.PerFace.{cellForces}
 use Rattle.worst.specs.Small.{AllMet, Ready}
 use Rattle.worst.proofs.Accepted.{job-ready}
-use Rattle.worst.proofs.LentFaces.{lent-carried}
+use Rattle.worst.proofs.LentFaces.{lent-carried, lent-same, lent-numbered}
 use Rattle.worst.proofs.PerFace.{wind-numbered, internal-numbered}
 use Rattle.worst.proofs.forces.cell_at.Statement.{statement}
 use Rattle.worst.proofs.forces.cell_at.Tie as tie
@@ -69,12 +69,7 @@ module _ (g : tie.After-setting-of) where
   laid = lent-carried job lent (g .before .lay .ensures .1)
 
   same : carried (jobWith (g .setting-of .result)) ≡ carried job
-  same = ap (λ s. carried (jobWith s)) (g .setting-of .ensures) ∙ laid
-
-  stand : Numbered (job .faces .count) lent
-  stand =
-      let few = ready a .profiled .few in
-      record { few = few; stand = omega (arith, few, g .before .lay .ensures .0) }
+  same = lent-same job (g .setting-of .result) lent (g .setting-of .ensures) (g .before .lay .ensures .1)
 
   met : AllMet (g .setting-of .result .building) (facesBy (job .faces .count) lent)
       (getD (job .winds .entry) (a .args .wind - 1) noWind)
@@ -87,7 +82,12 @@ module _ (g : tie.After-setting-of) where
 cell-requires : tie.Need-cell-requires
 cell-requires c κs =
     let g = c .before .before .before in
-    (stand g, subst InOrder (sym (same g)) (a g .pre .0), met g, bound (internal (a g)))
+    let p = a g in (
+      lent-numbered (job g .faces .count) (lent g) (ready p .profiled .few) (g .before .lay .ensures .0),
+      subst InOrder (sym (same g)) (p .pre .0),
+      met g,
+      bound (internal p),
+    )
 
 returns : tie.Need-returns
 returns c =
@@ -99,13 +99,6 @@ returns c =
     let there = getD (s .job .winds .entry) (s .wind - 1) noWind in
     _∙_ {b = cellForces (given (carried (jobWith g (g .setting-of .result)))) there (internal (a g) .has)}
     (c .cell .ensures) (λ k. cellForces (given (same g k)) (sym w k) ((internal (a g) .same ∙ sym i) k))
-
-trial : Unit {0}
-trial =
-    let x = (tie.spec (λ c. search needs) (λ c. search needs) (λ c. search needs) (λ c. search needs) lay-requires
-    (λ c κs. search needs) (λ c. search needs) (λ c. search needs) wind-below (λ c. search needs) internal-below
-    cell-requires returns) in
-    tt
 
 pub cell-at-spec : {M : Type 1} → statement M
 cell-at-spec =

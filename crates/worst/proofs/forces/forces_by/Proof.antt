@@ -85,12 +85,6 @@ returns-4 c =
     let d = e .before .before in
     c .cell-at .ensures ∙ by-numbers (d .before .before) true true (wind d) (internal e)
 
-trial : Unit {0}
-trial =
-    let x = (tie.spec (λ c κs. search needs) returns (λ c κs. search needs) (λ c κs. search needs) returns-2
-    (λ c κs. search needs) (λ c κs. search needs) returns-3 cell-at-requires returns-4) in
-    tt
-
 pub forces-by-spec : {M : Type 1} → statement M
 forces-by-spec =
     tie.close
