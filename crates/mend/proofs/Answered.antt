@@ -11,11 +11,10 @@ use lib.Seq.{sets, take-at}
 use borrow.Author.Tests.{le-leb, lt-leb}
 use Rattle.whole.proofs.Tests.{by-test}
 use Rattle.page.proofs.Put.{put-start}
+use Rattle.verdict.specs.declared.Verdict.{Verdict}
 use Rattle.verdict.specs.Verdict.{accepted}
 use Rattle.job.specs.Walk.{verdict}
-use Rattle.sheet.specs.declared.read.Read.{Read}
-use Rattle.sheet.specs.Sheet.{reading, answer}
-use Rattle.sheet.proofs.Answered.{read-verdict}
+use Rattle.sheet.specs.Sheet.{reading}
 use Rattle.mend.specs.declared.tally.Tally.{Tally}
 use Rattle.mend.specs.declared.Mending.{Mending}
 use Rattle.mend.specs.Mended.{left, final, withEnd, mended}
@@ -104,13 +103,13 @@ module _ (s : List ℕ) (t all : Tally) (ht : t ≡ tallied nothingTallied (fate
       within =
           omega (arith, ap length out-is, length-append (mended s) (drop (length (mended s)) out), text-length)
 
-      pub room-for-both : (r : Read) → r ≡ answer (reading (take (all .kept - 0) (drop 0 out′)))
+      pub room-for-both : (v : Verdict) → v ≡ verdict (reading (take (all .kept - 0) (drop 0 out′)))
           → Meets s out list
-          (record { verdict = accepted; length = all .kept; changes = all .taken; refused = r .verdict }) out′ list′
-      room-for-both r e =
+          (record { verdict = accepted; length = all .kept; changes = all .taken; refused = v }) out′ list′
+      room-for-both v e =
           let f : roomFor s out list ≡ true = rw (le-leb _ _ text-fits, le-leb _ _ list-fits) in
           let z : length (mended s) ≡ all .kept - 0 = omega (arith, text-length) in
           let p : take (all .kept - 0) out′ ≡ mended s =
           rw out-is (take-at (mended s) (drop (length (mended s)) out) (all .kept - 0) z) in
-          let v = read-verdict (mended s) r (e ∙ ap (λ (x : List ℕ). answer (reading x)) p) in
-          (rw f (rw (text-length, list-length, v)), rw f out-is, rw f list′-is)
+          let told = e ∙ ap (λ (x : List ℕ). verdict (reading x)) p in
+          (rw f (rw (text-length, list-length, told)), rw f out-is, rw f list′-is)

@@ -46,8 +46,7 @@ pub fn mend(sheet: &[u8], out: &mut [u8], list: &mut [u64]) -> Mending
     }
     fill::put_all(sheet, bytes.last != 10, out, list);
     let length = all.kept;
-    let read = sheet::read::read_sheet(&out[0..length]);
-    let refused = read.verdict;
+    let refused = sheet::read::verdict_of(&out[0..length]);
     Mending {
         verdict: Verdict { number: 0, line: 0 },
         length: length as u64,

@@ -18,8 +18,8 @@ returns-2 c =
     no-list-room _ (t .result) (e .with-end .result) (t .ensures .0) (e .with-end .ensures) _ _ (c .no-room2 .result)
     (c .no-room2 .ensures) (c .before .if2 .taken)
 
-part-read-sheet-end : tie.Need-part-read-sheet-end
-part-read-sheet-end c =
+part-verdict-of-end : tie.Need-part-verdict-of-end
+part-verdict-of-end c =
     let f = c .before .before .before .before .before in
     let g = f .before .before .before .before in
     let h = g .before .before in
@@ -30,18 +30,18 @@ part-read-sheet-end c =
 
 returns-3 : tie.Need-returns-3
 returns-3 c =
-    let r = c .before .read-sheet in
-    let f = c .before .before .before .before .before .before .before .before in
+    let f = c .before .before .before .before .before .before .before in
     let g = f .before .before .before .before in
     let h = g .before .before in
     let e = h .before .before in
     let t = e .before .tally-all in
     room-for-both _ (t .result) (e .with-end .result) (t .ensures .0) (e .with-end .ensures) _ _ (h .if1 .left)
-    (g .if2 .left) (f .put-all .ensures) (r .result) (r .ensures)
+    (g .if2 .left) (f .put-all .ensures) (c .verdict-of .result)
+    (c .verdict-of .ensures)
 
 pub mend-spec : {M : Type 1} → statement M
 mend-spec =
     tie.close
     (tie.spec (λ c κs. search needs) (λ c κs. search needs) (λ c κs. search needs) returns (λ c κs. search needs)
-    returns-2 (λ c κs. search needs) (λ c. search needs) (λ c. search needs) part-read-sheet-end
+    returns-2 (λ c κs. search needs) (λ c. search needs) (λ c. search needs) part-verdict-of-end
     (λ c κs. search needs) (λ c. search needs) (λ c. search needs) returns-3)
