@@ -17,7 +17,7 @@ use Rattle.whole.proofs.Lists.{every-by, every-both, every-at, getD-map, map-ta
 use Rattle.whole.proofs.Lists.{firstOf-take, firstOf-getD}
 use Rattle.whole.proofs.Pieces.{every-append, every-first, every-rest, map-append, firstOf-front}
 use Rattle.whole.proofs.TakenOut.{every-takeOut, takeOut-length}
-use Rattle.building.specs.Year.{hasHeights}
+use Rattle.building.specs.Year.{hasHeights, faceLimit}
 use Rattle.building.proofs.Accepted as range
 use Rattle.rules.specs.declared.Section.the-variants.{F}
 use Rattle.rules.specs.declared.Kind.the-variants.{Entry}
@@ -67,8 +67,8 @@ module _ (c : Carried) where
       })
       (c .faces) (o .faces) (l .heights)) (o .form)
 
-  -- with such faces, from 1 to 24 of them, it is in order
-  pub fit-in-order : InOrder c → (fs : List Face) → Within 1 24 (length fs) → Every Fits fs
+  -- with such faces, as many as its year may have, it is in order
+  pub fit-in-order : InOrder c → (fs : List Face) → Within 1 (faceLimit (c .year)) (length fs) → Every Fits fs
       → InOrder (job.withFaces fs c)
   fit-in-order o fs n h =
       record {
@@ -221,7 +221,7 @@ module _ (j : Job) (o : InOrder (carried j)) where
   new k f z = new-fits (carried j) f z
 
   pub in-order-edited : (e : Edit) → editVerdict e j .number ≡ 0
-      → Within 1 24 (length (editCarried h e fs)) × Every Fitting (editCarried h e fs)
+      → Within 1 (faceLimit (carried j .year)) (length (editCarried h e fs)) × Every Fitting (editCarried h e fs)
   in-order-edited (Add f) z =
       let p = add-passed j f z in
       let room = has-room j (p .second) in

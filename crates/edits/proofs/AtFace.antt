@@ -1,5 +1,5 @@
 -- A sheet whose first fault is at one of its faces: refused with that face's fault, at its line.
-use mathlib.Core.Path.{_≡_, refl, sym, ap, ap₂, _∙_}
+use mathlib.Core.Path.{_≡_, refl, sym, ap, ap₂, _∙_, subst}
 use mathlib.Core.Bool.{Bool, true, false}
 use mathlib.Core.List.{List, [], _∷_, map}
 use Prim.Native.Nat.{ℕ, _+_, _<_}
@@ -9,7 +9,7 @@ use Rattle.whole.specs.Lists.{Every}
 use Rattle.whole.proofs.Lists.{every-by, map-every, map-take, getD-map}
 use Rattle.verdict.specs.Verdict.{refusal}
 use Rattle.field.specs.declared.Field.{Field}
-use Rattle.building.specs.Year.{hasHeights}
+use Rattle.building.specs.Year.{hasHeights, faceLimit}
 use Rattle.rules.specs.declared.Section.{Section}
 use Rattle.rules.specs.declared.Section.the-variants.{«V», B, W, I, P, F}
 use Rattle.rules.specs.declared.Kind.the-variants.{Entry}
@@ -51,11 +51,11 @@ module _ (es : Section → List (List Field)) (xs : List (List Field)) (i : ℕ)
   lineOf true = linesIn es («V» ∷ B ∷ W ∷ I ∷ P ∷ []) + 2 + i
   lineOf false = linesIn es (B ∷ W ∷ I ∷ []) + 2 + i
 
-  faces-refused : Counted F (length xs) → i < length xs → (h : Bool) → SheetInOrder es h
+  faces-refused : (h : Bool) → Counted (saidBy es h .year) F (length xs) → i < length xs → SheetInOrder es h
       → EntriesInOrder F (readBefore es h F) (take i xs) → (faultBy h ≡ 0 → ⊥)
       → readLines (sheetOf h (other es xs)) ≡ Refused (refusal (faultBy h) (lineOf h))
   unfolding readLines
-  faces-refused few in-list true o b z =
+  faces-refused true few in-list o b z =
       let all = other es xs in
       section-passed all «V» (B ∷ W ∷ I ∷ P ∷ F ∷ []) nothing 1 (o .counted «V» tt) (o .entries «V» tt)
       ∙ section-passed all B (W ∷ I ∷ P ∷ F ∷ []) (readBefore es true B) _ (o .counted B tt) (o .entries B tt)
@@ -64,7 +64,7 @@ module _ (es : Section → List (List Field)) (xs : List (List Field)) (i : ℕ)
       ∙ section-passed all P (F ∷ []) (readBefore es true P) _ (o .counted P tt) (o .entries P tt)
       ∙ section-refused F [] (readBefore es true F) _ xs [] i few in-list b z
       ∙ ap (λ l. Refused (refusal (faultBy true) l)) (omega arith)
-  faces-refused few in-list false o b z =
+  faces-refused false few in-list o b z =
       let all = other es xs in
       section-passed all B (W ∷ I ∷ F ∷ []) nothing 1 (o .counted B tt) (o .entries B tt)
       ∙ section-passed all W (I ∷ F ∷ []) (readBefore es false W) _ (o .counted W tt) (o .entries W tt)
@@ -74,7 +74,7 @@ module _ (es : Section → List (List Field)) (xs : List (List Field)) (i : ℕ)
 
 -- ---- a job in order, with other faces
 
-module _ (c : Carried) (o : InOrder c) (fs : List Face) (few : Within 1 24 (length fs)) (i : ℕ)
+module _ (c : Carried) (o : InOrder c) (fs : List Face) (few : Within 1 (faceLimit (c .year)) (length fs)) (i : ℕ)
     (in-list : i < length fs) where
   abbrev h : Bool
   h = hasHeights (c .year)
@@ -122,8 +122,9 @@ module _ (c : Carried) (o : InOrder c) (fs : List Face) (few : Within 1 24 (leng
       → readLines (linesOf (withFaces fs c)) ≡ Refused (refusal (faultOf (getD fs i noFace)) (faceLine c (i + 1)))
   unfolding linesOf
   refused-at-face e z =
-      let n : Counted F (length xs) = rw (length-map fs (faceFields h)) few in
+      let own : Counted (c .year) F (length xs) = rw (length-map fs (faceFields h)) few in
+      let n = subst (λ (d : Carried). Counted (d .year) F (length xs)) (sheet-said es h c accepted) own in
       let l : i < length xs = rw (length-map fs (faceFields h)) in-list in
       ap readLines (same-sheet h)
-      ∙ faces-refused es xs i n l h (sheet-in-order es h c accepted) (earlier-fine e) (λ q. z (sym fault-is ∙ q))
+      ∙ faces-refused es xs i h n l (sheet-in-order es h c accepted) (earlier-fine e) (λ q. z (sym fault-is ∙ q))
       ∙ ap₂ (λ m k. Refused (refusal m k)) fault-is (line-is h)

@@ -12,9 +12,11 @@ use Rattle.verdict.proofs.After.{then-later, then-earlier, then-passed}
 use Rattle.building.specs.Test.{within, unless}
 use Rattle.building.proofs.Accepted.{Within}
 use Rattle.building.proofs.Accepted as range
+use Rattle.building.specs.Year.{faceLimit}
 use Rattle.entry.specs.declared.Face.{Face}
 use Rattle.job.specs.declared.Job.{Job}
 use Rattle.job.specs.declared.Faces.{Faces}
+use Rattle.job.specs.Carried.{carried}
 use Rattle.edits.specs.declared.EditedJob.{EditedJob}
 use Rattle.edits.specs.Edits.{Edit, Add, Replace, TakeOut, heldJob, noSuchFace, full, onlyFace, newFace}
 use Rattle.edits.specs.Edits.{editVerdict, editFaces, jobWith, editedJob}
@@ -72,8 +74,11 @@ module _ (j : Job) where
       range.within 1 (j .faces .count) k
       (not-true _ (unless-none 8 (within (pos 1) (pos (j .faces .count)) k) e))
 
-  pub has-room : full j .number ≡ 0 → j .faces .count < 24
-  has-room e = ltb-true (j .faces .count) 24 (unless-none 1 (ltb (j .faces .count) 24) e)
+  pub has-room : full j .number ≡ 0 → j .faces .count < faceLimit (carried j .year)
+  unfolding carried
+  has-room e =
+      let n = faceLimit (j .year) in
+      ltb-true (j .faces .count) n (unless-none 1 (ltb (j .faces .count) n) e)
 
   pub not-only : onlyFace j .number ≡ 0 → 1 < j .faces .count
   not-only e = ltb-true 1 (j .faces .count) (unless-none 1 (ltb 1 (j .faces .count)) e)

@@ -9,14 +9,15 @@ use lib.ListN.{length-map}
 use Rattle.verdict.specs.declared.Verdict.{Verdict}
 use Rattle.whole.specs.Lists.{firstOf}
 use Rattle.whole.proofs.Lists.{firstOf-length}
-use Rattle.building.specs.Year.{hasHeights}
+use Rattle.building.specs.Year.{hasHeights, faceLimit}
 use Rattle.entry.specs.Says.{carriedFace}
 use Rattle.job.specs.declared.Job.{Job}
-use Rattle.job.specs.Carried.{carried, noWind, noStep, noFace}
+use Rattle.job.specs.Carried.{carried, noWind, noStep, noFace, mostFaces}
 use Rattle.job.specs.InOrder.{InOrder}
 use Rattle.job.specs.Lines.{linesOf}
 use Rattle.job.specs.Walk.{judged}
 use Rattle.job.proofs.InOrder.{accepted-in-order}
+use Rattle.job.proofs.Room.{limit-roomed}
 use Rattle.job.proofs.Verdicts.{judged-accepted}
 use Rattle.edits.specs.Edits.{heldJob}
 
@@ -34,7 +35,7 @@ module _ (j : Job) (o : InOrder (carried j)) where
   few-internals =
       omega (arith, o .internals-counted .high, firstOf-length (pos 0) (j .internals .count) (j .internals .entry))
 
-  pub few-faces : (1 ≤ j .faces .count) × (j .faces .count ≤ 24)
+  pub few-faces : (1 ≤ j .faces .count) × (j .faces .count ≤ faceLimit (carried j .year))
   unfolding carried
   few-faces =
       let n = o .faces-counted in
@@ -42,6 +43,10 @@ module _ (j : Job) (o : InOrder (carried j)) where
       let all =
       length-map l (carriedFace (hasHeights (j .year))) ∙ firstOf-length noFace (j .faces .count) (j .faces .entry) in
       (omega (arith, n .low, all), omega (arith, n .high, all))
+
+  -- the record has room for them
+  pub roomed : j .faces .count ≤ mostFaces
+  roomed = omega (arith, few-faces .1, limit-roomed (carried j .year))
 
   pub few-steps : hasHeights (j .year) ≡ true → j .profile .count ≤ 16
   unfolding carried

@@ -11,7 +11,7 @@ use Rattle.whole.specs.Lists.{Every}
 use Rattle.whole.proofs.Lists.{every-map}
 use Rattle.whole.proofs.Pieces.{every-first}
 use Rattle.verdict.specs.Verdict.{refusal}
-use Rattle.building.specs.Year.{hasHeights}
+use Rattle.building.specs.Year.{hasHeights, faceLimit}
 use Rattle.building.proofs.Accepted as range
 use Rattle.rules.specs.declared.Section.the-variants.{F}
 use Rattle.rules.specs.declared.Kind.the-variants.{Entry}
@@ -62,7 +62,7 @@ module _ (j : Job) (o : InOrder (carried j)) where
       all)
 
   -- face i of some faces is new, and those before it are held
-  at-place : (fs : List Face) (i : ℕ) (f : Face) → Within 1 24 (length fs) → i < length fs
+  at-place : (fs : List Face) (i : ℕ) (f : Face) → Within 1 (faceLimit (c .year)) (length fs) → i < length fs
       → take i fs ≡ take i (c .faces) → getD fs i noFace ≡ carriedFace h f → (faultOf f ≡ 0 → ⊥)
       → (d : Carried) → d ≡ job.withFaces fs c
       → readLines (linesOf d) ≡ Refused (refusal (faultOf f) (faceLine c (i + 1)))
@@ -73,7 +73,8 @@ module _ (j : Job) (o : InOrder (carried j)) where
       ∙ refused-at-face c o fs few i l fine (λ y. z (sym same ∙ y))
       ∙ ap (λ n. Refused (refusal n (faceLine c (i + 1)))) same
 
-  pub add-refused : (f : Face) → j .faces .count < 24 → (newFace (j .faces .count + 1) f j .number ≡ 0 → ⊥)
+  pub add-refused : (f : Face) → j .faces .count < faceLimit (c .year)
+      → (newFace (j .faces .count + 1) f j .number ≡ 0 → ⊥)
       → judged (after j o (Add f)) ≡ Refused (newFace (j .faces .count + 1) f j)
   unfolding judged carried
   add-refused f room z =

@@ -6,13 +6,13 @@ use lib.IntN.{ℤ, pos, natAbs}
 use Rattle.verdict.specs.declared.Verdict.{Verdict}
 use Rattle.verdict.specs.Verdict.{accepted, refusal, _orThen_}
 use Rattle.building.specs.Test.{within, unless}
-use Rattle.building.specs.Year.{hasHeights}
+use Rattle.building.specs.Year.{hasHeights, faceLimit}
 use Rattle.entry.specs.declared.Face.{Face}
 use Rattle.entry.specs.Says.{carriedFace}
 use Rattle.entry_written.specs.Fields.{faceFields}
 use Rattle.rules.specs.declared.Section.the-variants.{F}
 use Rattle.rules.specs.declared.Kind.the-variants.{Entry}
-use Rattle.rules.specs.Sections.{about, lineFault}
+use Rattle.rules.specs.Sections.{lineFault}
 use Rattle.job.specs.declared.Job.{Job}
 use Rattle.job.specs.declared.Faces.{Faces}
 use Rattle.job.specs.Carried.{before, carried}
@@ -37,9 +37,9 @@ heldJob j = verdict (judged j)
 abbrev pub noSuchFace : ℤ → Job → Verdict
 noSuchFace k j = refusal (unless 9 (within (pos 1) (pos (j .faces .count)) k)) 0
 
--- "a full worksheet on add, or taking out the only face, 2"
+-- "a full worksheet on add, or taking out the only face, 2": full by what a sheet of its year may have
 abbrev pub full : Job → Verdict
-full j = refusal (unless 2 (ltb (j .faces .count) (about F .most))) 0
+full j = refusal (unless 2 (ltb (j .faces .count) (faceLimit (j .year)))) 0
 
 abbrev pub onlyFace : Job → Verdict
 onlyFace j = refusal (unless 2 (ltb 1 (j .faces .count))) 0

@@ -7,13 +7,13 @@ use verdict::Verdict;
 ghost use mathlib.Core.Path.{_≡_};
 ghost use Prim.Native.Nat.{_≤_, _<_};
 ghost use Rattle.verdict.specs.Verdict.{accepted};
-ghost use Rattle.job.specs.Carried.{noFace};
+ghost use Rattle.job.specs.Carried.{noFace, mostFaces};
 ghost use Rattle.edits.specs.Faces as faces;
 ghost use Rattle.edits.specs.Edits.{jobWith};
 
 // The new face takes the first entry behind.
 pub(crate) fn added(held: Faces, f: Face) -> Faces
-    requires { ⌜ held .count < 24 ⌝ }
+    requires { ⌜ held .count < mostFaces ⌝ }
     ensures { λ r. ⌜ r ≡ faces.added f held ⌝ }
 {
     let mut r = held;
@@ -25,7 +25,7 @@ pub(crate) fn added(held: Faces, f: Face) -> Faces
 
 // Another face in the place of face k, from 1.
 pub(crate) fn replaced(held: Faces, k: usize, f: Face) -> Faces
-    requires { ⌜ (0 < k) × (k ≤ held .count) × (held .count ≤ 24) ⌝ }
+    requires { ⌜ (0 < k) × (k ≤ held .count) × (held .count ≤ mostFaces) ⌝ }
     ensures { λ r. ⌜ r ≡ faces.replaced k f held ⌝ }
 {
     let mut r = held;
@@ -48,7 +48,7 @@ fn no_face() -> Face
 
 // The faces behind face k move up, and the entry that is then free is zero.
 pub(crate) fn taken_out(held: Faces, k: usize) -> Faces
-    requires { ⌜ (0 < k) × (k ≤ held .count) × (held .count ≤ 24) ⌝ }
+    requires { ⌜ (0 < k) × (k ≤ held .count) × (held .count ≤ mostFaces) ⌝ }
     ensures { λ r. ⌜ r ≡ faces.takenOut k held ⌝ }
 {
     let mut r = held;

@@ -1,5 +1,6 @@
 // What an edit is refused for, in its order: the held job's own, no such face, too many or too few, the new face's own.
 use building::limits::beyond;
+use building::year::face_limit;
 use building::year::has_heights;
 use entry::Face;
 use job::Job;
@@ -8,9 +9,9 @@ use job::judge::new_face_fault;
 use verdict::Verdict;
 use verdict::or_then;
 ghost use mathlib.Core.Path.{_≡_};
-ghost use Prim.Native.Nat.{_≤_};
+ghost use Prim.Native.Nat.{_+_, _≤_};
 ghost use Rattle.verdict.specs.Verdict.{accepted, _orThen_};
-ghost use Rattle.job.specs.Carried.{carried};
+ghost use Rattle.job.specs.Carried.{carried, mostFaces};
 ghost use Rattle.job.specs.InOrder.{InOrder};
 ghost use Rattle.job.specs.Lines.{faceLine};
 ghost use Rattle.edits.specs.Edits.{Add, Replace, TakeOut, noSuchFace, full, onlyFace, newFace, editVerdict};
@@ -27,7 +28,7 @@ fn no_such_face(k: i64, j: Job) -> Verdict
 fn full(j: Job) -> Verdict
     ensures { λ r. ⌜ r ≡ full j ⌝ }
 {
-    if j.faces.count < 24 {
+    if j.faces.count < face_limit(j.year) {
         return Verdict { number: 0, line: 0 };
     }
     Verdict { number: 2, line: 0 }
@@ -44,7 +45,7 @@ fn only_face(j: Job) -> Verdict
 
 // The line of face k, from 1, in the sheet of a job that is in order.
 fn line_of(j: Job, k: u32) -> u32
-    requires { ⌜ InOrder (carried j) × (k ≤ 25) ⌝ }
+    requires { ⌜ InOrder (carried j) × (k ≤ mostFaces + 1) ⌝ }
     ensures { λ r. ⌜ r ≡ faceLine (carried j) k ⌝ }
 {
     let plain = 2 + 1 + j.winds.count + 1 + j.internals.count + 1 + k;
@@ -56,7 +57,7 @@ fn line_of(j: Job, k: u32) -> u32
 
 // The new face's own faults, as face k.
 fn new_face(k: u32, f: Face, j: Job) -> Verdict
-    requires { ⌜ InOrder (carried j) × (k ≤ 25) ⌝ }
+    requires { ⌜ InOrder (carried j) × (k ≤ mostFaces + 1) ⌝ }
     ensures { λ r. ⌜ r ≡ (newFace k f j orThen accepted) ⌝ }
 {
     let number = new_face_fault(j, f);

@@ -1,6 +1,6 @@
 -- Lines that are accepted hold at least one field each, and every field is in form: `lines` gives them back from
 -- their text, and their text from them.
-use Prim.Native.Nat.{ℕ, zero, suc, _+_, _<_}
+use Prim.Native.Nat.{ℕ, zero, suc, _+_, _≤_, _<_}
 use mathlib.Core.Path.{_≡_, subst, sym}
 use mathlib.Core.Bool.{false, cond, not}
 use mathlib.Core.List.{List, [], _∷_, _++_}
@@ -21,7 +21,7 @@ use Rattle.rules.specs.declared.Section.{Section}
 use Rattle.rules.specs.declared.Section.the-variants.{«V», B, W, I, P, F}
 use Rattle.rules.specs.declared.Kind.{Kind}
 use Rattle.rules.specs.declared.Kind.the-variants.{Count, Entry}
-use Rattle.job.specs.Carried.{Carried, nothing, before}
+use Rattle.job.specs.Carried.{Carried, nothing, before, mostFaces}
 use Rattle.building.specs.Year.{hasHeights}
 use Rattle.entry.specs.Says as say
 use Rattle.entry.specs.Says.{at}
@@ -70,7 +70,8 @@ letter-form F = (omega arith, omega arith)
 line-form : (k : Kind) (b : Before) (x : List Field) → lineFault k b x ≡ 0 → LineInForm x
 line-form (Count s) b x z =
     let t = count-says s b x z in
-    subst LineInForm (sym (t .is)) (omega arith, (letter-form s, (omega (arith, t .counted .high, most-roomed (b .year) s), tt)))
+    let few : t .count ≤ mostFaces = omega (arith, t .counted .high, most-roomed (b .year) s) in
+    subst LineInForm (sym (t .is)) (omega arith, (letter-form s, (omega (arith, few), tt)))
 line-form (Entry «V») b x z = some-number 0 (in-order (Entry «V») b x z .formed)
 line-form (Entry B) b x z = some-number 5 (in-order (Entry B) b x z .formed)
 line-form (Entry W) b x z = some-number 1 (in-order (Entry W) b x z .formed)

@@ -1,7 +1,10 @@
 -- `add`: refused, or the faces with one more.
 use mathlib.Core.Path.{_≡_, sym, ap, _∙_}
 use mathlib.Core.Bool.{Bool}
+use Rattle.job.specs.Carried.{carried}
+use Rattle.job.proofs.Room.{limit-roomed}
 use borrow.Author.Needs.{needs}
+use native.Mathlib.Omega.{arith}
 use Rattle.whole.proofs.Size.{said}
 use Rattle.verdict.specs.declared.Verdict.{Verdict}
 use Rattle.building.specs.Year.{hasHeights}
@@ -47,7 +50,7 @@ added-requires c κs =
     let j = start c .args .j in
     let f = start c .args .f in
     let zero = sym (ap (λ (v : Verdict). v .number) (judged c .of-add .ensures)) ∙ fine c .if1 .left in
-    has-room j (add-passed j f zero .second)
+    omega (arith, has-room j (add-passed j f zero .second), limit-roomed (carried j .year))
 
 returns-2 : tie.Need-returns-2
 unfolding editFaces

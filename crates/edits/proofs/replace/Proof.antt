@@ -11,7 +11,7 @@ use Rattle.building.proofs.Accepted.{Within}
 use Rattle.entry.specs.Says.{carriedFace}
 use Rattle.edits.specs.Faces.{replaced}
 use Rattle.edits.specs.Edits.{Replace, heldJob, noSuchFace, newFace, editVerdict, editFaces}
-use Rattle.edits.proofs.Counts.{held-in-order, few-faces}
+use Rattle.edits.proofs.Counts.{held-in-order, roomed}
 use Rattle.edits.proofs.Checks.{Passed, replace-passed, there-is, edit-refused, edit-taken}
 use Rattle.edits.proofs.replace.Statement.{statement}
 use Rattle.edits.proofs.replace.Tie as tie
@@ -70,8 +70,8 @@ module _ (c : tie.After-magnitude) where
 replaced-requires : tie.Need-replaced-requires
 replaced-requires c κs =
     let j = start c .args .j in
-    let few = few-faces j (held-in-order j (heldJob j) refl (passed c .first)) in
-    (omega (arith, size-is c, there c .from), omega (arith, size-is c, there c .to), few .1)
+    let few = roomed j (held-in-order j (heldJob j) refl (passed c .first)) in
+    (omega (arith, size-is c, there c .from), omega (arith, size-is c, there c .to), few)
 
 returns-2 : tie.Need-returns-2
 unfolding editFaces

@@ -9,7 +9,7 @@ use Rattle.verdict.specs.declared.Verdict.{Verdict}
 use Rattle.building.proofs.Accepted.{Within}
 use Rattle.edits.specs.Faces.{takenOut}
 use Rattle.edits.specs.Edits.{TakeOut, heldJob, noSuchFace, onlyFace, editVerdict, editFaces}
-use Rattle.edits.proofs.Counts.{held-in-order, few-faces}
+use Rattle.edits.proofs.Counts.{held-in-order, roomed}
 use Rattle.edits.proofs.Checks.{Passed, take-out-passed, there-is, edit-refused, edit-taken}
 use Rattle.edits.proofs.take_out.Statement.{statement}
 use Rattle.edits.proofs.take_out.Tie as tie
@@ -55,8 +55,8 @@ module _ (c : tie.After-magnitude) where
 taken-out-requires : tie.Need-taken-out-requires
 taken-out-requires c κs =
     let j = start c .args .j in
-    let few = few-faces j (held-in-order j (heldJob j) refl (passed c .first)) in
-    (omega (arith, size-is c, there c .from), omega (arith, size-is c, there c .to), few .1)
+    let few = roomed j (held-in-order j (heldJob j) refl (passed c .first)) in
+    (omega (arith, size-is c, there c .from), omega (arith, size-is c, there c .to), few)
 
 returns-2 : tie.Need-returns-2
 unfolding editFaces

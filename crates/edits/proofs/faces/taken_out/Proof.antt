@@ -5,7 +5,7 @@ use native.Mathlib.Numerals.{add-one}
 use native.Mathlib.Omega.{arith}
 use lib.ListN.{length, getD, set, length-map, length-set}
 use borrow.Author.Needs.{needs}
-use Rattle.job.specs.Carried.{noFace}
+use Rattle.job.specs.Carried.{noFace, mostFaces}
 use Rattle.whole.proofs.Moved.{moved, moved-next, moved-last}
 use Rattle.edits.proofs.Held.{faces, taken-out-is}
 use Rattle.edits.proofs.faces.taken_out.Statement.{statement}
@@ -13,7 +13,7 @@ use Rattle.edits.proofs.faces.taken_out.Tie as tie
 
 abbrev Inv-loop : tie.InvT-loop
 Inv-loop k r₀ last i₀ r i =
-    (i ≤ last) × (last + 1 ≡ r₀ .count) × (length (r .entry) ≡ 24) × (r .count ≡ r₀ .count)
+    (i ≤ last) × (last + 1 ≡ r₀ .count) × (length (r .entry) ≡ mostFaces) × (r .count ≡ r₀ .count)
     × (moved noFace (last + 1) i (r .entry) ≡ moved noFace (last + 1) (k - 1) (r₀ .entry))
 
 abbrev μ-loop : tie.MeasureT-loop

@@ -3,11 +3,11 @@ use mathlib.Core.Path.{sym, ap₂, _∙_}
 use native.Mathlib.Omega.{arith}
 use Prim.Native.Nat.{_≤_}
 use borrow.Author.Needs.{needs}
-use Rattle.job.specs.Carried.{carried}
+use Rattle.job.specs.Carried.{carried, mostFaces}
 use Rattle.job.specs.InOrder.{InOrder}
 use Rattle.verdict.specs.Verdict.{_orThen_}
 use Rattle.edits.specs.Edits.{editVerdict}
-use Rattle.edits.proofs.Counts.{held-in-order, few-faces}
+use Rattle.edits.proofs.Counts.{held-in-order, roomed}
 use Rattle.edits.proofs.Checks.{held-refused, held-passed}
 use Rattle.edits.proofs.refusals.of_add.Statement.{statement}
 use Rattle.edits.proofs.refusals.of_add.Tie as tie
@@ -27,14 +27,14 @@ module _ (c : tie.Else1) where
   in-order : InOrder (carried (start .args .j))
   in-order = held-in-order (start .args .j) (judged .judge .result) (judged .judge .ensures) (c .if1 .left)
 
-  few : (1 ≤ start .args .j .faces .count) × (start .args .j .faces .count ≤ 24)
-  few = few-faces (start .args .j) in-order
+  few : start .args .j .faces .count ≤ mostFaces
+  few = roomed (start .args .j) in-order
 
 add-new-face : tie.Need-add-new-face
-add-new-face c = omega (arith, few (c .before) .1)
+add-new-face c = omega (arith, few (c .before))
 
 new-face-requires : tie.Need-new-face-requires
-new-face-requires c κs = let e = c .before in (in-order e, omega (arith, few e .1))
+new-face-requires c κs = let e = c .before in (in-order e, omega (arith, few e))
 
 returns-2 : tie.Need-returns-2
 unfolding editVerdict

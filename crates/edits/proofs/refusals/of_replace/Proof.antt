@@ -9,10 +9,10 @@ use Rattle.verdict.specs.declared.Verdict.{Verdict}
 use Rattle.verdict.specs.Verdict.{accepted, _orThen_}
 use Rattle.verdict.proofs.After.{then-later, then-earlier}
 use Rattle.building.proofs.Accepted.{Within}
-use Rattle.job.specs.Carried.{carried}
+use Rattle.job.specs.Carried.{carried, mostFaces}
 use Rattle.job.specs.InOrder.{InOrder}
 use Rattle.edits.specs.Edits.{heldJob, noSuchFace, newFace, editVerdict}
-use Rattle.edits.proofs.Counts.{held-in-order, few-faces}
+use Rattle.edits.proofs.Counts.{held-in-order, roomed}
 use Rattle.edits.proofs.Checks.{held-refused, held-passed, there-is}
 use Rattle.edits.proofs.refusals.of_replace.Statement.{statement}
 use Rattle.edits.proofs.refusals.of_replace.Tie as tie
@@ -67,8 +67,8 @@ module _ (c : tie.After-magnitude) where
   size-is : c .magnitude .result ≡ natAbs (start asked .args .k)
   size-is = said natAbs (start asked .args .k) (c .magnitude .ensures) (start asked .fits .k .sfits)
 
-  few : c .magnitude .result ≤ 24
-  few = omega (arith, size-is, there .to, few-faces (start asked .args .j) (in-order asked) .1)
+  few : c .magnitude .result ≤ mostFaces
+  few = omega (arith, size-is, there .to, roomed (start asked .args .j) (in-order asked))
 
 cast-new-face : tie.Need-cast-new-face
 cast-new-face c = omega (arith, few c)

@@ -233,7 +233,7 @@ judge-section-spec =
     (λ c. omega (arith, room (c .before .before) P (c .enum-told5 .given .1)))
     (λ c. room (c .before .before) P (c .enum-told5 .given .1))
     (λ c κs. omega (arith, room (c .before .before .before) P (c .before .enum-told5 .given .1)))
-    (λ c κs. search needs) (λ c. search needs)
-    (λ c. omega (arith, small (c .before .before))) (λ c. small (c .before .before)) (λ c κs. search needs) (λ c. search needs)
+    (λ c κs. search needs) (λ c. search needs) (λ c. omega (arith, small (c .before .before)))
+    (λ c. small (c .before .before)) (λ c κs. search needs) (λ c. search needs)
     (λ c. omega (arith, small (c .before .before))) returns-2 (λ c. search needs) (λ c. search needs) loop-again
     returns-3)

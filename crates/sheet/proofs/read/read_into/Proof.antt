@@ -277,8 +277,10 @@ loop2-again-2 c =
 
 loop2-again-3 : tie.Need-loop2-again-3 Inv-loop2 μ-loop2 Inv-loop μ-loop
 loop2-again-3 c =
-    let e = c .before .before .before in
-    (now e .loop2 .inv .0, rw (c .wind-of .ensures) (entry-read (entry e) (of e (c .before .enum-told3 .given .1)) refl))
+    let e = c .before .before .before in (
+      now e .loop2 .inv .0,
+      rw (c .wind-of .ensures) (entry-read (entry e) (of e (c .before .enum-told3 .given .1)) refl),
+    )
 
 loop2-again-4 : tie.Need-loop2-again-4 Inv-loop2 μ-loop2 Inv-loop μ-loop
 loop2-again-4 c =
