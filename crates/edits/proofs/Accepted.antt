@@ -36,7 +36,7 @@ use Rattle.job.proofs.InOrder.{face-line, height-line, within-line, in-order-ac
 use Rattle.job.proofs.Lines.{face-back}
 use Rattle.job.proofs.Years.{later-heights}
 use Rattle.verdict.specs.Verdict.{Refuses}
-use Rattle.edits.specs.Faces.{add, replace, facesIn, behind, holding}
+use Rattle.edits.specs.Faces.{add, replace, facesHeld, behind, holding}
 use Rattle.edits.specs.Edits.{Edit, Add, Replace, TakeOut, heldJob, newFace, editVerdict, editFaces}
 use Rattle.edits.specs.Edits.{jobWith, editedJob}
 use Rattle.edits.proofs.Counts.{held-in-order, few-faces}
@@ -134,11 +134,11 @@ module _ (j : Job) (o : InOrder (carried j)) where
       absurd (omega (arith, face .zone .low, ap (λ f. f .zone) none)))
       (λ t. ltb-false (length (r .entry)) (r .count) t)
 
-  pub carried-faces : carried j .faces ≡ map asCarried (facesIn r)
+  pub carried-faces : carried j .faces ≡ map asCarried (facesHeld r)
   unfolding carried
   carried-faces = ap (map asCarried) (firstOf-take noFace (r .count) (r .entry) all-there)
 
-  pub counted : length (facesIn r) ≡ r .count
+  pub counted : length (facesHeld r) ≡ r .count
   counted = length-take-le (r .count) (r .entry) all-there
 
 -- a record that holds some faces carries them
@@ -165,7 +165,7 @@ module _ (j : Job) (o : InOrder (carried j)) where
   h = hasHeights (j .year)
 
   abbrev held : List Face
-  held = facesIn (j .faces)
+  held = facesHeld (j .faces)
 
   abbrev pub after : Edit → Job
   after e = jobWith (editFaces e j) j

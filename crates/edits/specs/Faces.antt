@@ -19,8 +19,8 @@ replace k f fs = take (k - 1) fs ++ (f ∷ drop k fs)
 
 -- ---- in a record: the faces that count, and the entries behind them
 
-abbrev pub facesIn : Faces → List Face
-facesIn r = take (r .count) (r .entry)
+abbrev pub facesHeld : Faces → List Face
+facesHeld r = take (r .count) (r .entry)
 
 abbrev pub behind : Faces → List Face
 behind r = drop (r .count) (r .entry)
@@ -30,10 +30,10 @@ holding fs rest = record { count = length fs; entry = fs ++ rest }
 
 -- the new face takes the first entry behind; a face that is taken out leaves one more, which is zero
 abbrev pub added : Face → Faces → Faces
-added f r = holding (add f (facesIn r)) (drop 1 (behind r))
+added f r = holding (add f (facesHeld r)) (drop 1 (behind r))
 
 abbrev pub replaced : ℕ → Face → Faces → Faces
-replaced k f r = holding (replace k f (facesIn r)) (behind r)
+replaced k f r = holding (replace k f (facesHeld r)) (behind r)
 
 abbrev pub takenOut : ℕ → Faces → Faces
-takenOut k r = holding (takeOut k (facesIn r)) (noFace ∷ behind r)
+takenOut k r = holding (takeOut k (facesHeld r)) (noFace ∷ behind r)

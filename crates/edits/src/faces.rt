@@ -3,11 +3,12 @@ use crate::EditedJob;
 use entry::Face;
 use job::Faces;
 use job::Job;
+use job::no_face;
 use verdict::Verdict;
 ghost use mathlib.Core.Path.{_≡_};
 ghost use Prim.Native.Nat.{_≤_, _<_};
 ghost use Rattle.verdict.specs.Verdict.{accepted};
-ghost use Rattle.job.specs.Carried.{noFace, mostFaces};
+ghost use Rattle.job.specs.Carried.{mostFaces};
 ghost use Rattle.edits.specs.Faces as faces;
 ghost use Rattle.edits.specs.Edits.{jobWith};
 
@@ -31,19 +32,6 @@ pub(crate) fn replaced(held: Faces, k: usize, f: Face) -> Faces
     let mut r = held;
     r.entry[k - 1] = f;
     r
-}
-
-fn no_face() -> Face
-    ensures { λ r. ⌜ r ≡ noFace ⌝ }
-{
-    Face {
-        zone: 0,
-        mark: 0,
-        height: 0,
-        x: 0,
-        y: 0,
-        z: 0,
-    }
 }
 
 // The faces behind face k move up, and the entry that is then free is zero.

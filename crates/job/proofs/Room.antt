@@ -1,9 +1,13 @@
--- No sheet of any year has more entries in a section than a record has room for faces.
+-- No sheet of any year has more entries in a section than a record has room for faces, and none up to year 3 more than
+-- 24 faces.
 use Prim.Native.Nat.{_≤_}
+use mathlib.Core.Path.{_≡_, refl}
 use native.Mathlib.Omega.{arith}
-use lib.IntN.{ℤ, pos}
+use lib.IntN.{ℤ, pos, negsuc}
 use lib.ListN.{length}
-use lib.Signed.{ltZ}
+use lib.Signed.{_≤ℤ_, ltZ}
+use borrow.Author.Tests.{le-ltb}
+use Rattle.whole.proofs.Parts.{le-at}
 use Rattle.whole.proofs.Tests.{by-test}
 use Rattle.building.specs.Year.{faceLimit}
 use Rattle.rules.specs.declared.Section.{Section}
@@ -25,3 +29,12 @@ most-roomed year F = limit-roomed year
 
 pub few-faces : (c : Carried) → InOrder c → length (c .faces) ≤ mostFaces
 few-faces c o = omega (arith, o .faces-counted .high, limit-roomed (c .year))
+
+-- ---- up to year 3
+
+pub limit-early : (year : ℤ) → year ≤ℤ pos 3 → faceLimit year ≡ 24
+limit-early (pos n) h = rw (le-ltb 3 n (omega (arith, le-at _ _ h)))
+limit-early (negsuc n) h = refl
+
+pub few-early : (c : Carried) → InOrder c → c .year ≤ℤ pos 3 → length (c .faces) ≤ 24
+few-early c o h = omega (arith, o .faces-counted .high, limit-early (c .year) h)

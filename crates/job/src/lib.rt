@@ -7,8 +7,9 @@ use entry::Wind;
 use rules::Section;
 ghost use mathlib.Core.Path.{_≡_};
 ghost use lib.ListN.{length};
-ghost use Rattle.job.specs.Carried.{carried};
+ghost use Rattle.job.specs.Carried.{carried, noFace};
 ghost use Rattle.job.specs.Lines.{entriesOf};
+ghost use Rattle.job.specs.Setting.{recordWith};
 
 mod given;
 mod heights;
@@ -61,6 +62,38 @@ pub struct Setting {
     pub winds: Winds,
     pub internals: Internals,
     pub profile: Profile,
+}
+
+// The job of both parts.
+pub fn with_faces(s: Setting, faces: Faces) -> Job
+    ensures { λ r. ⌜ r ≡ recordWith s faces ⌝ }
+{
+    let building = s.building;
+    let winds = s.winds;
+    let internals = s.internals;
+    let profile = s.profile;
+    Job {
+        year: s.year,
+        building,
+        winds,
+        internals,
+        profile,
+        faces,
+    }
+}
+
+// What stands behind the last face of a record that was made here.
+pub fn no_face() -> Face
+    ensures { λ r. ⌜ r ≡ noFace ⌝ }
+{
+    Face {
+        zone: 0,
+        mark: 0,
+        height: 0,
+        x: 0,
+        y: 0,
+        z: 0,
+    }
 }
 
 // How many entries a section of a job has.

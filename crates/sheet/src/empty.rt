@@ -1,6 +1,5 @@
-// The setting that is all zero, and the face.
+// The setting that is all zero.
 use building::Building;
-use entry::Face;
 use entry::Step;
 use entry::Wind;
 use job::Internals;
@@ -8,21 +7,8 @@ use job::Profile;
 use job::Setting;
 use job::Winds;
 ghost use mathlib.Core.Path.{_≡_};
-ghost use Rattle.job.specs.Carried.{noFace, noJob};
+ghost use Rattle.job.specs.Carried.{noJob};
 ghost use Rattle.job.specs.Setting.{settingIn};
-
-pub(crate) fn no_face() -> Face
-    ensures { λ r. ⌜ r ≡ noFace ⌝ }
-{
-    Face {
-        zone: 0,
-        mark: 0,
-        height: 0,
-        x: 0,
-        y: 0,
-        z: 0,
-    }
-}
 
 pub(crate) fn no_setting() -> Setting
     ensures { λ r. ⌜ r ≡ settingIn noJob ⌝ }

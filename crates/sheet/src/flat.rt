@@ -1,8 +1,8 @@
 // Faces as plain numbers in a list, six for each: put there one by one, and taken out as a record.
-use crate::empty::no_face;
 use entry::Face;
 use job::Faces;
 use job::MOST_FACES;
+use job::no_face;
 ghost use mathlib.Core.Path.{_≡_};
 ghost use mathlib.Core.List.{[]};
 ghost use Prim.Native.Nat.{_*_, _≤_, _<_};

@@ -14,12 +14,12 @@ use entry::says::size_of;
 use entry::says::step_of;
 use entry::says::wind_of;
 use entry::says::year_of;
-use job::Faces;
 use job::Internals;
 use job::Job;
 use job::Profile;
 use job::Setting;
 use job::Winds;
+use job::with_faces;
 use lines::field_at;
 use lines::line_at;
 use rules::Before;
@@ -33,7 +33,6 @@ ghost use mathlib.Core.Path.{_≡_};
 ghost use Rattle.verdict.specs.Verdict.{accepted};
 ghost use Rattle.lines.specs.Lines.{linesIn};
 ghost use Rattle.job.specs.Carried.{nothing};
-ghost use Rattle.job.specs.Setting.{recordWith};
 ghost use Rattle.job.specs.Walk.{Refused, verdict, walk, sheet};
 ghost use Rattle.sheet.specs.Head.{headOf, flatAfter};
 ghost use Rattle.sheet.specs.Parts.{settingOf};
@@ -172,23 +171,6 @@ pub fn verdict_of(s: &[u8]) -> Verdict
     let mut none = [0i64; 1];
     let head = read_into(s, &mut none);
     head.verdict
-}
-
-fn with_faces(s: Setting, faces: Faces) -> Job
-    ensures { λ r. ⌜ r ≡ recordWith s faces ⌝ }
-{
-    let building = s.building;
-    let winds = s.winds;
-    let internals = s.internals;
-    let profile = s.profile;
-    Job {
-        year: s.year,
-        building,
-        winds,
-        internals,
-        profile,
-        faces,
-    }
 }
 
 // What the text s says, as a record.
