@@ -2,11 +2,10 @@
 use mathlib.Core.Path.{_≡_, refl, sym, ap, _∙_}
 use mathlib.Core.Bool.{Bool, true, false, cond}
 use mathlib.Core.List.{List, [], _∷_, map, List·Memᴰ, List·Memᴰ·head, List·Memᴰ·tail}
-use Prim.Native.Nat.{ℕ, _-_, _≤_}
-use native.Mathlib.Omega.{arith}
+use Prim.Native.Nat.{ℕ, _≤_}
 use lib.Dec.{eqb}
 use lib.IntN.{ℤ, _+ℤ_}
-use lib.ListN.{length, drop}
+use lib.ListN.{length}
 use Rattle.entry.specs.declared.Wind.{Wind}
 use Rattle.entry.specs.declared.Face.{Face}
 use Rattle.job.specs.declared.Job.{Job}
@@ -17,7 +16,6 @@ use Rattle.worst.specs.declared.Side.the-variants.{Greatest, Least}
 use Rattle.worst.specs.declared.Axis.{Axis}
 use Rattle.worst.specs.declared.Axis.the-variants.{X, Y, Z}
 use Rattle.worst.specs.declared.FaceForces.{FaceForces}
-use Rattle.worst.specs.declared.CellForces.{CellForces}
 use Rattle.worst.specs.declared.Extreme.{Extreme}
 use Rattle.worst.specs.declared.Six.{Six}
 use Rattle.worst.specs.Best.{none, at}
@@ -32,6 +30,7 @@ use Rattle.worst.proofs.Better.{best-over, over-each, over-map, over-same, over
 use Rattle.worst.proofs.Members.{choices-only}
 use Rattle.worst.proofs.OneFace.{OneOrTwo, alone, pair}
 use Rattle.worst.specs.Rows.{rows, forceIn}
+use Rattle.plain.specs.AsNumbers.{rowsAt}
 use Rattle.plain.specs.Walked.{alternativesIn, caseWith}
 use Rattle.worst.specs.Rows.{Taken}
 use Rattle.plain.specs.Walked.{valued, walked, cellWalked, windWalked}
@@ -109,7 +108,7 @@ module _ (j : Job) (t : Taken j) (axis : Axis) (s : Side) (w i : ℕ) (from : 1 
   -- every choice for the faces is every choice for what is handed over, with the same total
   pub cell-walked
       : let all = rows (j .faces .count) (cellForces g u (internalAt g i)) in
-      walked s (total (forceIn axis) all) w i [] all ≡ cellWalked s l w i
+      walked s (total (forceIn axis) all) w i all ≡ cellWalked s l w i
   unfolding walked cellWalked
   cell-walked =
       (λ k.
@@ -127,19 +126,15 @@ module _ (j : Job) (t : Taken j) (axis : Axis) (s : Side) (w i : ℕ) (from : 1 
 
 -- ---- all of them
 
--- the walk over the faces from the first on, with the forces that were handed over
+-- the walk over the faces, with the forces that were put into a list
 pub walked-here : (j : Job) (t : Taken j) (axis : Axis) (s : Side) (w i : ℕ) → 1 ≤ w → w ≤ j .winds .count → 1 ≤ i
-    → i ≤ j .internals .count → (forces : CellForces) → forces ≡ forcesIn w i (judged j)
-    → let n = j .faces .count in
-    let all = rows n forces in
-    walked s (total (forceIn axis) all) w i [] (drop (n - n) all) ≡ cellWalked s (loads axis (given (carried j))) w i
-walked-here j t axis s w i a b c d forces e =
-    let n = j .faces .count in
-    let start : n - n ≡ 0 = omega arith in
-    (λ k.
-    let all = rows n ((e ∙ cell-is j t w i a b c d) k) in
-    walked s (total (forceIn axis) all) w i [] (drop (start k) all))
-    ∙ cell-walked j t axis s w i a b
+    → i ≤ j .internals .count → (list : List ℤ)
+    → rowsAt (j .faces .count) list ≡ rows (j .faces .count) (forcesIn w i (judged j))
+    → let all = rowsAt (j .faces .count) list in
+    walked s (total (forceIn axis) all) w i all ≡ cellWalked s (loads axis (given (carried j))) w i
+walked-here j t axis s w i a b c d list e =
+    let same = e ∙ ap (rows (j .faces .count)) (cell-is j t w i a b c d) in
+    (λ k. walked s (total (forceIn axis) (same k)) w i (same k)) ∙ cell-walked j t axis s w i a b
 
 -- what shows the best of every wind is an extreme of the job
 pub extreme-is : (j : Job) (t : Taken j) (axis : Axis) (s : Side) (e : Extreme)

@@ -7,11 +7,14 @@ use Prim.Native.Nat.{ℕ, _<_}
 use native.Mathlib.Omega.{arith}
 use lib.IntN.{ℤ}
 use Rattle.worst.specs.declared.Side.{Side}
+use Rattle.worst.specs.declared.Side.the-variants.{Greatest, Least}
 use Rattle.worst.specs.declared.Extreme.{Extreme}
 use Rattle.worst.specs.Best.{short, Best, none, at, better}
 use Rattle.worst.specs.Cases.{Case}
 use Rattle.worst.specs.Shown.{padded, shown}
-use Rattle.plain.specs.Walked.{caseWith, Keeps}
+use Rattle.pair.specs.Total.{pairOf}
+use Rattle.pair.proofs.Order.{lesser-pairOf}
+use Rattle.plain.specs.Walked.{caseWith, shortOf, Keeps}
 
 -- the later case as the code makes it
 abbrev pub later : ℤ → ℕ → ℕ → ℕ → List ℕ → Extreme
@@ -47,3 +50,10 @@ module _ (s : Side) (n : ℕ) (e : Extreme) (v : ℤ) (w i : ℕ) (ks choice : L
   kept-earlier z t (at u c) h =
       let same = ap (λ (x : Extreme). x .total) (h .is) in
       rw (ap (λ x. short s x v) (sym same) ∙ t) h
+
+-- ---- totals as pairs
+
+-- a later total falls short as its pair does
+pub short-of : (s : Side) (u v : ℤ) → shortOf s (pairOf u) (pairOf v) ≡ short s u v
+short-of Greatest u v = lesser-pairOf u v
+short-of Least u v = lesser-pairOf v u

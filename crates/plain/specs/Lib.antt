@@ -1,3 +1,5 @@
--- The plain reckoning. `Walked` serves private contracts alone.
+-- The plain reckoning. All but `Plain` serves private contracts alone.
 pub mod Plain
+pub mod AsNumbers
+pub mod ByNumber
 pub mod Walked

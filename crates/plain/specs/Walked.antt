@@ -1,53 +1,73 @@
 -- The walk over every choice, as the code has it. Only contracts of private functions cite it.
 use mathlib.Core.Path.{_≡_}
-use mathlib.Core.Bool.{cond}
-use mathlib.Core.List.{List, [], _∷_, _++_}
+use mathlib.Core.Bool.{Bool, cond}
+use mathlib.Core.List.{List, [], _∷_}
 use Prim.Native.Nat.{ℕ, _*_, _≤_, _<_}
 use lib.Dec.{eqb}
-use lib.IntN.{ℤ, natAbs, _+ℤ_}
-use lib.ListN.{getD}
-use Rattle.job.specs.Carried.{Carried}
+use lib.IntN.{ℤ, natAbs}
+use lib.ListN.{length, getD}
+use Rattle.whole.specs.Newton.{newton}
+use Rattle.pair.specs.declared.Pair.{Pair}
+use Rattle.pair.specs.Total.{pairOf, pairSum, lesser, mostInUnits}
+use Rattle.job.specs.declared.Job.{Job}
+use Rattle.job.specs.Carried.{Carried, carried, noWind, noFace}
 use Rattle.worst.specs.declared.Side.{Side}
+use Rattle.worst.specs.declared.Side.the-variants.{Greatest, Least}
 use Rattle.worst.specs.declared.Axis.{Axis}
 use Rattle.worst.specs.declared.Axis.the-variants.{X, Y, Z}
 use Rattle.worst.specs.declared.AxisForces.{AxisForces}
 use Rattle.worst.specs.declared.FaceForces.{FaceForces}
-use Rattle.worst.specs.declared.CellForces.{CellForces}
 use Rattle.worst.specs.declared.Extreme.{Extreme}
-use Rattle.worst.specs.Best.{Best, none, at}
+use Rattle.worst.specs.Best.{Best, none, at, better}
 use Rattle.worst.specs.Cases.{Loads, Case, choices, total}
 use Rattle.worst.specs.Quick.{over}
-use Rattle.worst.specs.Forces.{loads}
+use Rattle.worst.specs.Forces.{alternatives, loads}
 use Rattle.worst.specs.Worst.{given}
-use Rattle.worst.specs.Shown.{shown}
-use Rattle.worst.specs.PerFace.{noFaceForces}
+use Rattle.worst.specs.Shown.{padded, shown}
 use Rattle.worst.specs.Rows.{forceIn}
+use Rattle.plain.specs.declared.add.Totals.{Totals}
+use Rattle.plain.specs.Plain.{facesWithTwo, mostWithTwo}
+use Rattle.plain.specs.AsNumbers.{perRow, rowAt, rowsAt}
+use Rattle.plain.specs.ByNumber.{mostWays, ways}
 
 -- ---- the forces of a cell: each face with its alternatives
 
 abbrev pub alternativesIn : FaceForces → List ℕ
 alternativesIn f = cond (eqb (f .count) 2) (1 ∷ 2 ∷ []) (1 ∷ [])
 
-abbrev pub plus : AxisForces → AxisForces → AxisForces
-plus a b = record { x = a .x +ℤ b .x; y = a .y +ℤ b .y; z = a .z +ℤ b .z }
+-- a force added to the totals so far
+abbrev pub plus : Totals → AxisForces → Totals
+plus all f =
+    record {
+      x = pairSum (all .x) (pairOf (f .x));
+      y = pairSum (all .y) (pairOf (f .y));
+      z = pairSum (all .z) (pairOf (f .z));
+    }
 
 -- the totals of a choice
-abbrev pub totalOf : List FaceForces → List ℕ → AxisForces
-totalOf fs ks =
-    record { x = total (forceIn X) fs ks; y = total (forceIn Y) fs ks; z = total (forceIn Z) fs ks }
+abbrev pub totalsOf : List FaceForces → List ℕ → Totals
+totalsOf fs ks =
+    record {
+      x = pairOf (total (forceIn X) fs ks);
+      y = pairOf (total (forceIn Y) fs ks);
+      z = pairOf (total (forceIn Z) fs ks);
+    }
 
--- n faces added up are no larger
-pub record ForceSmall (n : ℕ) (f : AxisForces) : Type 0 where
-  pub x : natAbs (f .x) ≤ n * 330000000000000000
-  pub y : natAbs (f .y) ≤ n * 330000000000000000
-  pub z : natAbs (f .z) ≤ n * 330000000000000000
+-- a force that a face can have
+abbrev pub mostForce : ℕ
+mostForce = 330000000000000000
+
+pub record ForceSmall (f : AxisForces) : Type 0 where
+  pub x : natAbs (f .x) ≤ mostForce
+  pub y : natAbs (f .y) ≤ mostForce
+  pub z : natAbs (f .z) ≤ mostForce
 
 pub record RowSmall (f : FaceForces) : Type 0 where
-  pub first : ForceSmall 1 (f .first)
-  pub last : ForceSmall 1 (f .last)
+  pub first : ForceSmall (f .first)
+  pub last : ForceSmall (f .last)
 
-abbrev pub RowsSmall : ℕ → CellForces → Type 0
-RowsSmall n forces = (i : ℕ) → i < n → RowSmall (getD (forces .face) i noFaceForces)
+abbrev pub RowsSmall : ℕ → List ℤ → Type 0
+RowsSmall n l = (i : ℕ) → i < n → RowSmall (rowAt l i)
 
 -- ---- every choice
 
@@ -58,9 +78,9 @@ caseWith w i ks = record { wind = w; internal = i; chosen = ks }
 abbrev pub valued : (List ℕ → ℤ) → ℕ → ℕ → List ℕ → Best (Case ℕ ℕ ℕ)
 valued value w i ks = at (value ks) (caseWith w i ks)
 
--- the best of the choices that begin with ks and go on over the faces that are left
-unfoldable pub walked : Side → (List ℕ → ℤ) → ℕ → ℕ → List ℕ → List FaceForces → Best (Case ℕ ℕ ℕ)
-walked s value w i ks left = over s (λ js. valued value w i (ks ++ js)) (choices alternativesIn left)
+-- the best of the choices of these faces
+unfoldable pub walked : Side → (List ℕ → ℤ) → ℕ → ℕ → List FaceForces → Best (Case ℕ ℕ ℕ)
+walked s value w i fs = over s (valued value w i) (choices alternativesIn fs)
 
 -- ---- what is kept
 
@@ -74,12 +94,24 @@ pub record Keeps (n : ℕ) (e : Extreme) (b : Best (Case ℕ ℕ ℕ)) : Type 0 
   pub is : e ≡ shown n b
   pub wind : Numbered b
 
--- where a walk stands: so many faces left of n
-pub record Underway (n left wind : ℕ) (forces : CellForces) : Type 0 where
+-- an earlier total as a pair falls short of a later one
+abbrev pub shortOf : Side → Pair → Pair → Bool
+shortOf Greatest earlier later = lesser earlier later
+shortOf Least earlier later = lesser later earlier
+
+-- what is kept of an earlier extreme and a later total, which is that of v
+abbrev pub KeepsWith : Side → Extreme → Extreme → Pair → List ℕ → ℕ → ℕ → Type 0
+KeepsWith s earlier r later choice w i = (v : ℤ) (n : ℕ) (ks : List ℕ) (b : Best (Case ℕ ℕ ℕ)) → later ≡ pairOf v
+    → natAbs v ≤ mostInUnits * newton → choice ≡ padded 24 ks → Keeps n earlier b
+    → Keeps n r (better s b (at v (caseWith w i ks)))
+
+-- a cell that can be walked: so many faces in the list
+pub record Underway (n wind : ℕ) (list : List ℤ) : Type 0 where
   pub few : n ≤ 24
-  pub left≤ : left ≤ n
+  pub room : perRow * n ≤ length list
   pub some : 0 < wind
-  pub small : RowsSmall n forces
+  pub small : RowsSmall n list
+  pub ways≤ : ways (rowsAt n list) ≤ mostWays
 
 -- ---- a job
 
@@ -92,3 +124,13 @@ abbrev pub windWalked : Axis → Side → Carried → ℕ → Best (Case ℕ ℕ
 windWalked axis s c w =
     let l = loads axis (given c) in
     over s (cellWalked s l w) (l .internals)
+
+-- a job that is taken for its number of faces with two alternatives
+abbrev pub FewTwos : Job → Type 0
+FewTwos j = facesWithTwo (given (carried j)) ≤ mostWithTwo
+
+-- its face k has two under wind w, both from 0
+abbrev pub twoUnder : Job → ℕ → ℕ → Bool
+twoUnder j w k =
+    let g = given (carried j) in
+    eqb (length (alternatives g (getD (g .winds) w noWind) (getD (g .faces) k noFace))) 2

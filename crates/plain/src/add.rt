@@ -1,46 +1,60 @@
 // One case added up: of each face the force at its alternative.
 ghost use mathlib.Core.Path.{_≡_};
-ghost use Prim.Native.Nat.{_≤_};
+ghost use mathlib.Core.Bool.{cond};
+ghost use Prim.Native.Nat.{_+_, _*_, _≤_, _<_};
+ghost use lib.Dec.{eqb};
+ghost use lib.ListN.{length};
 ghost use Rattle.whole.specs.Lists.{firstOf};
-ghost use Rattle.worst.specs.Rows.{rows, takenAt};
-ghost use Rattle.plain.specs.Walked.{plus, totalOf, ForceSmall, RowsSmall};
-use worst::AxisForces;
-use worst::CellForces;
-use worst::FaceForces;
+ghost use Rattle.plain.specs.AsNumbers.{perRow, rowsAt};
+ghost use Rattle.plain.specs.Walked.{plus, totalsOf, RowsSmall};
+use crate::numbers::PER_ROW;
+use pair::Pair;
 
-// The force of a face at its alternative k.
-fn taken(f: FaceForces, k: u8) -> AxisForces
-    ensures { λ r. ⌜ r ≡ takenAt f k ⌝ }
-{
-    if k == 1 {
-        return f.first;
-    }
-    f.last
+// The totals on the three axes.
+pub(crate) struct Totals {
+    pub(crate) x: Pair,
+    pub(crate) y: Pair,
+    pub(crate) z: Pair,
 }
 
-fn sum(a: AxisForces, b: AxisForces) -> AxisForces
-    requires { ⌜ ForceSmall 23 a × ForceSmall 1 b ⌝ }
-    ensures { λ r. ⌜ r ≡ plus a b ⌝ }
+// With a force added.
+fn with_force(all: Totals, x: i64, y: i64, z: i64) -> Totals
+    ensures { λ r. ⌜ r ≡ plus all (record { x = x; y = y; z = z }) ⌝ }
 {
-    AxisForces {
-        x: a.x + b.x,
-        y: a.y + b.y,
-        z: a.z + b.z,
+    Totals {
+        x: pair::sum(all.x, pair::of_units(x)),
+        y: pair::sum(all.y, pair::of_units(y)),
+        z: pair::sum(all.z, pair::of_units(z)),
     }
+}
+
+// Where the force of face i at its alternative k stands.
+fn place(i: usize, k: u8) -> usize
+    requires { ⌜ i < 24 ⌝ }
+    ensures { λ r. ⌜ r ≡ perRow * i + cond (eqb k 1) 1 4 ⌝ }
+{
+    let at = PER_ROW * i;
+    if k == 1 {
+        return at + 1;
+    }
+    at + 4
 }
 
 // The totals of a choice.
-pub(crate) fn total(forces: CellForces, faces: usize, choice: [u8; 24]) -> AxisForces
-    requires { ⌜ (faces ≤ 24) × RowsSmall faces forces ⌝ }
-    ensures { λ r. ⌜ r ≡ totalOf (rows faces forces) (firstOf 0 faces choice) ⌝ }
+pub(crate) fn total(list: &[i64], faces: usize, choice: [u8; 24]) -> Totals
+    requires { ⌜ (faces ≤ 24) × (perRow * faces ≤ length (now list)) × RowsSmall faces (now list) ⌝ }
+    ensures { λ r. ⌜ r ≡ totalsOf (rowsAt faces (now (list .entry))) (firstOf 0 faces choice) ⌝ }
 {
-    let mut all = AxisForces { x: 0, y: 0, z: 0 };
+    let none = pair::of_units(0);
+    let mut all = Totals {
+        x: none,
+        y: none,
+        z: none,
+    };
     let mut i = 0;
     while i < faces {
-        let f = forces.face[i];
-        let k = choice[i];
-        let one = taken(f, k);
-        all = sum(all, one);
+        let at = place(i, choice[i]);
+        all = with_force(all, list[at], list[at + 1], list[at + 2]);
         i += 1;
     }
     all

@@ -8,15 +8,16 @@ ghost use Rattle.worst.specs.Best.{Best, better};
 ghost use Rattle.worst.specs.Cases.{Case};
 ghost use Rattle.worst.specs.Worst.{sixExtremes, shownIn};
 ghost use Rattle.worst.specs.Rows.{Taken};
-ghost use Rattle.plain.specs.Walked.{Keeps, windWalked};
+ghost use Rattle.plain.specs.Walked.{Keeps, FewTwos, windWalked};
 use crate::keep::nothing_yet;
+use crate::numbers::put_cell;
 use crate::walk::walk;
 use job::Job;
 use worst::Six;
 
 // The cases of one wind, after those of the winds before it.
 fn every_internal(six: Six, job: Job, wind: u32) -> Six
-    requires { ⌜ Taken job × (0 < wind) × (wind ≤ job .winds .count) ⌝ }
+    requires { ⌜ Taken job × FewTwos job × (0 < wind) × (wind ≤ job .winds .count) ⌝ }
     ensures { λ r. ⌜ ((axis : Axis) (s : Side) (b : Best (Case ℕ ℕ ℕ))
         → Keeps (job .faces .count) (shownIn six axis s) b
         → Keeps (job .faces .count) (shownIn r axis s) (better s b (windWalked axis s (carried job) wind))) ⌝ }
@@ -27,16 +28,16 @@ fn every_internal(six: Six, job: Job, wind: u32) -> Six
     let mut i = 0;
     while i < count {
         i += 1;
-        let forces = worst::forces_of(job, wind, i);
-        let none = [0u8; 24];
-        all = walk(all, forces, faces, faces, none, wind, i);
+        let mut list = [0i64; 168];
+        put_cell(job, wind, i, &mut list);
+        all = walk(all, &list, faces, wind, i);
     }
     all
 }
 
 // All cases of a job that is taken.
 pub(crate) fn every_wind(job: Job) -> Six
-    requires { ⌜ Taken job ⌝ }
+    requires { ⌜ Taken job × FewTwos job ⌝ }
     ensures { λ r. ⌜ r ≡ sixExtremes (carried job) ⌝ }
 {
     let winds = job.winds.count;

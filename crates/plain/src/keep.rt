@@ -1,18 +1,19 @@
 // The case that goes furthest so far, on each axis and side: a later one takes its place only where it goes further.
 ghost use mathlib.Core.Path.{_≡_};
 ghost use mathlib.Core.List.{List};
-ghost use Prim.Native.Nat.{ℕ, _≤_, _<_};
+ghost use Prim.Native.Nat.{ℕ, _<_};
 ghost use Rattle.whole.specs.Lists.{firstOf};
 ghost use Rattle.worst.specs.declared.Side.{Side};
 ghost use Rattle.worst.specs.declared.Axis.{Axis};
-ghost use Rattle.worst.specs.Best.{short, Best, none, at, better};
+ghost use Rattle.worst.specs.Best.{Best, none, at, better};
 ghost use Rattle.worst.specs.Cases.{Case, total};
 ghost use Rattle.worst.specs.Shown.{padded, shown};
-ghost use Rattle.worst.specs.Rows.{rows, forceIn};
+ghost use Rattle.worst.specs.Rows.{forceIn};
 ghost use Rattle.worst.specs.Worst.{onSide, shownIn};
-ghost use Rattle.plain.specs.Walked.{caseWith, Keeps, RowsSmall};
+ghost use Rattle.plain.specs.AsNumbers.{rowsAt};
+ghost use Rattle.plain.specs.Walked.{caseWith, shortOf, Keeps, KeepsWith, Underway};
 use crate::add;
-use worst::CellForces;
+use pair::Pair;
 use worst::Extreme;
 use worst::Extremes;
 use worst::Side;
@@ -42,23 +43,22 @@ pub(crate) fn nothing_yet(faces: u32) -> Six
 }
 
 // Whether a later total is strictly further out.
-fn further(side: Side, earlier: i64, later: i64) -> bool
-    ensures { λ r. ⌜ r ≡ short side earlier later ⌝ }
+fn further(side: Side, earlier: Pair, later: Pair) -> bool
+    ensures { λ r. ⌜ r ≡ shortOf side earlier later ⌝ }
 {
     match side {
-        Side::Greatest => earlier < later,
-        Side::Least => later < earlier,
+        Side::Greatest => pair::less(earlier, later),
+        Side::Least => pair::less(later, earlier),
     }
 }
 
 // On one side of one axis.
-fn kept(side: Side, e: Extreme, total: i64, choice: [u8; 24], wind: u32, internal: u32) -> Extreme
+fn kept(side: Side, e: Extreme, total: Pair, choice: [u8; 24], wind: u32, internal: u32) -> Extreme
     requires { ⌜ 0 < wind ⌝ }
-    ensures { λ r. ⌜ ((n : ℕ) (ks : List ℕ) (b : Best (Case ℕ ℕ ℕ)) → choice ≡ padded 24 ks → Keeps n e b
-        → Keeps n r (better side b (at total (caseWith wind internal ks)))) ⌝ }
+    ensures { λ r. ⌜ KeepsWith side e r total choice wind internal ⌝ }
 {
     let later = Extreme {
-        total,
+        total: pair::as_units(total),
         wind,
         internal,
         faces: e.faces,
@@ -67,17 +67,16 @@ fn kept(side: Side, e: Extreme, total: i64, choice: [u8; 24], wind: u32, interna
     if e.wind == 0 {
         return later;
     }
-    if further(side, e.total, total) {
+    if further(side, pair::of_units(e.total), total) {
         return later;
     }
     e
 }
 
 // On both sides of it.
-fn both_kept(e: Extremes, total: i64, choice: [u8; 24], wind: u32, internal: u32) -> Extremes
+fn both_kept(e: Extremes, total: Pair, choice: [u8; 24], wind: u32, internal: u32) -> Extremes
     requires { ⌜ 0 < wind ⌝ }
-    ensures { λ r. ⌜ ((s : Side) (n : ℕ) (ks : List ℕ) (b : Best (Case ℕ ℕ ℕ)) → choice ≡ padded 24 ks
-        → Keeps n (onSide s e) b → Keeps n (onSide s r) (better s b (at total (caseWith wind internal ks)))) ⌝ }
+    ensures { λ r. ⌜ ((s : Side) → KeepsWith s (onSide s e) (onSide s r) total choice wind internal) ⌝ }
 {
     let greatest = kept(Side::Greatest, e.greatest, total, choice, wind, internal);
     let least = kept(Side::Least, e.least, total, choice, wind, internal);
@@ -87,20 +86,20 @@ fn both_kept(e: Extremes, total: i64, choice: [u8; 24], wind: u32, internal: u32
 // One case more on every axis.
 pub(crate) fn with_case(
     six: Six,
-    forces: CellForces,
+    list: &[i64],
     faces: usize,
     choice: [u8; 24],
     wind: u32,
     internal: u32,
 ) -> Six
-    requires { ⌜ (faces ≤ 24) × (0 < wind) × RowsSmall faces forces ⌝ }
+    requires { ⌜ Underway faces wind (now list) ⌝ }
     ensures { λ r. ⌜ ((axis : Axis) (s : Side) (n : ℕ) (ks : List ℕ) (b : Best (Case ℕ ℕ ℕ)) → choice ≡ padded 24 ks
         → Keeps n (shownIn six axis s) b
         → Keeps n (shownIn r axis s)
-        (better s b (at (total (forceIn axis) (rows faces forces) (firstOf 0 faces choice))
+        (better s b (at (total (forceIn axis) (rowsAt faces (now (list .entry))) (firstOf 0 faces choice))
         (caseWith wind internal ks)))) ⌝ }
 {
-    let t = add::total(forces, faces, choice);
+    let t = add::total(list, faces, choice);
     let x = both_kept(six.x, t.x, choice, wind, internal);
     let y = both_kept(six.y, t.y, choice, wind, internal);
     let z = both_kept(six.z, t.z, choice, wind, internal);

@@ -10,8 +10,10 @@ use worst::Reckoning;
 use worst::Six;
 
 mod twos; // how many faces have two alternatives
+mod numbers; // the forces of a cell as numbers in a lent list
 mod add; // one case added up
 mod keep; // the first case that goes furthest
+mod choices; // the choice of alternatives of a number
 mod walk; // every choice of alternatives
 mod cells; // every wind and every internal coefficient
 

@@ -1,6 +1,7 @@
 -- `plain_by` meets its contract: a job's own refusal, the refusal of too many faces with two alternatives, or its six.
 use mathlib.Core.Path.{_≡_, sym, ap, _∙_}
 use mathlib.Core.Bool.{Bool, cond}
+use native.Mathlib.Omega.{arith}
 use borrow.Author.Needs.{needs}
 use borrow.Author.Tests.{le-leb, lt-leb}
 use lib.Dec.{leb}
@@ -59,6 +60,11 @@ returns-2 c =
     ∙ by-count (w .before) _
     (ap (λ k. leb k mostWithTwo) (sym (w .faces-with-two .ensures)) ∙ lt-leb _ mostWithTwo (t .if2 .taken))
 
+every-wind-requires : tie.Need-every-wind-requires
+every-wind-requires c κs =
+    let w = c .before in
+    (taken (w .before), omega (arith, w .faces-with-two .ensures, c .if2 .left))
+
 returns-3 : tie.Need-returns-3
 returns-3 c =
     let x = c .before in
@@ -75,4 +81,4 @@ pub plain-by-spec : {M : Type 1} → statement M
 plain-by-spec =
     tie.close
     (tie.spec (λ c κs. search needs) (λ c κs. search needs) returns (λ c κs. taken c) (λ c κs. search needs)
-    (λ c κs. search needs) returns-2 (λ c κs. taken (c .before .before)) (λ c κs. search needs) returns-3)
+    (λ c κs. search needs) returns-2 every-wind-requires (λ c κs. search needs) returns-3)

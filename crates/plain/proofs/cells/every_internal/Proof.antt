@@ -1,9 +1,10 @@
 -- `cells::every_internal` meets its contract: after i internal coefficients the best of their choices is kept.
 use mathlib.Core.Path.{_≡_, refl, sym, ap, _∙_, subst}
-use mathlib.Core.List.{[]}
+use mathlib.Core.List.{List}
 use Prim.Native.Nat.{ℕ, _+_, _-_, _≤_, _<_}
 use native.Mathlib.Omega.{arith}
 use borrow.Author.Needs.{needs}
+use lib.IntN.{ℤ}
 use Rattle.job.specs.declared.Job.{Job}
 use Rattle.job.specs.Carried.{carried}
 use Rattle.worst.specs.declared.Axis.{Axis}
@@ -14,11 +15,10 @@ use Rattle.worst.specs.Cases.{Case}
 use Rattle.worst.specs.Quick.{over}
 use Rattle.worst.specs.Forces.{loads}
 use Rattle.worst.specs.Worst.{given, shownIn}
-use Rattle.worst.specs.Shown.{padded}
 use Rattle.worst.proofs.Better.{better-none, over-after}
-use Rattle.plain.specs.Walked.{Keeps, RowsSmall, cellWalked}
-use Rattle.worst.proofs.Rows.{ready, internals-counted, cell-is}
-use Rattle.plain.proofs.Rows.{cell-small}
+use Rattle.plain.specs.Walked.{Keeps, Underway, cellWalked}
+use Rattle.worst.proofs.Rows.{ready, internals-counted}
+use Rattle.plain.proofs.Rows.{cell-small, cell-ways}
 use Rattle.plain.proofs.EveryCase.{walked-here}
 use Rattle.plain.proofs.cells.every_internal.Statement.{statement}
 use Rattle.plain.proofs.cells.every_internal.Tie as tie
@@ -57,41 +57,55 @@ module _ (d : tie.In-loop Inv-loop μ-loop) where
   below : i < 4
   below = let t = counted in omega (arith, ready j (a .pre .0) .internals .0)
 
-walk-requires : tie.Need-walk-requires Inv-loop μ-loop
-walk-requires c κs =
+-- its forces stand in the list
+module _ (c : tie.After-put-cell Inv-loop μ-loop) where
+  abbrev d : tie.In-loop Inv-loop μ-loop
+  d = c .before .before
+
+  abbrev list : List ℤ
+  list = c .put-cell .last .1 .1 .1 .0
+
+  from : 1 ≤ i d + 1
+  from = omega arith
+
+  to : i d + 1 ≤ j d .internals .count
+  to = omega (arith, counted d)
+
+  under : Underway (j d .faces .count) (a d .args .wind) list
+  under =
+      let t = a d .pre .0 in
+      let w = a d .args .wind in
+      let few = ready (j d) t .profiled .few in
+      record {
+        few = few;
+        room = omega (arith, few, c .put-cell .ensures .0);
+        some = a d .pre .2;
+        small = cell-small (j d) t w (i d + 1) (a d .pre .2) (a d .pre .3) from to list (c .put-cell .ensures .1);
+        ways≤ = cell-ways (j d) t w (i d + 1) (a d .pre .2) (a d .pre .3) from to list (c .put-cell .ensures .1)
+            (a d .pre .1);
+      }
+
+put-cell-requires : tie.Need-put-cell-requires Inv-loop μ-loop
+put-cell-requires c κs =
     let d = c .before in
-    let t = a d .pre .0 in
-    let w = a d .args .wind in
-    let from : 1 ≤ i d + 1 = omega arith in
-    let to : i d + 1 ≤ j d .internals .count = omega (arith, counted d) in
-    record {
-      few = ready (j d) t .profiled .few;
-      left≤ = omega arith;
-      some = a d .pre .1;
-      small = subst (RowsSmall (j d .faces .count))
-          (sym (c .forces-of .ensures ∙ cell-is (j d) t w (i d + 1) (a d .pre .1) (a d .pre .2) from to))
-          (cell-small (j d) t w (i d + 1) (a d .pre .1) (a d .pre .2) from to);
-    }
+    let few = ready (j d) (a d .pre .0) .profiled .few in
+    (few, omega (arith, few))
 
 loop-again : tie.Need-loop-again Inv-loop μ-loop
-unfolding padded
 loop-again c =
-    let k = c .before in
-    let d = k .before in
-    let t = a d .pre .0 in
-    let w = a d .args .wind in
-    let n = j d .faces .count in
-    let from : 1 ≤ i d + 1 = omega arith in
-    let to : i d + 1 ≤ j d .internals .count = omega (arith, counted d) in (
-      to,
+    let k = c .before .before .before in
+    let e = d k in
+    let t = a e .pre .0 in
+    let w = a e .args .wind in
+    let n = j e .faces .count in (
+      to k,
       λ axis s b h.
           subst (Keeps n (shownIn (c .walk .result) axis s))
-          (ap (better s (better s b (first axis s (j d) w (i d))))
-          (walked-here (j d) t axis s w (i d + 1) (a d .pre .1) (a d .pre .2) from to (k .forces-of .result)
-          (k .forces-of .ensures))
-          ∙ over-after s (cellWalked s (loads axis (given (carried (j d)))) w) b (i d))
-          (c .walk .ensures axis s [] (better s b (first axis s (j d) w (i d))) refl (omega arith)
-          (d .before .loop .inv .1 axis s b h)),
+          (ap (better s (better s b (first axis s (j e) w (i e))))
+          (walked-here (j e) t axis s w (i e + 1) (a e .pre .2) (a e .pre .3) (from k) (to k) (list k)
+          (k .put-cell .ensures .1))
+          ∙ over-after s (cellWalked s (loads axis (given (carried (j e)))) w) b (i e))
+          (c .walk .ensures axis s (better s b (first axis s (j e) w (i e))) (e .before .loop .inv .1 axis s b h)),
     )
 
 returns : tie.Need-returns Inv-loop μ-loop
@@ -108,5 +122,6 @@ returns c =
 pub every-internal-spec : {M : Type 1} → statement M
 every-internal-spec =
     tie.close
-    (tie.spec Inv-loop μ-loop (λ c. search needs) loop-holds (λ c. omega (arith, below c)) (λ c κs. search needs)
-    walk-requires (λ c. let t = counted (c .before .before) in omega arith) loop-again returns)
+    (tie.spec Inv-loop μ-loop (λ c. search needs) loop-holds (λ c. omega (arith, below c)) (λ c. refl)
+    put-cell-requires (λ c. sym (c .before .before .put-cell .ensures .0)) (λ c κs. under (c .before .before))
+    (λ c. let t = counted (d (c .before .before .before)) in omega arith) loop-again returns)

@@ -52,7 +52,7 @@ module _ (d : tie.In-loop Inv-loop μ-loop) where
   counted = d .loop-test .taken
 
   below : w < 8
-  below = let t = counted in omega (arith, ready j (a .pre) .winds)
+  below = let t = counted in omega (arith, ready j (a .pre .0) .winds)
 
 loop-again : tie.Need-loop-again Inv-loop μ-loop
 loop-again c =
@@ -75,12 +75,12 @@ returns c =
     let all : l .w ≡ j .winds .count = omega (arith, l .inv .0) in
     six-are (carried j) (l .six)
     (λ axis s.
-    extreme-is j (a .pre) axis s (shownIn (l .six) axis s)
+    extreme-is j (a .pre .0) axis s (shownIn (l .six) axis s)
     (l .inv .1 axis s .is ∙ ap (λ n. shown (j .faces .count) (first axis s j n)) all))
 
 pub every-wind-spec : {M : Type 1} → statement M
 every-wind-spec =
     tie.close
     (tie.spec Inv-loop μ-loop (λ c κs. search needs) loop-holds (λ c. omega (arith, below c))
-    (λ c κs. let t = counted c in (a c .pre, omega arith, omega arith))
+    (λ c κs. let t = counted c in (a c .pre .0, a c .pre .1, omega arith, omega arith))
     (λ c. let t = counted (c .before) in omega arith) loop-again returns)
