@@ -76,14 +76,15 @@ pub(crate) fn choice_of(list: &[i64], faces: usize, all: u32, number: u32) -> [u
     let mut choice = [0u8; 24];
     let mut left = all;
     let mut n = number;
-    let mut i = 0;
-    while i < faces {
-        let count = whole::magnitude(list[PER_ROW * i]);
+    let mut after = faces;
+    while after > 0 {
+        let face = faces - after;
+        let count = whole::magnitude(list[PER_ROW * face]);
         let s = one_step(count, left, n);
-        choice[i] = s.alternative;
+        choice[face] = s.alternative;
         left = s.left;
         n = s.number;
-        i += 1;
+        after -= 1;
     }
     choice
 }

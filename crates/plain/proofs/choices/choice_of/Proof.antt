@@ -1,6 +1,6 @@
 -- `choices::choice_of` meets its contract: after i faces their alternatives stand in the choice, and what is left is the
 -- choice of a number among those of the faces after them.
-use mathlib.Core.Path.{_≡_, refl, sym, ap, _∙_}
+use mathlib.Core.Path.{_≡_, refl, sym, ap, _∙_, subst}
 use Prim.Native.Nat.{ℕ, _+_, _-_, _*_, _≤_, _<_}
 use native.Mathlib.Omega.{arith}
 use borrow.Author.Needs.{needs}
@@ -20,19 +20,26 @@ use Rattle.plain.proofs.Listed.{rows-length, rows-from}
 use Rattle.plain.proofs.choices.choice_of.Statement.{statement}
 use Rattle.plain.proofs.choices.choice_of.Tie as tie
 
-abbrev Inv-loop : tie.InvT-loop
-Inv-loop list faces all number choice₀ left₀ n₀ i₀ choice left n i =
+-- how it stands before face i
+abbrev Standing : List ℤ → ℕ → ℕ → List ℕ → ℕ → ℕ → ℕ → Type 0
+Standing list faces number choice left n i =
     let rows = rowsAt faces list in
     let chosen = choiceOf rows number in
-    (i ≤ faces) × (left ≡ ways (drop i rows)) × (choice ≡ padded 24 (take i chosen))
-    × (choiceOf (drop i rows) n ≡ drop i chosen)
+    (left ≡ ways (drop i rows)) × (choice ≡ padded 24 (take i chosen)) × (choiceOf (drop i rows) n ≡ drop i chosen)
+
+abbrev Inv-loop : tie.InvT-loop
+Inv-loop list faces all number choice₀ left₀ n₀ after₀ choice left n after =
+    (after ≤ faces) × Standing list faces number choice left n (faces - after)
 
 abbrev μ-loop : tie.MeasureT-loop
-μ-loop list faces all number choice₀ left₀ n₀ i₀ choice left n i = faces - i
+μ-loop list faces all number choice₀ left₀ n₀ after₀ choice left n after = after
 
 loop-holds : tie.Need-loop-holds Inv-loop μ-loop
 unfolding padded
-loop-holds c = (search needs, c .pre .2, refl, refl)
+loop-holds c =
+    let a = c .args in
+    let e : 0 ≡ a .faces - a .faces = omega arith in
+    (omega arith, subst (Standing (a .list .now) (a .faces) (a .number) _ _ _) e (c .pre .2, refl, refl))
 
 -- face i
 module _ (d : tie.In-loop Inv-loop μ-loop) where
@@ -49,10 +56,10 @@ module _ (d : tie.In-loop Inv-loop μ-loop) where
   chosen = choiceOf rows (a .args .number)
 
   abbrev i : ℕ
-  i = d .before .loop .i
+  i = a .args .faces - d .before .loop .after
 
   under : i < a .args .faces
-  under = d .loop-test .taken
+  under = omega (arith, d .loop-test .taken, d .before .loop .inv .0)
 
   room : perRow * i < length list
   room = omega (arith, a .pre .1, under)
@@ -76,26 +83,27 @@ module _ (c : tie.After-one-step Inv-loop μ-loop) where
 loop-again : tie.Need-loop-again Inv-loop μ-loop
 loop-again c =
     let e = d c in
-    let inv = e .before .loop .inv in
+    let was = e .before .loop .inv .1 in
     let row = rowAt (list e) (i e) in
     let rest = drop (i e + 1) (rows e) in
-    let s = stepped c in
+    let number = a e .args .number in
+    let n = e .before .loop .n in
+    let left = e .before .loop .left in
     let u = under e in
-    let long = choice-length (rows e) (a e .args .number) ∙ rows-length (a e .args .faces) (list e) in
-    let number = a e .args .number in (
-      omega (arith, u),
-      ap (λ (x : Step). x .left) s
-          ∙ turn-left (rows e) row rest number (e .before .loop .n) (e .before .loop .left) (i e) (here e) (inv .1)
-          (inv .3),
-      (λ m. set (inv .2 m) (i e) (s m .alternative))
-          ∙ padded-set 24 (take (i e) (chosen e)) (i e) _ (length-take-le (i e) (chosen e) (omega (arith, long, u)))
-          (omega (arith, u, a e .pre .0))
-          ∙ ap (padded 24)
-          (turn-chosen (rows e) row rest number (e .before .loop .n) (e .before .loop .left) (i e) (here e) (inv .1)
-          (inv .3)),
-      ap (λ (x : Step). choiceOf rest (x .number)) s
-          ∙ turn-on (rows e) row rest number (e .before .loop .n) (e .before .loop .left) (i e) (here e) (inv .1)
-          (inv .3),
+    let long = choice-length (rows e) number ∙ rows-length (a e .args .faces) (list e) in
+    let next : i e + 1 ≡ a e .args .faces - (e .before .loop .after - 1) =
+    omega (arith, e .loop-test .taken, e .before .loop .inv .0) in (
+      omega (arith, e .before .loop .inv .0),
+      subst (Standing (list e) (a e .args .faces) number _ _ _) next (
+        ap (λ (x : Step). x .left) (stepped c)
+            ∙ turn-left (rows e) row rest number n left (i e) (here e) (was .0) (was .2),
+        (λ m. set (was .1 m) (i e) (stepped c m .alternative))
+            ∙ padded-set 24 (take (i e) (chosen e)) (i e) _
+            (length-take-le (i e) (chosen e) (omega (arith, long, u))) (omega (arith, u, a e .pre .0))
+            ∙ ap (padded 24) (turn-chosen (rows e) row rest number n left (i e) (here e) (was .0) (was .2)),
+        ap (λ (x : Step). choiceOf rest (x .number)) (stepped c)
+            ∙ turn-on (rows e) row rest number n left (i e) (here e) (was .0) (was .2),
+      ),
     )
 
 returns : tie.Need-returns Inv-loop μ-loop
@@ -104,11 +112,14 @@ returns c =
     let a = c .before .before .args in
     let rows = rowsAt (a .faces) (a .list .now) in
     let long = choice-length rows (a .number) ∙ rows-length (a .faces) (a .list .now) in
-    l .inv .2 ∙ ap (padded 24) (take-all (l .i) (choiceOf rows (a .number)) (omega (arith, long, c .loop-test .left)))
+    l .inv .1 .1
+    ∙ ap (padded 24)
+    (take-all (a .faces - l .after) (choiceOf rows (a .number)) (omega (arith, long, c .loop-test .left)))
 
 pub choice-of-spec : {M : Type 1} → statement M
 choice-of-spec =
     tie.close
-    (tie.spec Inv-loop μ-loop loop-holds (λ c. omega (arith, under c, a c .pre .0))
-    (λ c. omega (arith, under c, a c .pre .0)) room (λ c κs. search needs) (λ c κs. search needs)
-    (λ c. omega (arith, under (d c), a (d c) .pre .0)) (λ c. search needs) (λ c. search needs) loop-again returns)
+    (tie.spec Inv-loop μ-loop loop-holds (λ c. omega (arith, c .before .loop .inv .0, c .loop-test .taken))
+    (λ c. omega (arith, under c, a c .pre .0)) (λ c. omega (arith, under c, a c .pre .0)) room (λ c κs. search needs)
+    (λ c κs. search needs) (λ c. omega (arith, under (d c), a (d c) .pre .0))
+    (λ c. omega (arith, d c .loop-test .taken)) (λ c. omega (arith, d c .loop-test .taken)) loop-again returns)
