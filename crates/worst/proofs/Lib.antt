@@ -37,6 +37,7 @@ pub mod JobSums  -- the sums of a job
 pub mod FourCells  -- the cells of one wind
 pub mod ProperSums  -- stored sums that a job can have
 pub mod Parts  -- stored sums, by the parts of the faces
+pub mod SumsWithin  -- and how large they are
 pub mod Promises  -- the third demand, for accepted jobs
 pub mod Dropped  -- a wind that no extreme names
 pub mod ReadSheet  -- a sheet that was read
