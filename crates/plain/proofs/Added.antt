@@ -1,11 +1,11 @@
 -- The totals of a choice, face by face: one face more, and how large they can become.
-use mathlib.Core.Path.{_≡_, refl, sym, ap, ap₂, _∙_, subst}
+use mathlib.Core.Path.{_≡_, refl, sym, ap, _∙_, subst}
 use mathlib.Core.Bool.{Bool, true, false, cond}
 use mathlib.Core.List.{List, [], _∷_, _++_, map}
 use Prim.Native.Nat.{ℕ, zero, suc, _+_, _*_, _≤_, _<_}
 use native.Mathlib.Omega.{arith}
 use lib.Dec.{eqb}
-use lib.IntN.{ℤ, pos, natAbs, _+ℤ_, +ℤ-assoc, +ℤ-idl, +ℤ-idr}
+use lib.IntN.{ℤ, natAbs, _+ℤ_, +ℤ-assoc, +ℤ-idl, +ℤ-idr}
 use lib.ListN.{length, getD}
 use Rattle.whole.specs.Lists.{firstOf, numbers, Every}
 use Rattle.whole.specs.Newton.{newton}
@@ -14,7 +14,7 @@ use Rattle.whole.proofs.FirstOf.{firstOf-next}
 use Rattle.whole.proofs.Numbers.{numbers-next}
 use Rattle.whole.proofs.Pieces.{map-append}
 use Rattle.whole.proofs.Size.{natAbs-add}
-use Rattle.pair.specs.Total.{pairOf, pairSum, mostAdded, mostInUnits}
+use Rattle.pair.specs.Total.{pairOf, pairSum, mostInUnits}
 use Rattle.pair.proofs.Sums.{sum-pairOf}
 use Rattle.worst.specs.declared.Axis.{Axis}
 use Rattle.worst.specs.declared.Axis.the-variants.{X, Y, Z}
@@ -22,7 +22,7 @@ use Rattle.worst.specs.declared.AxisForces.{AxisForces}
 use Rattle.worst.specs.declared.FaceForces.{FaceForces}
 use Rattle.worst.specs.Cases.{total}
 use Rattle.worst.specs.Rows.{takenAt, alongAxis, forceIn}
-use Rattle.plain.specs.AsNumbers.{perRow, forceAt, rowAt, rowsAt}
+use Rattle.plain.specs.AsNumbers.{mostWalked, perRow, forceAt, rowAt, rowsAt}
 use Rattle.plain.specs.Walked.{plus, totalsOf, mostForce, ForceSmall, RowSmall, RowsSmall}
 use Rattle.plain.proofs.Listed.{rows-length}
 
@@ -79,7 +79,7 @@ totals-small axis n l ks h =
     )
 
 -- and its units fit 64 bits
-pub totals-fit : (axis : Axis) (n : ℕ) (l : List ℤ) (ks : List ℕ) → n ≤ 24 → RowsSmall n l
+pub totals-fit : (axis : Axis) (n : ℕ) (l : List ℤ) (ks : List ℕ) → n ≤ mostWalked → RowsSmall n l
     → natAbs (total (forceIn axis) (rowsAt n l) ks) ≤ mostInUnits * newton
 totals-fit axis n l ks few h = omega (arith, totals-small axis n l ks h)
 
@@ -104,7 +104,7 @@ rows-next i l =
     ∙ ap (map (rowAt l)) (numbers-next i 0)
 
 -- the next face's force at its alternative
-module _ (l : List ℤ) (choice : List ℕ) (i : ℕ) (few : i < 24) (small : RowsSmall (i + 1) l) where
+module _ (l : List ℤ) (choice : List ℕ) (i : ℕ) (few : i < mostWalked) (small : RowsSmall (i + 1) l) where
   abbrev before : List FaceForces
   before = rowsAt i l
 

@@ -1,31 +1,30 @@
--- Every choice by its number: how many there are, that their numbers in order give them in order, and a face at a time.
+-- Every choice by its number: how many there are, that numbers in order give them in order, and a face at a time.
 use mathlib.Core.Path.{_≡_, refl, sym, ap, _∙_}
 use mathlib.Core.Bool.{Bool, true, false, cond}
 use mathlib.Core.List.{List, [], _∷_, _++_, map, map-map, append-nil}
-use Prim.Native.Nat.{ℕ, suc, _+_, _-_, _*_, _/_, _^_, _≤_, _<_}
+use Prim.Native.Nat.{ℕ, suc, _+_, _-_, _*_, _/_, _^_, _≤_}
 use native.Mathlib.Nat.{pow-suc, le-trans, le-of-eq}
 use native.Mathlib.Omega.{arith}
 use borrow.Author.Tests.{le-leb, lt-leb}
-use lib.Dec.{eqb, leb}
+use lib.Dec.{leb}
 use lib.IntN.{ℤ}
 use lib.ListN.{length, take, drop}
 use lib.Seq.{drop-drop, take-add}
 use lib.Pow.{pow-mono}
 use Rattle.whole.specs.Lists.{firstOf, numbers, howMany}
-use Rattle.whole.proofs.Numbers.{numbers-split}
+use Rattle.whole.proofs.Numbers.{numbers-split, map-moved}
 use Rattle.whole.proofs.Pieces.{map-append}
 use Rattle.whole.proofs.Tests.{by-test}
 use Rattle.worst.specs.declared.Side.{Side}
 use Rattle.worst.specs.declared.FaceForces.{FaceForces}
-use Rattle.worst.specs.Best.{Best}
-use Rattle.worst.specs.Cases.{Case, each, choices}
+use Rattle.worst.specs.Cases.{each, choices}
 use Rattle.worst.specs.Quick.{over}
 use Rattle.worst.specs.Shown.{padded}
 use Rattle.worst.proofs.Better.{over-map}
-use Rattle.plain.specs.declared.choices.Step.{Step}
-use Rattle.plain.specs.ByNumber.{hasTwo, ways, choiceOf, stepOf}
+use Rattle.plain.specs.AsNumbers.{mostWalked}
+use Rattle.plain.specs.declared.choices.Turn.{Turn}
+use Rattle.plain.specs.ByNumber.{hasTwo, ways, choiceOf, turnOf}
 use Rattle.plain.specs.Walked.{alternativesIn, valued, walked}
-use Rattle.plain.proofs.Stored.{map-moved}
 
 -- ---- how many
 
@@ -123,17 +122,17 @@ module _ (f : FaceForces) (fs : List FaceForces) (n left : ℕ) (e : left ≡ wa
   unfolding ways
   whole t = e ∙ rw t
 
-  pub step-left : stepOf (f .count) left n .left ≡ ways fs
-  unfolding stepOf
-  step-left =
+  pub turned-left : turnOf (f .count) left n .left ≡ ways fs
+  unfolding turnOf
+  turned-left =
       by-test (hasTwo f)
       (λ t. by-test (leb n (left / 2)) (λ u. rw (t, u) (half t)) (λ u. rw (t, u) (half t)))
       (λ t. rw t (whole t))
 
-  pub step-choice : choiceOf (f ∷ fs) n
-      ≡ stepOf (f .count) left n .alternative ∷ choiceOf fs (stepOf (f .count) left n .number)
-  unfolding choiceOf stepOf
-  step-choice =
+  pub turned-choice : choiceOf (f ∷ fs) n
+      ≡ turnOf (f .count) left n .alternative ∷ choiceOf fs (turnOf (f .count) left n .number)
+  unfolding choiceOf turnOf
+  turned-choice =
       by-test (hasTwo f)
       (λ t.
       rw (sym (half t))
@@ -154,19 +153,19 @@ ways-turn f fs n = go (hasTwo f)
 module _ (rows : List FaceForces) (f : FaceForces) (rest : List FaceForces) (number n left i : ℕ)
     (here : drop i rows ≡ f ∷ rest) (all : left ≡ ways (drop i rows))
     (on : choiceOf (drop i rows) n ≡ drop i (choiceOf rows number)) where
-  abbrev step : Step
-  step = stepOf (f .count) left n
+  abbrev turn : Turn
+  turn = turnOf (f .count) left n
 
-  pub turn-left : step .left ≡ ways rest
-  turn-left = step-left f rest n left (all ∙ ap ways here)
+  pub turn-left : turn .left ≡ ways rest
+  turn-left = turned-left f rest n left (all ∙ ap ways here)
 
-  going : drop i (choiceOf rows number) ≡ step .alternative ∷ choiceOf rest (step .number)
-  going = sym on ∙ ap (λ fs. choiceOf fs n) here ∙ step-choice f rest n left (all ∙ ap ways here)
+  going : drop i (choiceOf rows number) ≡ turn .alternative ∷ choiceOf rest (turn .number)
+  going = sym on ∙ ap (λ fs. choiceOf fs n) here ∙ turned-choice f rest n left (all ∙ ap ways here)
 
-  pub turn-on : choiceOf rest (step .number) ≡ drop (i + 1) (choiceOf rows number)
+  pub turn-on : choiceOf rest (turn .number) ≡ drop (i + 1) (choiceOf rows number)
   turn-on = sym (sym (drop-drop 1 i (choiceOf rows number)) ∙ ap (drop 1) going)
 
-  pub turn-chosen : take i (choiceOf rows number) ++ (step .alternative ∷ []) ≡ take (i + 1) (choiceOf rows number)
+  pub turn-chosen : take i (choiceOf rows number) ++ (turn .alternative ∷ []) ≡ take (i + 1) (choiceOf rows number)
   turn-chosen =
       sym (take-add i 1 (choiceOf rows number) ∙ ap (λ l. take i (choiceOf rows number) ++ take 1 l) going)
 
@@ -188,6 +187,6 @@ unfolding firstOf
 own [] rest = refl
 own (k ∷ ks) rest = ap (λ l. k ∷ l) (own ks rest)
 
-pub own-choice : (n : ℕ) (choice ks : List ℕ) → choice ≡ padded 24 ks → length ks ≡ n → firstOf 0 n choice ≡ ks
+pub own-choice : (n : ℕ) (choice ks : List ℕ) → choice ≡ padded mostWalked ks → length ks ≡ n → firstOf 0 n choice ≡ ks
 unfolding padded
 own-choice n choice ks e long = (λ j. firstOf 0 (sym long j) (e j)) ∙ own ks _

@@ -14,6 +14,7 @@ use Rattle.worst.specs.Cases.{Case}
 use Rattle.worst.specs.Shown.{padded, shown}
 use Rattle.pair.specs.Total.{pairOf}
 use Rattle.pair.proofs.Order.{lesser-pairOf}
+use Rattle.plain.specs.AsNumbers.{mostWalked}
 use Rattle.plain.specs.Walked.{caseWith, shortOf, Keeps}
 
 -- the later case as the code makes it
@@ -21,7 +22,7 @@ abbrev pub later : ℤ → ℕ → ℕ → ℕ → List ℕ → Extreme
 later v w i n chosen = record { total = v; wind = w; internal = i; faces = n; alternative = chosen }
 
 module _ (s : Side) (n : ℕ) (e : Extreme) (v : ℤ) (w i : ℕ) (ks choice : List ℕ) (some : 0 < w)
-    (chosen : choice ≡ padded 24 ks) where
+    (chosen : choice ≡ padded mostWalked ks) where
   abbrev next : Best (Case ℕ ℕ ℕ)
   next = at v (caseWith w i ks)
 

@@ -1,5 +1,4 @@
 -- The laws, from the numbers of a face to the walk over every case of a job.
-pub mod Stored  -- numbers that are put into a list
 pub mod Listed  -- the forces of a cell, as numbers in a list
 pub mod Added  -- a case, face by face
 pub mod Keeping  -- what is kept of an earlier case and a later one

@@ -1,5 +1,5 @@
 -- The forces of a cell in a list: a face's row once it is put there, and the rows of all faces.
-use mathlib.Core.Path.{_≡_, refl, sym, ap, _∙_}
+use mathlib.Core.Path.{_≡_, sym, ap, _∙_}
 use mathlib.Core.List.{List, _∷_, map}
 use Prim.Native.Nat.{ℕ, _+_, _*_, _≤_, _<_}
 use native.Mathlib.Numerals.{add-one}
@@ -10,10 +10,10 @@ use lib.Seq.{sets, drop-cons}
 use Rattle.whole.specs.Lists.{firstOf, numbers}
 use Rattle.whole.proofs.Lists.{firstOf-length, firstOf-getD, getD-map}
 use Rattle.whole.proofs.Numbers.{by-places, length-numbers, numbers-at}
+use Rattle.whole.proofs.Runs.{before-run, in-run}
 use Rattle.worst.specs.declared.FaceForces.{FaceForces}
 use Rattle.worst.specs.PerFace.{noFaceForces}
 use Rattle.plain.specs.AsNumbers.{perRow, rowNumbers, rowAt, rowsAt}
-use Rattle.plain.proofs.Stored.{before-run, in-run}
 
 -- ---- one row more
 

@@ -1,6 +1,5 @@
 -- The forces of a job's faces that are put into a list are small enough to be added up, and leave few choices.
-use mathlib.Core.Path.{_≡_, refl, sym, ap, _∙_, subst}
-use mathlib.Core.Bool.{true}
+use mathlib.Core.Path.{_≡_, sym, ap, _∙_, subst}
 use mathlib.Core.List.{List, map, List·Memᴰ}
 use Prim.Native.Nat.{ℕ, _-_, _≤_, _<_}
 use native.Mathlib.Omega.{arith}
@@ -12,7 +11,6 @@ use Rattle.whole.proofs.ByPlace.{getD-member}
 use Rattle.whole.proofs.Counting.{many-map, many-le}
 use Rattle.whole.proofs.Lists.{firstOf-getD}
 use Rattle.entry.specs.declared.Wind.{Wind}
-use Rattle.entry.specs.declared.Face.{Face}
 use Rattle.job.specs.declared.Job.{Job}
 use Rattle.job.specs.Carried.{carried, noWind, noFace}
 use Rattle.job.specs.Walk.{judged}
@@ -27,7 +25,7 @@ use Rattle.worst.proofs.Accepted.{given-in-range}
 use Rattle.worst.proofs.Ranges.{force-small}
 use Rattle.worst.proofs.Rows.{winds-counted, internals-counted, faces-counted, cell-is, rows-are, row-is}
 use Rattle.plain.specs.Plain.{twoSomewhere, facesWithTwo, mostWithTwo}
-use Rattle.plain.specs.AsNumbers.{rowAt, rowsAt}
+use Rattle.plain.specs.AsNumbers.{rowsAt}
 use Rattle.plain.specs.ByNumber.{hasTwo, mostWays, ways}
 use Rattle.plain.specs.Walked.{RowSmall, RowsSmall, FewTwos}
 use Rattle.plain.proofs.AnyOf.{any-member}

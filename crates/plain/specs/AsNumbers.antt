@@ -7,6 +7,10 @@ use Rattle.whole.specs.Lists.{numbers}
 use Rattle.worst.specs.declared.AxisForces.{AxisForces}
 use Rattle.worst.specs.declared.FaceForces.{FaceForces}
 
+-- so many faces at most, and so many numbers for each
+abbrev pub mostWalked : ℕ
+mostWalked = 24
+
 abbrev pub perRow : ℕ
 perRow = 7
 

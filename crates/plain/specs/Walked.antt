@@ -27,7 +27,7 @@ use Rattle.worst.specs.Shown.{padded, shown}
 use Rattle.worst.specs.Rows.{forceIn}
 use Rattle.plain.specs.declared.add.Totals.{Totals}
 use Rattle.plain.specs.Plain.{facesWithTwo, mostWithTwo}
-use Rattle.plain.specs.AsNumbers.{perRow, rowAt, rowsAt}
+use Rattle.plain.specs.AsNumbers.{mostWalked, perRow, rowAt, rowsAt}
 use Rattle.plain.specs.ByNumber.{mostWays, ways}
 
 -- ---- the forces of a cell: each face with its alternatives
@@ -102,12 +102,12 @@ shortOf Least earlier later = lesser later earlier
 -- what is kept of an earlier extreme and a later total, which is that of v
 abbrev pub KeepsWith : Side → Extreme → Extreme → Pair → List ℕ → ℕ → ℕ → Type 0
 KeepsWith s earlier r later choice w i = (v : ℤ) (n : ℕ) (ks : List ℕ) (b : Best (Case ℕ ℕ ℕ)) → later ≡ pairOf v
-    → natAbs v ≤ mostInUnits * newton → choice ≡ padded 24 ks → Keeps n earlier b
+    → natAbs v ≤ mostInUnits * newton → choice ≡ padded mostWalked ks → Keeps n earlier b
     → Keeps n r (better s b (at v (caseWith w i ks)))
 
 -- a cell that can be walked: so many faces in the list
 pub record Underway (n wind : ℕ) (list : List ℤ) : Type 0 where
-  pub few : n ≤ 24
+  pub few : n ≤ mostWalked
   pub room : perRow * n ≤ length list
   pub some : 0 < wind
   pub small : RowsSmall n list

@@ -5,8 +5,9 @@ ghost use Prim.Native.Nat.{_+_, _*_, _≤_, _<_};
 ghost use lib.Dec.{eqb};
 ghost use lib.ListN.{length};
 ghost use Rattle.whole.specs.Lists.{firstOf};
-ghost use Rattle.plain.specs.AsNumbers.{perRow, rowsAt};
+ghost use Rattle.plain.specs.AsNumbers.{mostWalked, perRow, rowsAt};
 ghost use Rattle.plain.specs.Walked.{plus, totalsOf, RowsSmall};
+use crate::numbers::MOST_WALKED;
 use crate::numbers::PER_ROW;
 use pair::Pair;
 
@@ -30,7 +31,7 @@ fn with_force(all: Totals, x: i64, y: i64, z: i64) -> Totals
 
 // Where the force of face i at its alternative k stands.
 fn place(i: usize, k: u8) -> usize
-    requires { ⌜ i < 24 ⌝ }
+    requires { ⌜ i < mostWalked ⌝ }
     ensures { λ r. ⌜ r ≡ perRow * i + cond (eqb k 1) 1 4 ⌝ }
 {
     let at = PER_ROW * i;
@@ -41,8 +42,8 @@ fn place(i: usize, k: u8) -> usize
 }
 
 // The totals of a choice.
-pub(crate) fn total(list: &[i64], faces: usize, choice: [u8; 24]) -> Totals
-    requires { ⌜ (faces ≤ 24) × (perRow * faces ≤ length (now list)) × RowsSmall faces (now list) ⌝ }
+pub(crate) fn total(list: &[i64], faces: usize, choice: [u8; MOST_WALKED]) -> Totals
+    requires { ⌜ (faces ≤ mostWalked) × (perRow * faces ≤ length (now list)) × RowsSmall faces (now list) ⌝ }
     ensures { λ r. ⌜ r ≡ totalsOf (rowsAt faces (now (list .entry))) (firstOf 0 faces choice) ⌝ }
 {
     let none = pair::of_units(0);

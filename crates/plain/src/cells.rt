@@ -10,6 +10,7 @@ ghost use Rattle.worst.specs.Worst.{sixExtremes, shownIn};
 ghost use Rattle.worst.specs.Rows.{Taken};
 ghost use Rattle.plain.specs.Walked.{Keeps, FewTwos, windWalked};
 use crate::keep::nothing_yet;
+use crate::numbers::NUMBERS;
 use crate::numbers::put_cell;
 use crate::walk::walk;
 use job::Job;
@@ -28,7 +29,7 @@ fn every_internal(six: Six, job: Job, wind: u32) -> Six
     let mut i = 0;
     while i < count {
         i += 1;
-        let mut list = [0i64; 168];
+        let mut list = [0i64; NUMBERS];
         put_cell(job, wind, i, &mut list);
         all = walk(all, &list, faces, wind, i);
     }

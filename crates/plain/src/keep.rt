@@ -10,9 +10,10 @@ ghost use Rattle.worst.specs.Cases.{Case, total};
 ghost use Rattle.worst.specs.Shown.{padded, shown};
 ghost use Rattle.worst.specs.Rows.{forceIn};
 ghost use Rattle.worst.specs.Worst.{onSide, shownIn};
-ghost use Rattle.plain.specs.AsNumbers.{rowsAt};
+ghost use Rattle.plain.specs.AsNumbers.{mostWalked, rowsAt};
 ghost use Rattle.plain.specs.Walked.{caseWith, shortOf, Keeps, KeepsWith, Underway};
 use crate::add;
+use crate::numbers::MOST_WALKED;
 use pair::Pair;
 use worst::Extreme;
 use worst::Extremes;
@@ -23,7 +24,7 @@ use worst::Six;
 pub(crate) fn nothing_yet(faces: u32) -> Six
     ensures { λ r. ⌜ ((axis : Axis) (s : Side) → shownIn r axis s ≡ shown faces none) ⌝ }
 {
-    let alternative = [0u8; 24];
+    let alternative = [0u8; MOST_WALKED];
     let none = Extreme {
         total: 0,
         wind: 0,
@@ -53,7 +54,14 @@ fn further(side: Side, earlier: Pair, later: Pair) -> bool
 }
 
 // On one side of one axis.
-fn kept(side: Side, e: Extreme, total: Pair, choice: [u8; 24], wind: u32, internal: u32) -> Extreme
+fn kept(
+    side: Side,
+    e: Extreme,
+    total: Pair,
+    choice: [u8; MOST_WALKED],
+    wind: u32,
+    internal: u32,
+) -> Extreme
     requires { ⌜ 0 < wind ⌝ }
     ensures { λ r. ⌜ KeepsWith side e r total choice wind internal ⌝ }
 {
@@ -74,7 +82,13 @@ fn kept(side: Side, e: Extreme, total: Pair, choice: [u8; 24], wind: u32, intern
 }
 
 // On both sides of it.
-fn both_kept(e: Extremes, total: Pair, choice: [u8; 24], wind: u32, internal: u32) -> Extremes
+fn both_kept(
+    e: Extremes,
+    total: Pair,
+    choice: [u8; MOST_WALKED],
+    wind: u32,
+    internal: u32,
+) -> Extremes
     requires { ⌜ 0 < wind ⌝ }
     ensures { λ r. ⌜ ((s : Side) → KeepsWith s (onSide s e) (onSide s r) total choice wind internal) ⌝ }
 {
@@ -88,13 +102,13 @@ pub(crate) fn with_case(
     six: Six,
     list: &[i64],
     faces: usize,
-    choice: [u8; 24],
+    choice: [u8; MOST_WALKED],
     wind: u32,
     internal: u32,
 ) -> Six
     requires { ⌜ Underway faces wind (now list) ⌝ }
-    ensures { λ r. ⌜ ((axis : Axis) (s : Side) (n : ℕ) (ks : List ℕ) (b : Best (Case ℕ ℕ ℕ)) → choice ≡ padded 24 ks
-        → Keeps n (shownIn six axis s) b
+    ensures { λ r. ⌜ ((axis : Axis) (s : Side) (n : ℕ) (ks : List ℕ) (b : Best (Case ℕ ℕ ℕ))
+        → choice ≡ padded mostWalked ks → Keeps n (shownIn six axis s) b
         → Keeps n (shownIn r axis s)
         (better s b (at (total (forceIn axis) (rowsAt faces (now (list .entry))) (firstOf 0 faces choice))
         (caseWith wind internal ks)))) ⌝ }

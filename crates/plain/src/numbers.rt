@@ -1,5 +1,5 @@
-// The forces of a cell as numbers in a lent list, seven for each face: how many alternatives it has, then its forces on
-// x, y and z at the first and at the last.
+// The forces of a cell as numbers in a lent list, seven for each face: how many alternatives it has, then its forces
+// on x, y and z at the first and at the last.
 ghost use mathlib.Core.Path.{_≡_};
 ghost use mathlib.Core.List.{[], _∷_};
 ghost use Prim.Native.Nat.{_+_, _*_, _≤_};
@@ -8,13 +8,18 @@ ghost use lib.Seq.{sets};
 ghost use Rattle.job.specs.Walk.{judged};
 ghost use Rattle.worst.specs.PerFace.{forcesIn};
 ghost use Rattle.worst.specs.Rows.{rows};
-ghost use Rattle.plain.specs.AsNumbers.{perRow, rowNumbers, rowsAt};
+ghost use Rattle.plain.specs.AsNumbers.{mostWalked, perRow, rowNumbers, rowsAt};
 use job::Job;
 use worst::AxisForces;
 use worst::FaceForces;
 
-// So many numbers for each face.
+// So many faces at most.
+pub(crate) const MOST_WALKED: usize = 24;
+
+// So many numbers for each, and for all.
 pub(crate) const PER_ROW: usize = 7;
+
+pub(crate) const NUMBERS: usize = PER_ROW * MOST_WALKED;
 
 fn put_force(list: &mut [i64], at: usize, f: AxisForces)
     requires { ⌜ at + 3 ≤ length (now list) ⌝ }
@@ -42,7 +47,7 @@ fn put_row(list: &mut [i64], i: usize, f: FaceForces)
 
 // Those of all faces, under the wind and the internal coefficient of these numbers.
 pub(crate) fn put_cell(job: Job, wind: u32, internal: u32, list: &mut [i64])
-    requires { ⌜ (job .faces .count ≤ 24) × (perRow * job .faces .count ≤ length (now list)) ⌝ }
+    requires { ⌜ (job .faces .count ≤ mostWalked) × (perRow * job .faces .count ≤ length (now list)) ⌝ }
     ensures { λ r. ⌜ (length (now (list .exit)) ≡ length (now (list .entry)))
         × (rowsAt (job .faces .count) (now (list .exit))
         ≡ rows (job .faces .count) (forcesIn wind internal (judged job))) ⌝ }

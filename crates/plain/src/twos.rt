@@ -7,9 +7,11 @@ ghost use lib.ListN.{length, getD};
 ghost use Rattle.whole.specs.Lists.{numbers, howMany};
 ghost use Rattle.job.specs.Carried.{carried};
 ghost use Rattle.worst.specs.Worst.{given};
+ghost use Rattle.plain.specs.AsNumbers.{mostWalked};
 ghost use Rattle.plain.specs.Plain.{facesWithTwo};
 ghost use Rattle.plain.specs.Walked.{twoUnder};
 ghost use Rattle.worst.specs.Rows.{Taken};
+use crate::numbers::MOST_WALKED;
 use job::Job;
 
 // A face's mark: 1 where it has so many alternatives, two of them, and as before where it has not.
@@ -23,9 +25,10 @@ fn marked(mark: u8, count: u32) -> u8
 }
 
 // Marks the faces that have two under a wind.
-fn mark_twos(job: Job, wind: u32, marks: &mut [u8; 24])
-    requires { ⌜ Taken job × (0 < wind) × (wind ≤ job .winds .count) × (length (now marks) ≡ 24) ⌝ }
-    ensures { λ r. ⌜ (length (now (marks .exit)) ≡ 24) × ((k : ℕ) → k < job .faces .count → getD (now (marks .exit)) k 0
+fn mark_twos(job: Job, wind: u32, marks: &mut [u8; MOST_WALKED])
+    requires { ⌜ Taken job × (0 < wind) × (wind ≤ job .winds .count) × (length (now marks) ≡ mostWalked) ⌝ }
+    ensures { λ r. ⌜ (length (now (marks .exit)) ≡ mostWalked)
+        × ((k : ℕ) → k < job .faces .count → getD (now (marks .exit)) k 0
         ≡ cond (twoUnder job (wind - 1) k) 1 (getD (now (marks .entry)) k 0)) ⌝ }
 {
     let count = job.faces.count as usize;
@@ -39,7 +42,7 @@ fn mark_twos(job: Job, wind: u32, marks: &mut [u8; 24])
 }
 
 fn one_more(n: u32, yes: bool) -> u32
-    requires { ⌜ n < 24 ⌝ }
+    requires { ⌜ n < mostWalked ⌝ }
     ensures { λ r. ⌜ r ≡ cond yes (suc n) n ⌝ }
 {
     if yes {
@@ -49,8 +52,8 @@ fn one_more(n: u32, yes: bool) -> u32
 }
 
 // How many of so many faces are marked.
-fn how_many(marks: &[u8; 24], faces: usize) -> u32
-    requires { ⌜ faces ≤ 24 ⌝ }
+fn how_many(marks: &[u8; MOST_WALKED], faces: usize) -> u32
+    requires { ⌜ faces ≤ mostWalked ⌝ }
     ensures { λ r. ⌜ r ≡ howMany (λ k. eqb (getD (now (marks .entry)) k 0) 1) (numbers faces 0) ⌝ }
 {
     let mut n = 0;
@@ -69,7 +72,7 @@ pub(crate) fn faces_with_two(job: Job) -> u32
 {
     let faces = job.faces.count as usize;
     let winds = job.winds.count;
-    let mut marks = [0u8; 24];
+    let mut marks = [0u8; MOST_WALKED];
     let mut w = 0;
     while w < winds {
         w += 1;

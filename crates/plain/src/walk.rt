@@ -1,5 +1,4 @@
 // Every choice of alternatives in their order, one number after another.
-ghost use mathlib.Core.Path.{_≡_};
 ghost use Prim.Native.Nat.{ℕ};
 ghost use Rattle.worst.specs.declared.Side.{Side};
 ghost use Rattle.worst.specs.declared.Axis.{Axis};

@@ -22,5 +22,6 @@ pub mod FirstOf
 pub mod ByPlace
 pub mod Moved
 pub mod Pieces
+pub mod Runs
 pub mod TakenOut
 pub mod Products

@@ -1,7 +1,7 @@
 -- Numbers in order: which they are, and what holds of each.
 use mathlib.Core.Path.{_≡_, refl, sym, ap, ap₂, _∙_, subst}
 use mathlib.Core.Logic.{⊎-elim}
-use mathlib.Core.List.{List, [], _∷_, _++_, map, List·Memᴰ, List·Memᴰ·head, List·Memᴰ·tail, List·Memᴰ·not-nil}
+use mathlib.Core.List.{List, [], _∷_, _++_, map, map-id, List·Memᴰ, List·Memᴰ·head, List·Memᴰ·tail, List·Memᴰ·not-nil}
 use mathlib.Core.List.{List·Memᴰ·cases-cons}
 use Prim.Native.Nat.{ℕ, zero, suc, _+_, _-_, _≤_, _<_}
 use native.Mathlib.Omega.{arith}
@@ -49,20 +49,25 @@ numbers-split (suc m) n k =
     ap (λ i. numbers i k) e
     ∙ ap (λ l. k ∷ l) (numbers-split m n (suc k) ∙ ap (λ i. numbers m (suc k) ++ numbers n i) f)
 
+-- functions that agree on numbers in order, each from a place of its own
+pub map-moved : {A : Type 0} (f g : ℕ → A) (n j k : ℕ) → ((i : ℕ) → i < n → f (j + i) ≡ g (k + i))
+    → map f (numbers n j) ≡ map g (numbers n k)
+unfolding numbers
+map-moved f g zero j k h = refl
+map-moved f g (suc n) j k h =
+    let a : j ≡ j + 0 = omega arith in
+    let b : k + 0 ≡ k = omega arith in
+    let next : (i : ℕ) → i < n → f (suc j + i) ≡ g (suc k + i) =
+    λ i t.
+    let c : suc j + i ≡ j + suc i = omega arith in
+    let e : k + suc i ≡ suc k + i = omega arith in
+    ap f c ∙ h (suc i) (omega arith) ∙ ap g e in
+    λ m. (ap f a ∙ h 0 (omega arith) ∙ ap g b) m ∷ map-moved f g n (suc j) (suc k) next m
+
 -- numbers that are each moved to their place among others
 pub map-numbers : (f : ℕ → ℕ) (n j k : ℕ) → ((i : ℕ) → i < n → f (j + i) ≡ k + i)
     → map f (numbers n j) ≡ numbers n k
-unfolding numbers
-map-numbers f zero j k h = refl
-map-numbers f (suc n) j k h =
-    let a : j ≡ j + 0 = omega arith in
-    let b : k + 0 ≡ k = omega arith in
-    ap₂ _∷_ (ap f a ∙ h 0 (omega arith) ∙ b)
-    (map-numbers f n (suc j) (suc k)
-    (λ i l.
-    let c : suc j + i ≡ j + suc i = omega arith in
-    let d : k + suc i ≡ suc k + i = omega arith in
-    ap f c ∙ h (suc i) (omega arith) ∙ d))
+map-numbers f n j k h = map-moved f (λ i. i) n j k h ∙ map-id (numbers n k)
 
 pub record Between (k n w : ℕ) : Type 0 where
   pub low : k ≤ w

@@ -29,8 +29,9 @@ natAbs-add x y =
 -- one more than a number below zero is no larger
 pub rise-small : (z : ℤ) {k : ℕ} → z <ℤ pos 0 → natAbs z ≤ k + 1 → natAbs (z +ℤ pos 1) ≤ k
 rise-small z {k} h g =
-    ⊎-elim (λ e. omega (arith, lt-at _ _ h, natAbs-is z, natAbs-is (z +ℤ pos 1), add-law z (pos 1)))
-    (λ e. omega (arith, lt-at _ _ h, natAbs-is z, natAbs-is (z +ℤ pos 1), add-law z (pos 1))) (one-is-zero (z +ℤ pos 1))
+    let n = z +ℤ pos 1 in
+    ⊎-elim (λ e. omega (arith, lt-at _ _ h, natAbs-is z, natAbs-is n, add-law z (pos 1)))
+    (λ e. omega (arith, lt-at _ _ h, natAbs-is z, natAbs-is n, add-law z (pos 1))) (one-is-zero n)
 
 -- a number of size k at most lies between -k and k, and the other way
 pub size-low : (z : ℤ) (k : ℕ) → natAbs z ≤ k → negℤ (pos k) ≤ℤ z

@@ -1,7 +1,7 @@
 -- `add::total` meets its contract: after i faces the totals are those of the first i.
-use mathlib.Core.Path.{_≡_, refl, sym, ap, _∙_}
+use mathlib.Core.Path.{_≡_, sym, ap, _∙_}
 use mathlib.Core.List.{List}
-use Prim.Native.Nat.{ℕ, _+_, _-_, _*_, _≤_, _<_}
+use Prim.Native.Nat.{ℕ, _+_, _-_, _≤_, _<_}
 use native.Mathlib.Omega.{arith}
 use borrow.Author.Needs.{needs}
 use lib.IntN.{ℤ, pos}
@@ -10,7 +10,7 @@ use mir.Syntax.{w64}
 use Rattle.whole.specs.Lists.{firstOf, numbers}
 use Rattle.whole.proofs.Size.{returned}
 use Rattle.worst.specs.Cases.{total}
-use Rattle.plain.specs.AsNumbers.{perRow, forceAt, rowsAt}
+use Rattle.plain.specs.AsNumbers.{mostWalked, forceAt, rowsAt}
 use Rattle.plain.specs.Walked.{plus, totalsOf, RowsSmall}
 use Rattle.plain.proofs.Added.{total-next, taken-there, place-near}
 use Rattle.plain.proofs.add.total.Statement.{statement}
@@ -43,7 +43,7 @@ module _ (d : tie.In-loop Inv-loop μ-loop) where
   under : i < a .args .faces
   under = d .loop-test .taken
 
-  room : i < 24
+  room : i < mostWalked
   room = omega (arith, under, a .pre .0)
 
   small : RowsSmall (i + 1) list

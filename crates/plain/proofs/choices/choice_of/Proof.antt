@@ -1,10 +1,10 @@
--- `choices::choice_of` meets its contract: after i faces their alternatives stand in the choice, and what is left is the
--- choice of a number among those of the faces after them.
-use mathlib.Core.Path.{_≡_, refl, sym, ap, _∙_, subst}
+-- `choices::choice_of` meets its contract: after i faces their alternatives stand in the choice, and what is left is
+-- the choice of a number among those of the faces after them.
+use mathlib.Core.Path.{_≡_, refl, ap, _∙_, subst}
 use Prim.Native.Nat.{ℕ, _+_, _-_, _*_, _≤_, _<_}
 use native.Mathlib.Omega.{arith}
 use borrow.Author.Needs.{needs}
-use mathlib.Core.List.{List, _++_, _∷_, []}
+use mathlib.Core.List.{List, _∷_}
 use lib.IntN.{ℤ, pos, natAbs}
 use lib.ListN.{length, take, drop, getD, set}
 use lib.Seq.{length-take-le, take-all}
@@ -12,9 +12,9 @@ use Rattle.whole.proofs.Size.{said}
 use Rattle.worst.specs.declared.FaceForces.{FaceForces}
 use Rattle.worst.specs.Shown.{padded}
 use Rattle.worst.proofs.Padded.{padded-set}
-use Rattle.plain.specs.declared.choices.Step.{Step}
-use Rattle.plain.specs.AsNumbers.{perRow, rowAt, rowsAt}
-use Rattle.plain.specs.ByNumber.{ways, choiceOf, stepOf}
+use Rattle.plain.specs.declared.choices.Turn.{Turn}
+use Rattle.plain.specs.AsNumbers.{mostWalked, perRow, rowAt, rowsAt}
+use Rattle.plain.specs.ByNumber.{ways, choiceOf, turnOf}
 use Rattle.plain.proofs.Choosing.{turn-left, turn-on, turn-chosen, choice-length}
 use Rattle.plain.proofs.Listed.{rows-length, rows-from}
 use Rattle.plain.proofs.choices.choice_of.Statement.{statement}
@@ -25,7 +25,8 @@ abbrev Standing : List ℤ → ℕ → ℕ → List ℕ → ℕ → ℕ → ℕ 
 Standing list faces number choice left n i =
     let rows = rowsAt faces list in
     let chosen = choiceOf rows number in
-    (left ≡ ways (drop i rows)) × (choice ≡ padded 24 (take i chosen)) × (choiceOf (drop i rows) n ≡ drop i chosen)
+    (left ≡ ways (drop i rows)) × (choice ≡ padded mostWalked (take i chosen))
+    × (choiceOf (drop i rows) n ≡ drop i chosen)
 
 abbrev Inv-loop : tie.InvT-loop
 Inv-loop list faces all number choice₀ left₀ n₀ after₀ choice left n after =
@@ -67,16 +68,16 @@ module _ (d : tie.In-loop Inv-loop μ-loop) where
   here : drop i rows ≡ rowAt list i ∷ drop (i + 1) rows
   here = rows-from (a .args .faces) list i under
 
--- its step
-module _ (c : tie.After-one-step Inv-loop μ-loop) where
+-- its turn
+module _ (c : tie.After-one-turn Inv-loop μ-loop) where
   abbrev d : tie.In-loop Inv-loop μ-loop
   d = c .before .before .before
 
-  stepped : c .one-step .result
-      ≡ stepOf (rowAt (list d) (i d) .count) (d .before .loop .left) (d .before .loop .n)
-  stepped =
-      c .one-step .ensures
-      ∙ ap (λ m. stepOf m (d .before .loop .left) (d .before .loop .n))
+  turned : c .one-turn .result
+      ≡ turnOf (rowAt (list d) (i d) .count) (d .before .loop .left) (d .before .loop .n)
+  turned =
+      c .one-turn .ensures
+      ∙ ap (λ m. turnOf m (d .before .loop .left) (d .before .loop .n))
       (said natAbs (getD (list d) (perRow * i d) (pos 0)) (c .before .magnitude .ensures)
       (c .before .before .magnitude-arg .given))
 
@@ -95,13 +96,13 @@ loop-again c =
     omega (arith, e .loop-test .taken, e .before .loop .inv .0) in (
       omega (arith, e .before .loop .inv .0),
       subst (Standing (list e) (a e .args .faces) number _ _ _) next (
-        ap (λ (x : Step). x .left) (stepped c)
+        ap (λ (x : Turn). x .left) (turned c)
             ∙ turn-left (rows e) row rest number n left (i e) (here e) (was .0) (was .2),
-        (λ m. set (was .1 m) (i e) (stepped c m .alternative))
-            ∙ padded-set 24 (take (i e) (chosen e)) (i e) _
+        (λ m. set (was .1 m) (i e) (turned c m .alternative))
+            ∙ padded-set mostWalked (take (i e) (chosen e)) (i e) _
             (length-take-le (i e) (chosen e) (omega (arith, long, u))) (omega (arith, u, a e .pre .0))
-            ∙ ap (padded 24) (turn-chosen (rows e) row rest number n left (i e) (here e) (was .0) (was .2)),
-        ap (λ (x : Step). choiceOf rest (x .number)) (stepped c)
+            ∙ ap (padded mostWalked) (turn-chosen (rows e) row rest number n left (i e) (here e) (was .0) (was .2)),
+        ap (λ (x : Turn). choiceOf rest (x .number)) (turned c)
             ∙ turn-on (rows e) row rest number n left (i e) (here e) (was .0) (was .2),
       ),
     )
@@ -113,7 +114,7 @@ returns c =
     let rows = rowsAt (a .faces) (a .list .now) in
     let long = choice-length rows (a .number) ∙ rows-length (a .faces) (a .list .now) in
     l .inv .1 .1
-    ∙ ap (padded 24)
+    ∙ ap (padded mostWalked)
     (take-all (a .faces - l .after) (choiceOf rows (a .number)) (omega (arith, long, c .loop-test .left)))
 
 pub choice-of-spec : {M : Type 1} → statement M

@@ -1,4 +1,4 @@
--- `choices::ways` meets its contract: after i faces, times the choices of those that are left, all choices are counted.
+-- `choices::ways` meets its contract: what is counted after i faces, times the choices of those that are left, is all.
 use mathlib.Core.Path.{_≡_, sym, ap, _∙_}
 use Prim.Native.Nat.{ℕ, _+_, _-_, _*_, _≤_, _<_}
 use native.Mathlib.Nat.{mul-le-mul-left}
@@ -91,6 +91,6 @@ returns c =
 pub ways-spec : {M : Type 1} → statement M
 ways-spec =
     tie.close
-    (tie.spec Inv-loop μ-loop loop-holds (λ c. omega (arith, left c, a c .pre .0)) (λ c. omega (arith, left c, a c .pre .0))
-    room (λ c κs. search needs) (λ c κs. few (c .before .before)) (λ c. search needs) (λ c. search needs) loop-again
-    returns)
+    (tie.spec Inv-loop μ-loop loop-holds (λ c. omega (arith, left c, a c .pre .0))
+    (λ c. omega (arith, left c, a c .pre .0)) room (λ c κs. search needs) (λ c κs. few (c .before .before))
+    (λ c. search needs) (λ c. search needs) loop-again returns)

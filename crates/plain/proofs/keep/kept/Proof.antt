@@ -1,6 +1,6 @@
 -- `keep::kept` meets its contract: one law for each return.
 use mathlib.Core.Path.{_≡_, sym, ap, _∙_, subst}
-use Prim.Native.Nat.{ℕ, _*_, _≤_}
+use Prim.Native.Nat.{_*_, _≤_}
 use lib.IntN.{ℤ, natAbs}
 use mir.Syntax.{w64}
 use mir.Val.{SFits, toZ, ofZ}
@@ -31,7 +31,8 @@ returns c v n ks b e fits chosen h =
     Keeps n (later z (s .wind) (s .internal) (s .e .faces) (s .choice))
     (better (s .side) b (at v (caseWith (s .wind) (s .internal) ks))))
     (sym (read u v e fits))
-    (kept-first (s .side) n (s .e) v (s .wind) (s .internal) ks (s .choice) (u .before .pre) chosen (c .if1 .taken) b h)
+    (kept-first (s .side) n (s .e) v (s .wind) (s .internal) ks (s .choice) (u .before .pre) chosen (c .if1 .taken) b
+    h)
 
 -- the test is on the two totals
 tested : (c : tie.After-further) (v : ℤ)

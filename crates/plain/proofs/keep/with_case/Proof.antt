@@ -1,6 +1,5 @@
 -- `keep::with_case` meets its contract: a call for each axis.
-use mathlib.Core.Path.{_≡_, ap}
-use borrow.Author.Needs.{needs}
+use mathlib.Core.Path.{ap}
 use Rattle.worst.specs.declared.Axis.the-variants.{X, Y, Z}
 use Rattle.worst.proofs.Kept.{every-axis}
 use Rattle.plain.specs.declared.add.Totals.{Totals}

@@ -1,6 +1,6 @@
 -- `numbers::put_cell` meets its contract: after i faces their rows stand in the list.
 use borrow.Author.Needs.{needs}
-use mathlib.Core.Path.{_≡_, refl, sym, ap, _∙_}
+use mathlib.Core.Path.{_≡_, refl, ap, _∙_}
 use mathlib.Core.List.{List}
 use Prim.Native.Nat.{ℕ, _+_, _-_, _*_, _≤_, _<_}
 use native.Mathlib.Omega.{arith}
@@ -11,7 +11,7 @@ use Rattle.whole.proofs.Numbers.{below-next}
 use Rattle.worst.specs.declared.FaceForces.{FaceForces}
 use Rattle.worst.specs.PerFace.{noFaceForces}
 use Rattle.worst.specs.Rows.{rows}
-use Rattle.plain.specs.AsNumbers.{perRow, rowNumbers, rowAt}
+use Rattle.plain.specs.AsNumbers.{mostWalked, perRow, rowNumbers, rowAt}
 use Rattle.plain.proofs.Listed.{row-stays, row-stands, rows-stand}
 use Rattle.plain.proofs.numbers.put_cell.Statement.{statement}
 use Rattle.plain.proofs.numbers.put_cell.Tie as tie
@@ -44,7 +44,7 @@ module _ (d : tie.In-loop Inv-loop μ-loop) where
   under : i < a .args .job .faces .count
   under = d .loop-test .taken
 
-  room : i < 24
+  room : i < mostWalked
   room = omega (arith, under, a .pre .0)
 
   long : perRow * i + perRow ≤ length list

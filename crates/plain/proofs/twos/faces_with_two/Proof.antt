@@ -2,11 +2,11 @@
 use mathlib.Core.Path.{_≡_, refl, sym, ap, _∙_}
 use mathlib.Core.Bool.{Bool, true, false, cond}
 use mathlib.Core.List.{map}
-use Prim.Native.Nat.{ℕ, zero, suc, _+_, _-_, _≤_, _<_}
+use Prim.Native.Nat.{ℕ, _+_, _-_, _≤_, _<_}
 use native.Mathlib.Omega.{arith}
 use borrow.Author.Needs.{needs}
 use lib.Dec.{eqb}
-use lib.ListN.{length, getD, take, replicate}
+use lib.ListN.{length, getD, take, getD-replicate}
 use lib.Seq.{take-all}
 use Rattle.whole.specs.Lists.{numbers, howMany}
 use Rattle.whole.proofs.Counting.{many-map, many-same}
@@ -17,6 +17,7 @@ use Rattle.job.specs.Carried.{carried, noWind, noFace}
 use Rattle.worst.specs.Forces.{alternatives}
 use Rattle.worst.specs.Worst.{given}
 use Rattle.worst.proofs.Rows.{ready, winds-counted, faces-counted}
+use Rattle.plain.specs.AsNumbers.{mostWalked}
 use Rattle.plain.specs.Plain.{anyOf, twoSomewhere}
 use Rattle.plain.proofs.AnyOf.{any-next}
 use Rattle.plain.proofs.twos.faces_with_two.Statement.{statement}
@@ -31,20 +32,18 @@ among j w k = anyOf (two j k) (take w (carried j .winds))
 
 abbrev Inv-loop : tie.InvT-loop
 Inv-loop job faces winds marks₀ w₀ marks w =
-    (w ≤ winds) × (length marks ≡ 24)
+    (w ≤ winds) × (length marks ≡ mostWalked)
     × ((k : ℕ) → k < job .faces .count → getD marks k 0 ≡ cond (among job w k) 1 0)
 
 abbrev μ-loop : tie.MeasureT-loop
 μ-loop job faces winds marks₀ w₀ marks w = winds - w
 
-zeros : (n k : ℕ) → _≡_ {A = ℕ} (getD (replicate n 0) k 0) 0
-zeros zero k = refl
-zeros (suc n) zero = refl
-zeros (suc n) (suc k) = zeros n k
-
 loop-holds : tie.Need-loop-holds Inv-loop μ-loop
 unfolding anyOf
-loop-holds c = (search needs, refl, λ k t. zeros 24 k)
+loop-holds c =
+    let a = c .before in
+    let few = ready (a .args .job) (a .pre) .profiled .few in
+    (search needs, refl, λ k t. getD-replicate mostWalked k 0 0 (omega arith))
 
 -- a wind that counts
 module _ (d : tie.In-loop Inv-loop μ-loop) where

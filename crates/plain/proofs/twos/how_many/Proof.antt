@@ -9,6 +9,7 @@ use lib.ListN.{getD}
 use Rattle.whole.specs.Lists.{numbers, howMany}
 use Rattle.whole.proofs.Counting.{many-number, many-few}
 use Rattle.whole.proofs.Numbers.{length-numbers}
+use Rattle.plain.specs.AsNumbers.{mostWalked}
 use Rattle.plain.proofs.twos.how_many.Statement.{statement}
 use Rattle.plain.proofs.twos.how_many.Tie as tie
 
@@ -30,10 +31,10 @@ module _ (d : tie.In-loop Inv-loop μ-loop) where
   abbrev marked : ℕ → Bool
   marked k = eqb (getD (d .before .before .args .marks .now) k 0) 1
 
-  room : i < 24
+  room : i < mostWalked
   room = omega (arith, d .loop-test .taken, d .before .before .pre)
 
-  few : d .before .loop .n < 24
+  few : d .before .loop .n < mostWalked
   few =
       omega (arith, room, d .before .loop .inv .1, many-few marked (numbers i 0), length-numbers i 0)
 

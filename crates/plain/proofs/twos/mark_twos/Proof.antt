@@ -1,30 +1,30 @@
 -- `twos::mark_twos` meets its contract: after i faces those of the first i that have two are marked, and the others as
 -- they were.
-use mathlib.Core.Path.{_≡_, refl, sym, ap, _∙_}
-use mathlib.Core.Bool.{Bool, cond}
+use mathlib.Core.Path.{_≡_, refl, ap, _∙_}
+use mathlib.Core.Bool.{cond}
 use mathlib.Core.List.{List}
-use Prim.Native.Nat.{ℕ, _+_, _-_, _≤_, _<_}
+use Prim.Native.Nat.{ℕ, _-_, _≤_, _<_}
 use native.Mathlib.Omega.{arith}
 use borrow.Author.Needs.{needs}
 use lib.Dec.{eqb}
 use lib.ListN.{length, getD, set, length-set}
 use lib.Seq.{getD-set-same, getD-set-other}
 use Rattle.whole.proofs.Numbers.{below-next}
-use Rattle.job.specs.declared.Job.{Job}
-use Rattle.job.specs.Carried.{carried, noFace}
+use Rattle.job.specs.Carried.{carried}
 use Rattle.worst.specs.declared.FaceForces.{FaceForces}
 use Rattle.worst.specs.declared.CellForces.{CellForces}
 use Rattle.worst.specs.Forces.{windAt, internalAt}
 use Rattle.worst.specs.Worst.{given}
 use Rattle.worst.specs.PerFace.{faceForces, noFaceForces}
 use Rattle.worst.proofs.Rows.{ready, cell-is, row-is}
+use Rattle.plain.specs.AsNumbers.{mostWalked}
 use Rattle.plain.specs.Walked.{twoUnder}
 use Rattle.plain.proofs.twos.mark_twos.Statement.{statement}
 use Rattle.plain.proofs.twos.mark_twos.Tie as tie
 
 abbrev Inv-loop : tie.InvT-loop
 Inv-loop wind marks₀ count cell i₀ marks i =
-    (i ≤ count) × (length marks ≡ 24)
+    (i ≤ count) × (length marks ≡ mostWalked)
     × ((k : ℕ) → k < i
     → getD marks k 0 ≡ cond (eqb (getD (cell .face) k noFaceForces .count) 2) 1 (getD marks₀ k 0))
     × ((k : ℕ) → i ≤ k → getD marks k 0 ≡ getD marks₀ k 0)
@@ -49,7 +49,7 @@ module _ (d : tie.In-loop Inv-loop μ-loop) where
   under : i < a .args .job .faces .count
   under = d .loop-test .taken
 
-  room : i < 24
+  room : i < mostWalked
   room = omega (arith, under, ready (a .args .job) (a .pre .0) .profiled .few)
 
 loop-again : tie.Need-loop-again Inv-loop μ-loop

@@ -1,11 +1,10 @@
 -- What stands in a list into which a run of values was put.
-use mathlib.Core.Path.{_≡_, refl, sym, ap, _∙_}
-use mathlib.Core.List.{List, [], _∷_, map}
+use mathlib.Core.Path.{_≡_, refl, ap, _∙_}
+use mathlib.Core.List.{List, [], _∷_}
 use Prim.Native.Nat.{ℕ, zero, suc, _+_, _≤_, _<_}
 use native.Mathlib.Omega.{arith}
 use lib.ListN.{length, getD, set, length-set}
 use lib.Seq.{sets, getD-set-same, getD-set-other}
-use Rattle.whole.specs.Lists.{numbers}
 
 module _ {A : Type 0} (d : A) where
   -- before the run, what stood there
@@ -27,18 +26,3 @@ module _ {A : Type 0} (d : A) where
       let e : j + suc m ≡ suc j + m = omega arith in
       ap (λ n. getD (sets (set l j v) (suc j) vs) n d) e
       ∙ in-run vs (set l j v) (suc j) m (omega (arith, length-set l j v)) (omega arith)
-
--- functions that agree on numbers in order, each from a place of its own
-pub map-moved : {A : Type 0} (f g : ℕ → A) (n j k : ℕ) → ((i : ℕ) → i < n → f (j + i) ≡ g (k + i))
-    → map f (numbers n j) ≡ map g (numbers n k)
-unfolding numbers
-map-moved f g zero j k h = refl
-map-moved f g (suc n) j k h =
-    let a : j ≡ j + 0 = omega arith in
-    let b : k + 0 ≡ k = omega arith in
-    let next : (i : ℕ) → i < n → f (suc j + i) ≡ g (suc k + i) =
-    λ i t.
-    let c : suc j + i ≡ j + suc i = omega arith in
-    let e : k + suc i ≡ suc k + i = omega arith in
-    ap f c ∙ h (suc i) (omega arith) ∙ ap g e in
-    λ m. (ap f a ∙ h 0 (omega arith) ∙ ap g b) m ∷ map-moved f g n (suc j) (suc k) next m
