@@ -6,6 +6,12 @@ pub use Rattle.whole.proofs.magnitude.Reads as magnitude
 pub use Rattle.whole.proofs.common_divisor.Reads as common-divisor
 pub use Rattle.whole.proofs.newtons.Reads as newtons
 pub use Rattle.whole.proofs.remainder.Reads as remainder
+pub use Rattle.pair.proofs.of_units.Reads as of-units
+pub use Rattle.pair.proofs.is_within.Reads as is-within
+pub use Rattle.pair.proofs.sum.Reads as sum
+pub use Rattle.pair.proofs.difference.Reads as difference
+pub use Rattle.pair.proofs.less.Reads as less
+pub use Rattle.pair.proofs.as_units.Reads as as-units
 pub use Rattle.verdict.proofs.or_then.Reads as or-then
 pub use Rattle.page.proofs.put_byte.Reads as put-byte
 pub use Rattle.page.proofs.put_bytes.Reads as put-bytes
@@ -82,6 +88,8 @@ pub use Rattle.report.proofs.write_plain.Reads as write-plain
 pub use Rattle.report.proofs.write_totals.Reads as write-totals
 pub use Rattle.panel.proofs.panel_of.Reads as panel-of
 pub use Rattle.panel.proofs.chart.Reads as chart
+pub use Rattle.panel.proofs.newtons.panel_of_newtons.Reads as panel-of-newtons
+pub use Rattle.panel.proofs.newtons.chart_of_pairs.Reads as chart-of-pairs
 pub use Rattle.edits.proofs.add.Reads as add-face
 pub use Rattle.edits.proofs.replace.Reads as replace-face
 pub use Rattle.edits.proofs.take_out.Reads as take-out-face

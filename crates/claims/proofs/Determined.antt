@@ -37,6 +37,26 @@ newtons-determined κ a r r′ s s′ p q = same p q
 remainder-determined : OneAnswer of.remainder.Post
 remainder-determined κ a r r′ s s′ p q = same p q
 
+-- ---- pair
+
+of-units-determined : OneAnswer of.of-units.Post
+of-units-determined κ a r r′ s s′ p q = same p q
+
+is-within-determined : OneAnswer of.is-within.Post
+is-within-determined κ a r r′ s s′ p q = same p q
+
+sum-determined : OneAnswer of.sum.Post
+sum-determined κ a r r′ s s′ p q = same p q
+
+difference-determined : OneAnswer of.difference.Post
+difference-determined κ a r r′ s s′ p q = same p q
+
+less-determined : OneAnswer of.less.Post
+less-determined κ a r r′ s s′ p q = same p q
+
+as-units-determined : OneAnswer of.as-units.Post
+as-units-determined κ a r r′ s s′ p q = same p q
+
 -- ---- verdict
 
 or-then-determined : OneAnswer of.or-then.Post
@@ -308,6 +328,12 @@ panel-of-determined κ a r r′ s s′ p q = same p q
 
 chart-determined : OneAnswer of.chart.Post
 chart-determined κ a r r′ s s′ p q = same p q
+
+panel-of-newtons-determined : OneAnswer of.panel-of-newtons.Post
+panel-of-newtons-determined κ a r r′ s s′ p q = same p q
+
+chart-of-pairs-determined : OneAnswer of.chart-of-pairs.Post
+chart-of-pairs-determined κ a r r′ s s′ p q = same p q
 
 -- ---- answers
 

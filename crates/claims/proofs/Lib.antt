@@ -5,6 +5,7 @@ pub mod Demand1
 pub mod Demand2
 pub mod Demand3
 pub mod Panel
+pub mod PanelOfPairs
 pub mod Paper01
 pub mod Paper02
 pub mod Item1

@@ -16,6 +16,26 @@ newtons-asks κ a = tt
 remainder-asks : AsksNothing of.remainder.Asked
 remainder-asks κ a = tt
 
+-- ---- pair
+
+of-units-asks : AsksNothing of.of-units.Asked
+of-units-asks κ a = tt
+
+is-within-asks : AsksNothing of.is-within.Asked
+is-within-asks κ a = tt
+
+sum-asks : AsksNothing of.sum.Asked
+sum-asks κ a = tt
+
+difference-asks : AsksNothing of.difference.Asked
+difference-asks κ a = tt
+
+less-asks : AsksNothing of.less.Asked
+less-asks κ a = tt
+
+as-units-asks : AsksNothing of.as-units.Asked
+as-units-asks κ a = tt
+
 -- ---- verdict
 
 or-then-asks : AsksNothing of.or-then.Asked
@@ -285,6 +305,12 @@ panel-of-asks κ a = tt
 
 chart-asks : AsksNothing of.chart.Asked
 chart-asks κ a = tt
+
+panel-of-newtons-asks : AsksNothing of.panel-of-newtons.Asked
+panel-of-newtons-asks κ a = tt
+
+chart-of-pairs-asks : AsksNothing of.chart-of-pairs.Asked
+chart-of-pairs-asks κ a = tt
 
 -- ---- answers
 
