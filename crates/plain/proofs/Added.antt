@@ -8,13 +8,12 @@ use lib.Dec.{eqb}
 use lib.IntN.{ℤ, natAbs, _+ℤ_, +ℤ-assoc, +ℤ-idl, +ℤ-idr}
 use lib.ListN.{length, getD}
 use Rattle.whole.specs.Lists.{firstOf, numbers, Every}
-use Rattle.whole.specs.Newton.{newton}
 use Rattle.whole.proofs.Lists.{firstOf-length}
 use Rattle.whole.proofs.FirstOf.{firstOf-next}
 use Rattle.whole.proofs.Numbers.{numbers-next}
 use Rattle.whole.proofs.Pieces.{map-append}
 use Rattle.whole.proofs.Size.{natAbs-add}
-use Rattle.pair.specs.Total.{pairOf, pairSum, mostInUnits}
+use Rattle.pair.specs.Total.{pairOf, pairSum}
 use Rattle.pair.proofs.Sums.{sum-pairOf}
 use Rattle.worst.specs.declared.Axis.{Axis}
 use Rattle.worst.specs.declared.Axis.the-variants.{X, Y, Z}
@@ -77,11 +76,6 @@ totals-small axis n l ks h =
           (λ i t. let e : i ≡ 0 + i = omega arith in subst (λ m. RowSmall (rowAt l m)) e (h i t))),
       rows-length n l,
     )
-
--- and its units fit 64 bits
-pub totals-fit : (axis : Axis) (n : ℕ) (l : List ℤ) (ks : List ℕ) → n ≤ mostWalked → RowsSmall n l
-    → natAbs (total (forceIn axis) (rowsAt n l) ks) ≤ mostInUnits * newton
-totals-fit axis n l ks few h = omega (arith, totals-small axis n l ks h)
 
 -- ---- one face more
 

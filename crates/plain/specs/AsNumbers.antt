@@ -4,12 +4,13 @@ use Prim.Native.Nat.{ℕ, _+_, _*_}
 use lib.IntN.{ℤ, pos, natAbs}
 use lib.ListN.{getD}
 use Rattle.whole.specs.Lists.{numbers}
+use Rattle.job.specs.Carried.{mostFaces}
 use Rattle.worst.specs.declared.AxisForces.{AxisForces}
 use Rattle.worst.specs.declared.FaceForces.{FaceForces}
 
--- so many faces at most, and so many numbers for each
+-- so many faces at most, those that a record has room for, and so many numbers for each
 abbrev pub mostWalked : ℕ
-mostWalked = 24
+mostWalked = mostFaces
 
 abbrev pub perRow : ℕ
 perRow = 7

@@ -6,9 +6,8 @@ use Prim.Native.Nat.{ℕ, _*_, _≤_, _<_}
 use lib.Dec.{eqb}
 use lib.IntN.{ℤ, natAbs}
 use lib.ListN.{length, getD}
-use Rattle.whole.specs.Newton.{newton}
 use Rattle.pair.specs.declared.Pair.{Pair}
-use Rattle.pair.specs.Total.{pairOf, pairSum, lesser, mostInUnits}
+use Rattle.pair.specs.Total.{pairOf, pairSum, lesser}
 use Rattle.job.specs.declared.Job.{Job}
 use Rattle.job.specs.Carried.{Carried, carried, noWind, noFace}
 use Rattle.worst.specs.declared.Side.{Side}
@@ -102,8 +101,7 @@ shortOf Least earlier later = lesser later earlier
 -- what is kept of an earlier extreme and a later total, which is that of v
 abbrev pub KeepsWith : Side → Extreme → Extreme → Pair → List ℕ → ℕ → ℕ → Type 0
 KeepsWith s earlier r later choice w i = (v : ℤ) (n : ℕ) (ks : List ℕ) (b : Best (Case ℕ ℕ ℕ)) → later ≡ pairOf v
-    → natAbs v ≤ mostInUnits * newton → choice ≡ padded mostWalked ks → Keeps n earlier b
-    → Keeps n r (better s b (at v (caseWith w i ks)))
+    → choice ≡ padded mostWalked ks → Keeps n earlier b → Keeps n r (better s b (at v (caseWith w i ks)))
 
 -- a cell that can be walked: so many faces in the list
 pub record Underway (n wind : ℕ) (list : List ℤ) : Type 0 where

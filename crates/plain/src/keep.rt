@@ -25,21 +25,25 @@ pub(crate) fn nothing_yet(faces: u32) -> Six
     ensures { λ r. ⌜ ((axis : Axis) (s : Side) → shownIn r axis s ≡ shown faces none) ⌝ }
 {
     let alternative = [0u8; MOST_WALKED];
+    let total = Pair {
+        newtons: 0,
+        remainder: 0,
+    };
     let none = Extreme {
-        total: 0,
+        total,
         wind: 0,
         internal: 0,
         faces,
         alternative,
     };
-    let pair = Extremes {
+    let both = Extremes {
         greatest: none,
         least: none,
     };
     Six {
-        x: pair,
-        y: pair,
-        z: pair,
+        x: both,
+        y: both,
+        z: both,
     }
 }
 
@@ -66,7 +70,7 @@ fn kept(
     ensures { λ r. ⌜ KeepsWith side e r total choice wind internal ⌝ }
 {
     let later = Extreme {
-        total: pair::as_units(total),
+        total,
         wind,
         internal,
         faces: e.faces,
@@ -75,7 +79,8 @@ fn kept(
     if e.wind == 0 {
         return later;
     }
-    if further(side, pair::of_units(e.total), total) {
+    let earlier = e.total;
+    if further(side, earlier, total) {
         return later;
     }
     e

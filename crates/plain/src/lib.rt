@@ -20,10 +20,10 @@ mod cells; // every wind and every internal coefficient
 // So many faces with two alternatives are taken.
 const MOST_WITH_TWO: u32 = 8;
 
-fn reckoning(verdict: Verdict, six: Six) -> Reckoning
-    ensures { λ r. ⌜ r ≡ record { verdict = verdict; six = six } ⌝ }
+fn reckoning(verdict: Verdict, year: i64, six: Six) -> Reckoning
+    ensures { λ r. ⌜ r ≡ record { verdict = verdict; year = year; six = six } ⌝ }
 {
-    Reckoning { verdict, six }
+    Reckoning { verdict, year, six }
 }
 
 fn plain_by(job: Job, v: Verdict) -> Reckoning
@@ -31,16 +31,16 @@ fn plain_by(job: Job, v: Verdict) -> Reckoning
     ensures { λ r. ⌜ r ≡ plainOf job ⌝ }
 {
     if v.number != 0 {
-        return reckoning(v, keep::nothing_yet(0));
+        return reckoning(v, 0, keep::nothing_yet(0));
     }
     if twos::faces_with_two(job) > MOST_WITH_TWO {
         let many = Verdict {
             number: 10,
             line: 0,
         };
-        return reckoning(many, keep::nothing_yet(0));
+        return reckoning(many, 0, keep::nothing_yet(0));
     }
-    reckoning(v, cells::every_wind(job))
+    reckoning(v, job.year, cells::every_wind(job))
 }
 
 // A job's own refusal; then 10, where more than 8 of its faces have two alternatives under at least one of its winds;

@@ -13,8 +13,8 @@ use job::Job;
 use worst::AxisForces;
 use worst::FaceForces;
 
-// So many faces at most.
-pub(crate) const MOST_WALKED: usize = 24;
+// So many faces at most: those that a record has room for.
+pub(crate) const MOST_WALKED: usize = 240;
 
 // So many numbers for each, and for all.
 pub(crate) const PER_ROW: usize = 7;

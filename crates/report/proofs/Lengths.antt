@@ -6,17 +6,24 @@ use mathlib.Core.List.{List·Memᴰ·not-nil, List·Memᴰ·eq-of-singleton}
 use mathlib.Core.Logic.{⊎-elim}
 use Prim.Native.Nat.{ℕ, suc, _+_, _-_, _*_, _^_, _≤_, _<_}
 use native.Mathlib.Omega.{arith}
-use lib.IntN.{ℤ}
+use lib.IntN.{ℤ, pos, negsuc, natAbs}
 use lib.ListN.{length, length-append}
 use lib.Seq.{take-at}
 use mir.Syntax.{w32}
 use mir.Val.{Fits}
-use Rattle.whole.specs.Digits.{digits}
+use Rattle.whole.specs.Digits.{digits, decimal}
+use Rattle.whole.specs.Newton.{newton}
 use Rattle.whole.proofs.Digits.{digits-length}
-use Rattle.whole.proofs.Size.{mag-le}
+use Rattle.whole.proofs.Tests.{by-test}
+use Rattle.building.specs.Year.{hasLongSheds}
+use Rattle.pair.specs.declared.Pair.{Pair}
+use Rattle.pair.specs.Total.{units}
+use Rattle.pair.proofs.Sizes.{Sized, within-is, within-pairOf, newtons-small}
 use Rattle.verdict.specs.declared.Verdict.{Verdict}
 use Rattle.job.specs.Carried.{Carried, noWind}
 use Rattle.job.specs.InOrder.{InOrder}
+use Rattle.job.specs.Walk.{Accepted}
+use Rattle.job.proofs.Room.{few-faces}
 use Rattle.worst.specs.declared.Axis.{Axis}
 use Rattle.worst.specs.declared.Axis.the-variants.{X, Y, Z}
 use Rattle.worst.specs.declared.Side.{Side}
@@ -29,9 +36,10 @@ use Rattle.worst.specs.Best.{at}
 use Rattle.whole.specs.Lists.{numbers}
 use Rattle.worst.specs.Cases.{Case, Chosen, Permitted}
 use Rattle.worst.specs.Forces.{acts, alternatives, windAt, loads}
-use Rattle.worst.specs.Shown.{padded, shown}
-use Rattle.worst.specs.Worst.{given, extreme, sixExtremes}
-use Rattle.worst.specs.Stored.{extremeBy, sixBy}
+use Rattle.worst.specs.Shown.{padded, shown, totalIn}
+use Rattle.worst.specs.Worst.{given, extreme, sixExtremes, reckoned}
+use Rattle.worst.specs.Within.{mostNewtons}
+use Rattle.worst.specs.Stored.{extremeBy, sixBy, telling, reckonedBy}
 use Rattle.whole.proofs.ByPlace.{getD-member}
 use Rattle.whole.proofs.Numbers.{Between, numbers-member}
 use Rattle.worst.proofs.Members.{case-permitted}
@@ -40,10 +48,12 @@ use Rattle.worst.proofs.OneFace.{OneOrTwo, alone, pair}
 use Rattle.worst.proofs.Ranges.{caseTotal-small}
 use Rattle.worst.proofs.Accepted.{given-sound, given-in-range}
 use Rattle.worst.proofs.Promises.{extreme-shows, stored-shows}
-use Rattle.report.specs.Lines.{spaced, caseNumbers, extremeText, axisText, sixText, x, y, z, max, min}
+use Rattle.worst.proofs.SumsWithin.{within-at, side-small, telling-within}
+use Rattle.report.specs.Lines.{spaced, caseNumbers, totalText, extremeText, axisText, sixText, x, y, z}
+use Rattle.report.specs.Lines.{max, min}
 use Rattle.report.specs.Report.{reportText, refusedText}
-use Rattle.report.specs.Short.{ShortCase, ShortTotal, Both, AllSix}
-use Rattle.report.proofs.Lines.{spaced-none, line-parts, axis-parts, six-parts, total-length}
+use Rattle.report.specs.Short.{Fair, Printable, Both, AllSix, facesOf, SixPrintable}
+use Rattle.report.proofs.Lines.{spaced-none, line-parts, axis-parts, six-parts, long-total, short-total}
 use Rattle.report.proofs.Reports.{refused-parts}
 
 -- ---- numbers after spaces
@@ -126,17 +136,11 @@ module _ (axis : Axis) (c : Carried) (o : InOrder c) (v : ℤ) (case : Case ℕ 
       all-cons (omega (arith, wind .high, o .winds-counted .high))
       (all-cons (omega (arith, internal .high, o .internals-counted .high)) (chosen .1))
 
-  -- a space and a digit for the wind, the internal coefficient and each of 24 faces
-  case-short : ShortCase named
+  -- a space and a digit for the wind, the internal coefficient and each face
+  pub case-short : length (spaced (caseNumbers named)) ≤ 2 * length (c .faces) + 4
   case-short =
       rw case-numbers
-      (omega (
-        arith,
-        spaced-digits
-            (case .wind ∷ case .internal ∷ case .chosen) case-digits,
-        chosen .0,
-        o .faces-counted .high,
-      ))
+      (omega (arith, spaced-digits (case .wind ∷ case .internal ∷ case .chosen) case-digits, chosen .0))
 
 -- ---- what is shown of an accepted job: its extremes, and those that stored sums tell
 
@@ -147,61 +151,122 @@ by-six : (P : Extreme → Type 0) (e : Axis → Side → Extreme) → ((axis : A
 by-six P e h = ((h X Greatest, h X Least), (h Y Greatest, h Y Least), (h Z Greatest, h Z Least))
 
 module _ (c : Carried) (o : InOrder c) where
-  pub report-short : AllSix ShortCase (sixExtremes c)
-  unfolding sixExtremes
-  report-short = by-six ShortCase (λ axis s. extreme axis s c) short
-    where
-      short : (axis : Axis) (s : Side) → ShortCase (extreme axis s c)
-      short axis s =
-          let h = extreme-shows axis s c o in
-          let p = case-permitted (loads axis (given c)) (h .case) (isBest-member s _ (h .best)) in
-          subst ShortCase (sym (h .named)) (case-short axis c o (extreme axis s c .total) (h .case) p)
+  -- a permitted case, at a value that a job of its year can have
+  abbrev Prints : Extreme → Type 0
+  Prints = Printable (c .year) (length (c .faces))
 
-  pub stored-short : (t : Stored) → AllSix ShortCase (sixBy t c)
-  unfolding sixBy
-  stored-short t = by-six ShortCase (λ axis s. extremeBy axis s t c) short
+  shown-prints : (axis : Axis) (v : ℤ) (case : Case ℕ ℕ ℕ) → Permitted (loads axis (given c)) case
+      → natAbs v ≤ mostNewtons (c .year) * newton → Prints (shown (length (c .faces)) (at v case))
+  unfolding shown
+  shown-prints axis v case p h =
+      record { case = case-short axis c o v case p; total = within-pairOf (mostNewtons (c .year)) v h }
+
+  own-prints : (axis : Axis) (s : Side) → Prints (extreme axis s c)
+  own-prints axis s =
+      let h = extreme-shows axis s c o in
+      let p = case-permitted (loads axis (given c)) (h .case) (isBest-member s _ (h .best)) in
+      let small = rw (h .best .reached) at (caseTotal-small (given c) (given-in-range c o) axis (h .case)) in
+      subst Prints (sym (h .named))
+      (shown-prints axis (totalIn (extreme axis s c)) (h .case) p (omega (arith, small)))
+
+  pub report-prints : SixPrintable (reckoned (Accepted c))
+  unfolding sixExtremes shown
+  report-prints =
+      record {
+        few = subst (λ n. n ≤ 240) (sym faces-are) (few-faces c o);
+        all = subst (λ n. AllSix (Printable (c .year) n) (sixExtremes c)) (sym faces-are)
+            (by-six Prints (λ axis s. extreme axis s c) own-prints);
+      }
     where
-      short : (axis : Axis) (s : Side) → ShortCase (extremeBy axis s t c)
-      short axis s =
-          let h = stored-shows axis s c o t in
-          subst ShortCase (sym (h .named)) (case-short axis c o _ (h .case) (h .permitted))
+      faces-are : facesOf (sixExtremes c) ≡ length (c .faces)
+      faces-are = ap (λ (e : Extreme). e .faces) (extreme-shows X Greatest c o .named)
+
+  module _ (t : Stored) where
+    abbrev told : Stored
+    told = telling t c
+
+    told-prints : (axis : Axis) (s : Side) → Prints (extremeBy axis s told c)
+    told-prints axis s =
+        let h = stored-shows axis s c o told in
+        let n = mostNewtons (c .year) in
+        let small =
+        side-small n _ (within-at n (told .cell) (telling-within c o t) (4 * (h .case .wind - 1) + (h .case .internal - 1)))
+        axis s in
+        subst Prints (sym (h .named)) (shown-prints axis _ (h .case) (h .permitted) small)
+
+    pub stored-prints : SixPrintable (reckonedBy t (Accepted c))
+    unfolding sixBy shown
+    stored-prints =
+        record {
+          few = subst (λ n. n ≤ 240) (sym faces-are) (few-faces c o);
+          all = subst (λ n. AllSix (Printable (c .year) n) (sixBy told c)) (sym faces-are)
+              (by-six Prints (λ axis s. extremeBy axis s told c) told-prints);
+        }
+      where
+        faces-are : facesOf (sixBy told c) ≡ length (c .faces)
+        faces-are = ap (λ (e : Extreme). e .faces) (stored-shows X Greatest c o told .named)
 
 -- ---- six lines
 
--- the letter, the word, a total, the numbers and the end
-line-most : (e : Extreme) → ShortCase e → ShortTotal e → (letter : ℕ) (word : List ℕ) → length word ≡ 5
-    → length (extremeText letter word e) ≤ 79
-line-most e h t letter word l = rw line-parts (simp length-append (omega (arith, l, h, t)))
+decimal-size : (k : ℕ) (z : ℤ) → natAbs z < 10 ^ suc k → length (decimal z) ≤ suc (suc k)
+unfolding decimal
+decimal-size k (pos n) h = omega (arith, digits-length k n h)
+decimal-size k (negsuc n) h = omega (arith, digits-length k (suc n) h)
 
-axis-most : (e : Extremes) → Both ShortCase e → Both ShortTotal e → (letter : ℕ) → length (axisText letter e) ≤ 158
-axis-most e h t letter =
-    rw axis-parts
-    (simp length-append
-    (omega (
-      arith,
-      line-most (e .greatest) (h .0) (t .0) letter max refl,
-      line-most (e .least) (h .1) (t .1) letter min refl,
-    )))
-
-pub six-most : (six : Six) → AllSix ShortCase six → AllSix ShortTotal six → length (sixText six) ≤ 474
-six-most six h t =
-    rw six-parts
-    (simp length-append
-    (omega (
-      arith,
-      axis-most (six .x) (h .0) (t .0) x,
-      axis-most (six .y) (h .1) (t .1) y,
-      axis-most (six .z) (h .2) (t .2) z,
-    )))
-
--- no total of an accepted job leaves 64 bits
-pub report-most : (c : Carried) → InOrder c → length (reportText c) ≤ 474
-unfolding reportText sixExtremes
-report-most c o =
-    six-most (sixExtremes c) (report-short c o) (by-six ShortTotal (λ axis s. extreme axis s c) short)
+-- a total: up to year 3 a minus sign and 19 digits; then a minus sign and 10 digits, a space, and 11 digits
+fair-short : (year : ℤ) (p : Pair) → Fair year p → length (totalText year p) ≤ 23
+fair-short year p h = by-test (hasLongSheds year) long short
   where
-    short : (axis : Axis) (s : Side) → ShortTotal (extreme axis s c)
-    short axis s =
-        let h = extreme-shows axis s c o in
-        let small = rw (h .best .reached) at (caseTotal-small (given c) (given-in-range c o) axis (h .case)) in
-        total-length (extreme axis s c .total) (omega (arith, mag-le (extreme axis s c .total), small))
+    sized : Sized (mostNewtons year) p
+    sized = within-is (mostNewtons year) p h
+
+    long : hasLongSheds year ≡ true → length (totalText year p) ≤ 23
+    long t =
+        let few : natAbs (p .newtons) ≤ 16500000 * 240 = rw t at (newtons-small (mostNewtons year) p sized) in
+        rw (long-total year t p)
+        (simp length-append
+        (omega (
+          arith,
+          decimal-size 9 (p .newtons) (omega arith),
+          digits-length 10 (p .remainder) (omega (arith, sized .proper)),
+        )))
+
+    short : hasLongSheds year ≡ false → length (totalText year p) ≤ 23
+    short t =
+        let small : natAbs (units p) ≤ 16500000 * 24 * newton = rw t at (sized .small) in
+        rw (short-total year t p) (omega (arith, decimal-size 18 (units p) (omega arith)))
+
+-- the letter, the word, a total, the numbers and the end
+module _ (year : ℤ) (n : ℕ) where
+  line-most : (e : Extreme) → Printable year n e → (letter : ℕ) (word : List ℕ) → length word ≡ 5
+      → length (extremeText year letter word e) ≤ 2 * n + 34
+  line-most e h letter word l =
+      rw (line-parts year) (simp length-append (omega (arith, l, h .case, fair-short year (e .total) (h .total))))
+
+  axis-most : (e : Extremes) → Both (Printable year n) e → (letter : ℕ) → length (axisText year letter e) ≤ 4 * n + 68
+  axis-most e h letter =
+      rw (axis-parts year)
+      (simp length-append
+      (omega (
+        arith,
+        line-most (e .greatest) (h .0) letter max refl,
+        line-most (e .least) (h .1) letter min refl,
+      )))
+
+  pub six-most : (six : Six) → AllSix (Printable year n) six → length (sixText year six) ≤ 12 * n + 204
+  six-most six h =
+      rw (six-parts year)
+      (simp length-append
+      (omega (
+        arith,
+        axis-most (six .x) (h .0) x,
+        axis-most (six .y) (h .1) y,
+        axis-most (six .z) (h .2) z,
+      )))
+
+-- of 240 faces at most
+pub report-most : (c : Carried) → InOrder c → length (reportText c) ≤ 3084
+unfolding reportText
+report-most c o =
+    let p = report-prints c o in
+    omega (arith, six-most (c .year) (facesOf (sixExtremes c)) (sixExtremes c) (p .all), p .few)

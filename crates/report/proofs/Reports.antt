@@ -1,5 +1,5 @@
 -- The line that refuses, and a report by what was judged.
-use mathlib.Core.Path.{_≡_, ap}
+use mathlib.Core.Path.{_≡_, refl, ap}
 use mathlib.Core.Bool.{true, false}
 use mathlib.Core.List.{List, [], _∷_, _++_, append-assoc}
 use Prim.Native.Nat.{ℕ, _<_}
@@ -12,12 +12,15 @@ use Rattle.page.specs.Writing.{writing, bufferAfter}
 use Rattle.verdict.specs.declared.Verdict.{Verdict}
 use Rattle.verdict.specs.Verdict.{refusal}
 use Rattle.job.specs.declared.Job.{Job}
-use Rattle.job.specs.Carried.{Carried, carried}
+use Rattle.lines.specs.Lines.{linesIn}
+use Rattle.job.specs.Carried.{Carried, carried, nothing}
+use Rattle.job.specs.FirstFault.{Answers, in-order, faulty}
+use Rattle.job.proofs.FirstFault.{lines-answer}
 use Rattle.job.specs.InOrder.{InOrder}
-use Rattle.job.specs.Walk.{Reading, Accepted, Refused, judged}
-use Rattle.sheet.specs.Sheet.{jobWriting, jobBuffer}
+use Rattle.job.specs.Walk.{Reading, Accepted, Refused, judged, opening, sheet}
+use Rattle.sheet.specs.Sheet.{reading, jobWriting, jobBuffer}
+use Rattle.sheet.proofs.FacesBack.{reading-in-order}
 use Rattle.worst.specs.declared.Reckoning.{Reckoning}
-use Rattle.worst.specs.declared.Six.{Six}
 use Rattle.worst.specs.Worst.{given}
 use Rattle.plain.specs.Plain.{facesWithTwo, plainly}
 use Rattle.worst.proofs.Reckoned.{Judged, refused, accepted, job-judged}
@@ -45,6 +48,14 @@ judged-sound j = go (judged j) (job-judged j)
     go x (refused v some) = refuses v some
     go x (accepted o) = accepts (carried j) o
 
+pub reading-sound : (s : List ℕ) → Sound (reading s)
+unfolding reading
+reading-sound s = go (reading s) refl (lines-answer (linesIn s))
+  where
+    go : (r : Reading) → reading s ≡ r → Answers (sheet (opening (linesIn s))) nothing (linesIn s) 1 r → Sound r
+    go r e (in-order d h) = accepts d (reading-in-order s d e)
+    go r e (faulty n i f) = refuses _ (f .some)
+
 pub plain-sound : (j : Job) → Sound (plainly (judged j))
 plain-sound j = go (judged j) (judged-sound j)
   where
@@ -58,7 +69,7 @@ plain-sound j = go (judged j) (judged-sound j)
 module _ (reckon : Reading → Reckoning) (text : Carried → List ℕ)
     (own : (v : Verdict) → reckon (Refused v) .verdict ≡ v)
     (fine : (c : Carried) → reckon (Accepted c) .verdict .number ≡ 0)
-    (lines : (c : Carried) → sixText (reckon (Accepted c) .six) ≡ text c) where
+    (lines : (c : Carried) → sixText (reckon (Accepted c) .year) (reckon (Accepted c) .six) ≡ text c) where
   pub six-written : (x : Reading) → Sound x → (buf : List ℕ)
       → (sixWriting (reckon x) buf ≡ jobWriting text x buf) × (sixBuffer (reckon x) buf ≡ jobBuffer text x buf)
   six-written x (refuses v some) buf =
@@ -71,7 +82,7 @@ module _ (reckon : Reading → Reckoning) (text : Carried → List ℕ)
       (rw zero (ap (λ t. writing t buf) (lines c)), rw zero (ap (λ t. bufferAfter t buf) (lines c)))
 
   -- and what holds of the six of all that is in order holds of it
-  pub six-holds : (x : Reading) → Sound x → (P : Six → Type 0)
-      → ((c : Carried) → InOrder c → P (reckon (Accepted c) .six)) → reckon x .verdict .number ≡ 0 → P (reckon x .six)
+  pub six-holds : (x : Reading) → Sound x → (P : Reckoning → Type 0)
+      → ((c : Carried) → InOrder c → P (reckon (Accepted c))) → reckon x .verdict .number ≡ 0 → P (reckon x)
   six-holds x (refuses v some) P h z = absurd (omega (arith, some, ap (λ (u : Verdict). u .number) (own v)))
   six-holds x (accepts c o) P h z = h c o

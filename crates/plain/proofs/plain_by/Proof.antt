@@ -5,6 +5,9 @@ use native.Mathlib.Omega.{arith}
 use borrow.Author.Needs.{needs}
 use borrow.Author.Tests.{le-leb, lt-leb}
 use lib.Dec.{leb}
+use lib.IntN.{ℤ, pos}
+use mir.Syntax.{w64}
+use Rattle.whole.proofs.Size.{returned}
 use Rattle.verdict.specs.declared.Verdict.{Verdict}
 use Rattle.verdict.specs.Verdict.{refusal}
 use Rattle.job.specs.Carried.{carried}
@@ -19,8 +22,8 @@ use Rattle.plain.proofs.EveryCase.{none-are}
 use Rattle.plain.proofs.plain_by.Statement.{statement}
 use Rattle.plain.proofs.plain_by.Tie as tie
 
-abbrev answer : Verdict → Six → Reckoning
-answer v six = record { verdict = v; six = six }
+abbrev answer : Verdict → ℤ → Six → Reckoning
+answer v year six = record { verdict = v; year = year; six = six }
 
 returns : tie.Need-returns
 unfolding plainOf
@@ -29,7 +32,7 @@ returns c =
     let t = n .before in
     let a = t .before .before in
     c .reckoning .ensures
-    ∙ ap (answer (a .args .v)) (none-are (n .nothing-yet .result) (n .nothing-yet .ensures))
+    ∙ ap (answer (a .args .v) (pos 0)) (none-are (n .nothing-yet .result) (n .nothing-yet .ensures))
     ∙ ap (λ r. reckoned (plainly r)) (sym (refused-is (a .args .job) (a .args .v) (a .pre) (t .if1 .taken)))
 
 -- a job that is accepted
@@ -56,7 +59,7 @@ returns-2 c =
     let t = n .before in
     let w = t .before in
     c .reckoning2 .ensures
-    ∙ ap (answer (refusal 10 0)) (none-are (n .nothing-yet2 .result) (n .nothing-yet2 .ensures))
+    ∙ ap (answer (refusal 10 0) (pos 0)) (none-are (n .nothing-yet2 .result) (n .nothing-yet2 .ensures))
     ∙ by-count (w .before) _
     (ap (λ k. leb k mostWithTwo) (sym (w .faces-with-two .ensures)) ∙ lt-leb _ mostWithTwo (t .if2 .taken))
 
@@ -66,14 +69,17 @@ every-wind-requires c κs =
     (taken (w .before), omega (arith, w .faces-with-two .ensures, c .if2 .left))
 
 returns-3 : tie.Need-returns-3
+unfolding carried
 returns-3 c =
-    let x = c .before in
+    let y = c .before in
+    let x = y .before in
     let t = x .before in
     let w = t .before in
     let s = a (w .before) in
     let v = s .pre ∙ ap verdict (taken (w .before) .accepted) in
     c .reckoning3 .ensures
-    ∙ (λ k. answer (v k) (x .every-wind .ensures k))
+    ∙ (λ k. answer (v k) (returned w64 (s .args .job .year) (y .struct-told .given .0 .1) .same k)
+    (x .every-wind .ensures k))
     ∙ by-count (w .before) _
     (ap (λ k. leb k mostWithTwo) (sym (w .faces-with-two .ensures)) ∙ le-leb _ mostWithTwo (t .if2 .left))
 

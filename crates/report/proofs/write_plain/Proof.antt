@@ -7,8 +7,8 @@ use Rattle.worst.specs.declared.Reckoning.{Reckoning}
 use Rattle.worst.specs.Worst.{reckoned}
 use Rattle.plain.specs.Plain.{plainly, plainOf}
 use Rattle.report.specs.Report.{reportText, sixWriting, sixBuffer}
-use Rattle.report.specs.Short.{ShortCase, AllSix}
-use Rattle.report.proofs.Lengths.{report-short}
+use Rattle.report.specs.Short.{SixPrintable}
+use Rattle.report.proofs.Lengths.{report-prints}
 use Rattle.report.proofs.Reports.{plain-sound, six-written, six-holds}
 use Rattle.report.proofs.write_plain.Statement.{statement}
 use Rattle.report.proofs.write_plain.Tie as tie
@@ -18,9 +18,9 @@ unfolding plainOf reportText
 write-six-requires c κs =
     let w = c .before in
     let a = w .before .before .args in
-    subst (λ (v : Reckoning). v .verdict .number ≡ 0 → AllSix ShortCase (v .six)) (sym (w .plain-cases .ensures))
+    subst (λ (v : Reckoning). v .verdict .number ≡ 0 → SixPrintable v) (sym (w .plain-cases .ensures))
     (six-holds reckoned reportText (λ v. refl) (λ d. refl) (λ d. refl) (plainly (judged (a .j)))
-    (plain-sound (a .j)) (AllSix ShortCase) (λ d o. report-short d o))
+    (plain-sound (a .j)) SixPrintable (λ d o. report-prints d o))
 
 returns : tie.Need-returns
 unfolding plainOf reportText

@@ -6,8 +6,8 @@ use Rattle.job.specs.Walk.{judged}
 use Rattle.worst.specs.declared.Reckoning.{Reckoning}
 use Rattle.worst.specs.Worst.{reckoned, worstOf}
 use Rattle.report.specs.Report.{reportText, sixWriting, sixBuffer}
-use Rattle.report.specs.Short.{ShortCase, AllSix}
-use Rattle.report.proofs.Lengths.{report-short}
+use Rattle.report.specs.Short.{SixPrintable}
+use Rattle.report.proofs.Lengths.{report-prints}
 use Rattle.report.proofs.Reports.{judged-sound, six-written, six-holds}
 use Rattle.report.proofs.write_report.Statement.{statement}
 use Rattle.report.proofs.write_report.Tie as tie
@@ -17,9 +17,9 @@ unfolding worstOf reportText
 write-six-requires c κs =
     let w = c .before in
     let a = w .before .before .args in
-    subst (λ (v : Reckoning). v .verdict .number ≡ 0 → AllSix ShortCase (v .six)) (sym (w .worst-cases .ensures))
+    subst (λ (v : Reckoning). v .verdict .number ≡ 0 → SixPrintable v) (sym (w .worst-cases .ensures))
     (six-holds reckoned reportText (λ v. refl) (λ d. refl) (λ d. refl) (judged (a .j))
-    (judged-sound (a .j)) (AllSix ShortCase) (λ d o. report-short d o))
+    (judged-sound (a .j)) SixPrintable (λ d o. report-prints d o))
 
 returns : tie.Need-returns
 unfolding worstOf reportText

@@ -6,8 +6,8 @@ use Rattle.job.specs.Walk.{judged}
 use Rattle.worst.specs.declared.Reckoning.{Reckoning}
 use Rattle.worst.specs.Stored.{reckonedBy}
 use Rattle.report.specs.Report.{storedText, sixWriting, sixBuffer}
-use Rattle.report.specs.Short.{ShortCase, AllSix}
-use Rattle.report.proofs.Lengths.{stored-short}
+use Rattle.report.specs.Short.{SixPrintable}
+use Rattle.report.proofs.Lengths.{stored-prints}
 use Rattle.report.proofs.Reports.{judged-sound, six-written, six-holds}
 use Rattle.report.proofs.write_stored.Statement.{statement}
 use Rattle.report.proofs.write_stored.Tie as tie
@@ -17,9 +17,9 @@ unfolding storedText
 write-six-requires c κs =
     let w = c .before in
     let a = w .before .before .args in
-    subst (λ (v : Reckoning). v .verdict .number ≡ 0 → AllSix ShortCase (v .six)) (sym (w .worst-stored .ensures))
+    subst (λ (v : Reckoning). v .verdict .number ≡ 0 → SixPrintable v) (sym (w .worst-stored .ensures))
     (six-holds (reckonedBy (a .stored)) (storedText (a .stored)) (λ v. refl) (λ d. refl) (λ d. refl) (judged (a .j))
-    (judged-sound (a .j)) (AllSix ShortCase) (λ d o. stored-short d o (a .stored)))
+    (judged-sound (a .j)) SixPrintable (λ d o. stored-prints d o (a .stored)))
 
 returns : tie.Need-returns
 unfolding storedText

@@ -1,9 +1,7 @@
 -- `keep::with_case` meets its contract: a call for each axis.
 use mathlib.Core.Path.{ap}
-use Rattle.worst.specs.declared.Axis.the-variants.{X, Y, Z}
 use Rattle.worst.proofs.Kept.{every-axis}
 use Rattle.plain.specs.declared.add.Totals.{Totals}
-use Rattle.plain.proofs.Added.{totals-fit}
 use Rattle.plain.proofs.keep.with_case.Statement.{statement}
 use Rattle.plain.proofs.keep.with_case.Tie as tie
 
@@ -12,19 +10,14 @@ returns c =
     let y = c .before in
     let x = y .before in
     let t = x .before in
-    let a = t .before in
     let e = t .total .ensures in
-    let u = a .pre in
     every-axis _
     (λ s n ks b chosen h.
-    x .both-kept .ensures s _ n ks b (ap (λ (r : Totals). r .x) e)
-    (totals-fit X (a .args .faces) (a .args .list .now) _ (u .few) (u .small)) chosen h)
+    x .both-kept .ensures s _ n ks b (ap (λ (r : Totals). r .x) e) chosen h)
     (λ s n ks b chosen h.
-    y .both-kept2 .ensures s _ n ks b (ap (λ (r : Totals). r .y) e)
-    (totals-fit Y (a .args .faces) (a .args .list .now) _ (u .few) (u .small)) chosen h)
+    y .both-kept2 .ensures s _ n ks b (ap (λ (r : Totals). r .y) e) chosen h)
     (λ s n ks b chosen h.
-    c .both-kept3 .ensures s _ n ks b (ap (λ (r : Totals). r .z) e)
-    (totals-fit Z (a .args .faces) (a .args .list .now) _ (u .few) (u .small)) chosen h)
+    c .both-kept3 .ensures s _ n ks b (ap (λ (r : Totals). r .z) e) chosen h)
 
 pub with-case-spec : {M : Type 1} → statement M
 with-case-spec =
