@@ -264,6 +264,13 @@ module _ (year : ℤ) (n : ℕ) where
         axis-most (six .z) (h .2) z,
       )))
 
+-- what is printable has fair totals
+pub fair-six : (year : ℤ) (n : ℕ) (six : Six) → AllSix (Printable year n) six → AllSix (λ e. Fair year (e .total)) six
+fair-six year n six h =
+    let fair : (e : Extremes) → Both (Printable year n) e → Both (λ x. Fair year (x .total)) e =
+    λ e p. (p .0 .total, p .1 .total) in
+    (fair (six .x) (h .0), fair (six .y) (h .1), fair (six .z) (h .2))
+
 -- of 240 faces at most
 pub report-most : (c : Carried) → InOrder c → length (reportText c) ≤ 3084
 unfolding reportText

@@ -1,5 +1,5 @@
 -- The line that refuses, and a report by what was judged.
-use mathlib.Core.Path.{_≡_, refl, ap}
+use mathlib.Core.Path.{_≡_, refl, sym, ap}
 use mathlib.Core.Bool.{true, false}
 use mathlib.Core.List.{List, [], _∷_, _++_, append-assoc}
 use Prim.Native.Nat.{ℕ, _<_}
@@ -10,7 +10,7 @@ use Rattle.whole.proofs.Tests.{by-test}
 use Rattle.page.specs.declared.Writing.the-variants as written
 use Rattle.page.specs.Writing.{writing, bufferAfter}
 use Rattle.verdict.specs.declared.Verdict.{Verdict}
-use Rattle.verdict.specs.Verdict.{refusal}
+use Rattle.verdict.specs.Verdict.{refusal, Refuses}
 use Rattle.job.specs.declared.Job.{Job}
 use Rattle.lines.specs.Lines.{linesIn}
 use Rattle.job.specs.Carried.{Carried, carried, nothing}
@@ -21,7 +21,7 @@ use Rattle.job.specs.Walk.{Reading, Accepted, Refused, judged, opening, sheet}
 use Rattle.sheet.specs.Sheet.{reading, jobWriting, jobBuffer}
 use Rattle.sheet.proofs.FacesBack.{reading-in-order}
 use Rattle.worst.specs.declared.Reckoning.{Reckoning}
-use Rattle.worst.specs.Worst.{given}
+use Rattle.worst.specs.Worst.{given, reckoned}
 use Rattle.plain.specs.Plain.{facesWithTwo, plainly}
 use Rattle.worst.proofs.Reckoned.{Judged, refused, accepted, job-judged}
 use Rattle.report.specs.Lines.{spaced, sixText}
@@ -86,3 +86,20 @@ module _ (reckon : Reading → Reckoning) (text : Carried → List ℕ)
       → ((c : Carried) → InOrder c → P (reckon (Accepted c))) → reckon x .verdict .number ≡ 0 → P (reckon x)
   six-holds x (refuses v some) P h z = absurd (omega (arith, some, ap (λ (u : Verdict). u .number) (own v)))
   six-holds x (accepts c o) P h z = h c o
+
+-- ---- a sheet, as it was reckoned
+
+module _ (x : Reading) (sound : Sound x) (w : Reckoning) (e : w ≡ reckoned x) where
+  pub reckoned-refused : Refuses (w .verdict) → x ≡ Refused (w .verdict)
+  reckoned-refused h = go x sound e
+    where
+      go : (y : Reading) → Sound y → w ≡ reckoned y → y ≡ Refused (w .verdict)
+      go y (refuses v some) q = ap Refused (sym (ap (λ (r : Reckoning). r .verdict) q))
+      go y (accepts c o) q = absurd (h (ap (λ (r : Reckoning). r .verdict .number) q))
+
+  pub reckoned-accepted : w .verdict .number ≡ 0 → (c : Carried) × (x ≡ Accepted c)
+  reckoned-accepted z = go x sound e
+    where
+      go : (y : Reading) → Sound y → w ≡ reckoned y → (c : Carried) × (y ≡ Accepted c)
+      go y (refuses v some) q = absurd (omega (arith, some, ap (λ (r : Reckoning). r .verdict .number) q, z))
+      go y (accepts c o) q = (c, refl)

@@ -16,7 +16,7 @@ write-six-requires : tie.Need-write-six-requires
 unfolding reportText
 write-six-requires c κs =
     let w = c .before in
-    let a = w .before .before .args in
+    let a = w .before .before .before .args in
     subst (λ (v : Reckoning). v .verdict .number ≡ 0 → SixPrintable v) (sym (w .worst-in .ensures))
     (six-holds reckoned reportText (λ v. refl) (λ d. refl) (λ d. refl) (reading (now (a .s)))
     (reading-sound (now (a .s))) SixPrintable (λ d o. report-prints d o))
@@ -26,7 +26,7 @@ unfolding reportText
 returns c =
     let s = c .before .before in
     let w = s .before .before in
-    let a = w .before .before .args in
+    let a = w .before .before .before .args in
     let is =
     six-written reckoned reportText (λ v. refl) (λ d. refl) (λ d. refl) (reading (now (a .s)))
     (reading-sound (now (a .s))) (now (a .buf)) in
