@@ -7,6 +7,7 @@
 #include "mend.h"
 #include "rose.h"
 #include "rows.h"
+#include "units.h"
 #include "winds.h"
 #include "words.h"
 #include <errno.h>
@@ -39,7 +40,7 @@ static const char help[] =
     "  aral help          this text\n"
     "\n"
     "FILE is a sheet, or - for standard input. A total is in units of 0.00000000005 N: 20000000000 of them are 1 N.\n"
-    "In `ask`: year is 1 to 3, and 1 where left out; h, a, b in cm (height, longer side, shorter side); kind and x\n"
+    "In `ask`: year is 1 to 4, and 1 where left out; h, a, b in cm (height, longer side, shorter side); kind and x\n"
     "  are the roof's, 0 where left out:\n"
     "  kind 0 none; 1 gable, x the slope in tenths of a degree; 2 flat, straight eaves; 3 parapet, x its height\n"
     "  in cm; 4 curved eaves, x the radius in cm; 5 mansard, x its angle in tenths of a degree; 6 a single slope,\n"
@@ -51,6 +52,8 @@ static const char help[] =
     "A sheet of year 2 opens with `V 1` and the line `2`. After I it has a section P, the wind's profile: heights in\n"
     "cm, each with its part of the speed in thousandths; and each face has a height in cm after its mark.\n"
     "One of year 3 opens with `V 1` and `3`, is written in the same way, and may have a square plan, a equal to b.\n"
+    "One of year 4 opens with `V 1` and `4`, is written in the same way, and may have 240 faces; others have 24. Its\n"
+    "totals are two numbers: whole newtons, rounded down, and what remains, 0 to 19999999999 units.\n"
     "`mend` takes out carriage returns, spaces that follow a space or end a line, a plus before a number and zeros\n"
     "that lead it, and ends the last line. It changes nothing else, and a sheet in form not at all.\n"
     "The FILE of `rose` has a line for each observation, written as those of a sheet: the direction that the wind\n"
@@ -86,7 +89,7 @@ static int load(const char *name)
 
 static int totals(void)
 {
-    static uint8_t out[1024];
+    static uint8_t out[ARAL_REPORT_MOST];
     aral_text report = aral_report(sheet, length, out, sizeof out);
     if (report.number) {
         printf("refused %u %u\n", report.number, report.line);
@@ -122,33 +125,45 @@ static int edit_sheet(void) { return edit(sheet, length); }
 static int plain(void) { return show_plain(sheet, length); }
 
 /* A total in newtons to three decimals, the rest cut off. */
-static void print_newtons(int64_t total)
+static void print_newtons(units total)
 {
-    uint64_t size = total < 0 ? 0 - (uint64_t)total : (uint64_t)total, milli = size / 20000000;
+    uint64_t milli = (uint64_t)((total < 0 ? -total : total) / (NEWTON / 1000));
     char text[40];
     snprintf(text, sizeof text, "%s%" PRIu64 ".%03d", total < 0 ? "-" : "", milli / 1000, (int)(milli % 1000));
     printf("%16s N", text);
 }
 
+/* The panel's doubles of a total: of its units, and of long sheds of its newtons. */
+static void print_doubles(const aral_extreme *e, int long_shed)
+{
+    aral_double d = long_shed ? aral_panel_newtons(e->newtons, e->remainder) : aral_panel(e->total);
+    const char *what = long_shed ? "N" : "units";
+    if (long_shed) printf("   %" PRId64 " N and %" PRIu64 " units:", e->newtons, e->remainder);
+    else printf("  ");
+    if (d.exact) printf(" exactly %.0f %s", d.low, what);
+    else printf(" between %.0f and %.0f %s", d.low, d.high, what);
+}
+
 static int panel(void)
 {
+    int long_shed = aral_open(sheet, length).worksheet.job.year >= 4;
     for (int line = 1; line <= 6; line++) {
         aral_extreme e = aral_total(sheet, length, line);
         if (e.number) {
             explain(sheet, length, (aral_answer){e.number, e.line});
             return REFUSED;
         }
-        aral_double d = aral_panel(e.total);
         printf("%s ", line_name(line));
-        print_newtons(e.total);
-        if (d.exact) printf("   exactly %.0f units", d.low);
-        else printf("   between %.0f and %.0f units", d.low, d.high);
+        print_newtons(units_of(&e));
+        print_doubles(&e, long_shed);
         printf(", wind %u, internal %u, alternatives", e.wind, e.internal);
         for (uint32_t i = 0; i < e.faces; i++) printf(" %u", e.alternative[i]);
         printf("\n");
     }
     printf("\nPositive pushes along the axis, negative against it; z is up. One newton is 20000000000 units;\n"
            "the newtons here are cut to three decimals, the units are whole.\n");
+    if (long_shed)
+        printf("In year 4 the doubles are of the newtons rounded down, and of one more where units remain.\n");
     return ACCEPTED;
 }
 
@@ -287,8 +302,8 @@ static int refuse_question(const question *q, const aral_coefficient *c)
     printf("refused with %u: ", c->number);
     if (c->number == 6) {
         refuse_place(q);
-    } else if (v[YEAR] < 1 || v[YEAR] > 3) {
-        printf("the year is %" PRId64 "; it must be 1 to 3\n", v[YEAR]);
+    } else if (v[YEAR] < 1 || v[YEAR] > 4) {
+        printf("the year is %" PRId64 "; it must be 1 to 4\n", v[YEAR]);
     } else if (!has_wind(v[KIND], v[WIND])) {
         printf("the wind is %" PRId64 "; it must be %s on ", v[WIND], winds_of(v[KIND]));
         print_roof(v[KIND], v[X]);

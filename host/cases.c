@@ -4,6 +4,7 @@
 #include "alone.h"
 #include "aralimogga.h"
 #include "edit.h"
+#include "units.h"
 #include "words.h"
 #include <inttypes.h>
 #include <stdio.h>
@@ -113,8 +114,8 @@ static part part_of(uint32_t wind, uint32_t internal, uint32_t face)
     aral_job one = alone(&job, wind, internal, face);
     for (int axis = 0; axis < 3; axis++) {
         aral_extreme greatest = total_of(&one, 2 * axis + 1), least = total_of(&one, 2 * axis + 2);
-        p.force[0][axis] = p.force[1][axis] = greatest.total;
-        p.force[least.alternative[0] - 1][axis] = least.total;
+        p.force[0][axis] = p.force[1][axis] = (int64_t)units_of(&greatest);
+        p.force[least.alternative[0] - 1][axis] = (int64_t)units_of(&least);
     }
     return p;
 }
@@ -132,22 +133,40 @@ static int next_choice(const part *p, uint32_t *alternative)
     return 0;
 }
 
+/* How wide the columns of the faces and of the totals are: those of year 4 have two numbers. */
+static int face_width(void) { return job.faces.count < 100 ? 3 : 4; }
+
+static int has_pairs(void) { return job.year >= 4; }
+
 static void print_heading(void)
 {
     printf("wind internal");
-    for (uint32_t i = 1; i <= job.faces.count; i++) printf(i < 10 ? "  f%u" : " f%u", i);
-    printf(" %20s %20s %20s\n", "x", "y", "z");
+    for (uint32_t i = 1; i <= job.faces.count; i++) {
+        char name[16];
+        snprintf(name, sizeof name, "f%u", i);
+        printf(" %*s", face_width(), name);
+    }
+    for (const char *axis = "xyz"; *axis; axis++) printf(" %*c", has_pairs() ? 23 : 20, *axis);
+    printf("\n");
+}
+
+static void print_total(units total)
+{
+    units newtons = total / NEWTON - (total % NEWTON < 0);
+    if (has_pairs()) printf(" %11" PRId64 " %11" PRId64, (int64_t)newtons, (int64_t)(total - NEWTON * newtons));
+    else printf(" %20" PRId64, (int64_t)total);
 }
 
 static void print_case(uint32_t wind, uint32_t internal, const part *p, const uint32_t *alternative)
 {
-    int64_t total[3] = {0, 0, 0};
+    units total[3] = {0, 0, 0};
     printf("%4u %8u", wind + 1, internal + 1);
     for (uint32_t i = 0; i < job.faces.count; i++) {
-        printf(" %3u", alternative[i]);
+        printf(" %*u", face_width(), alternative[i]);
         for (int axis = 0; axis < 3; axis++) total[axis] += p[i].force[alternative[i] - 1][axis];
     }
-    printf(" %20" PRId64 " %20" PRId64 " %20" PRId64 "\n", total[0], total[1], total[2]);
+    for (int axis = 0; axis < 3; axis++) print_total(total[axis]);
+    printf("\n");
 }
 
 int show_cases(const uint8_t *sheet, size_t n)

@@ -15,9 +15,9 @@
 #include <sys/mman.h>
 
 #define NEWTON INT64_C(20000000000)
-enum { MANY = 1000, MOST_ROOM = WATCHED / sizeof(int64_t) };
+enum { MANY = 1000, MOST_ROOM = 512 };
 static struct {
-    unsigned long jobs[4], calls, columns, shared[ARAL_FACES_MOST + 1], tied, below, refused[10], huge;
+    unsigned long jobs[5], over, calls, columns, shared[ARAL_FACES_MOST + 1], tied, below, refused[10], huge;
 } tally;
 static dice die;
 
@@ -65,7 +65,8 @@ static aral_answer ask(const list *l, int64_t line, size_t room, int64_t column[
 static int64_t force_of(const aral_job *j, const aral_extreme *e, size_t face, int64_t line)
 {
     aral_job one = alone(j, e->wind - 1, e->internal - 1, (uint32_t)face);
-    return total_of(&one, line).total;
+    aral_extreme force = total_of(&one, line);
+    return NEWTON * force.newtons + (int64_t)force.remainder;
 }
 
 /* Where one face got a newton more and another did not, its remainder is larger, or as large and the face earlier. */
@@ -84,8 +85,9 @@ static void check_sharing(const list *l, int64_t line, const int64_t *more, cons
 
 static void check_column(const list *l, const aral_job *j, int64_t line, const int64_t *column)
 {
-    int64_t sum = 0, forces = 0, missing = 0, more[ARAL_FACES_MOST], remainder[ARAL_FACES_MOST];
+    int64_t sum = 0, missing = 0, more[ARAL_FACES_MOST], remainder[ARAL_FACES_MOST];
     aral_extreme e = total_of(j, line);
+    __int128 forces = 0, total = (__int128)NEWTON * e.newtons + (__int128)e.remainder;
     for (size_t i = 0; i < l->n; i++) {
         int64_t force = force_of(j, &e, i, line);
         more[i] = column[i] - rounded_down(force);
@@ -97,12 +99,12 @@ static void check_column(const list *l, const aral_job *j, int64_t line, const i
         __int128 away = (__int128)NEWTON * column[i] - force;
         if (away >= NEWTON || away <= -NEWTON) differ("an entry 1 N or more from its force", l, line, l->n);
     }
-    if (forces != e.total) differ("the total and the sum of the faces' forces", l, line, l->n);
-    if (sum != rounded_down(e.total)) differ("the column's sum and the total rounded down", l, line, l->n);
+    if (forces != total) differ("the total and the sum of the faces' forces", l, line, l->n);
+    if (sum != e.newtons) differ("the column's sum and the total rounded down", l, line, l->n);
     check_sharing(l, line, more, remainder);
     tally.columns++;
     tally.shared[missing]++;
-    tally.below += e.total < 0;
+    tally.below += total < 0;
 }
 
 /* ---- Jobs ---- */
@@ -131,8 +133,8 @@ static void accepted(const aral_job *j, size_t n)
     int64_t line = pick(&die, 1, 6);
     if (ask(&l, line, n - 1, column).number != ARAL_ROOM) differ("a column one short", &l, line, n - 1);
     if (ask(&l, line, 0, column).number != ARAL_ROOM) differ("no column", &l, line, 0);
-    if (ask(&l, 0, (size_t)pick(&die, 0, 24), column).number != ARAL_RANGE) differ("line 0", &l, 0, n);
-    if (ask(&l, 7, (size_t)pick(&die, 0, 24), column).number != ARAL_RANGE) differ("line 7", &l, 7, n);
+    if (ask(&l, 0, (size_t)pick(&die, 0, 250), column).number != ARAL_RANGE) differ("line 0", &l, 0, n);
+    if (ask(&l, 7, (size_t)pick(&die, 0, 250), column).number != ARAL_RANGE) differ("line 7", &l, 7, n);
 }
 
 /* Any line and room of a job that may be refused: its own refusal is the one that writing it gets, and comes first. */
@@ -168,11 +170,12 @@ static void repeat_faces(sample *s)
 /* How many faces are handed in: those of the record, or a number that no job can have. */
 static size_t some_count(const aral_worksheet *w)
 {
-    static const size_t count[] = {0, 0, 25, 26, 32, 255, 256, 257, MANY};
-    if (pick(&die, 0, 3) == 0) return count[pick(&die, 0, 8)];
+    static const size_t count[] = {0, 0, 25, 26, 32, 240, 241, 255, 256, 257, MANY};
+    if (pick(&die, 0, 3) == 0) return count[pick(&die, 0, 10)];
     return w->job.faces.count > MANY ? MANY : w->job.faces.count;
 }
 
+/* Of a long shed only some faces are spoiled. */
 static void try_job(unsigned long i)
 {
     static sample s;
@@ -181,9 +184,10 @@ static void try_job(unsigned long i)
     if (i % 2) repeat_faces(&s);
     record_of(&s, &w);
     tally.jobs[s.year]++;
+    tally.over += s.faces > 24;
     if (i % 3 == 0) litter(&die, &w);
     accepted(&w.job, (size_t)s.faces);
-    for (int face = 0; face < s.faces; face++) {
+    for (int face = 0; face < s.faces; face += 1 + s.faces / 25) {
         aral_worksheet spoiled = w;
         spoil_face(&die, &spoiled.job.faces.entry[face]);
         refused(&spoiled, (size_t)s.faces);
@@ -194,21 +198,22 @@ static void try_job(unsigned long i)
 
 /* ---- Many faces ---- */
 
-/* As many faces as 32 bits cut to one, two or 24. They are lent, though no machine has so much memory: what is not
-   looked at takes none. Where that can't be had it is left out. */
-static void very_many(void)
+/* As many faces as 32 bits cut to one, 24, 240 or none. They are lent, though no machine has so much memory: what is
+   not looked at takes none. Where that can't be had it is left out. */
+static void very_many(int year)
 {
-    static const size_t n[] = {(UINT64_C(1) << 32) + 1, (UINT64_C(1) << 32) + 24, UINT64_C(1) << 32};
-    size_t size = n[1] * sizeof(aral_face);
+    static const size_t n[] = {
+        (UINT64_C(1) << 32) + 1, (UINT64_C(1) << 32) + 24, (UINT64_C(1) << 32) + 240, UINT64_C(1) << 32};
+    size_t size = n[2] * sizeof(aral_face);
     static sample s;
     aral_worksheet w;
     int64_t column[MOST_ROOM] = {0};
     aral_face *face = mmap(NULL, size, PROT_READ | PROT_WRITE, MAP_PRIVATE | MAP_ANONYMOUS | MAP_NORESERVE, -1, 0);
     if (face == MAP_FAILED) return;
-    make_sized(&die, &s, 2, 2, 8, 4, 16, 24);
+    make_sized(&die, &s, year, 2, 8, 4, 16, ARAL_FACES_OF(year));
     record_of(&s, &w);
     memcpy(face, w.job.faces.entry, sizeof w.job.faces.entry);
-    for (int i = 0; i < 3; i++) {
+    for (int i = 0; i < 4; i++) {
         aral_answer a = aral_column(setting_of(&w.job), face, n[i], 1, column, MOST_ROOM);
         tally.huge++;
         if (a.number != ARAL_COUNT || a.line != 2 + 2 + 9 + 5 + 17 + 1) fail("faces that 32 bits cut to a few");
@@ -227,10 +232,12 @@ int main(int argc, char **argv)
     die.state = strtoull(argv[1], NULL, 10);
     printf("seed %s\n", argv[1]);
     make_fences();
-    very_many();
+    very_many(2);
+    very_many(4);
     for (unsigned long i = 0, count = strtoul(argv[2], NULL, 10); i < count; i++) try_job(i);
-    printf("jobs of year 1: %lu, 2: %lu, 3: %lu; %lu columns that add up, %lu of them to a sum below 0; shared out",
-           tally.jobs[1], tally.jobs[2], tally.jobs[3], tally.columns, tally.below);
+    printf("jobs of year 1: %lu, 2: %lu, 3: %lu, 4: %lu, with more than 24 faces %lu; ", tally.jobs[1], tally.jobs[2],
+           tally.jobs[3], tally.jobs[4], tally.over);
+    printf("%lu columns that add up, %lu of them to a sum below 0; shared out", tally.columns, tally.below);
     unsigned long some = 0;
     for (int missing = 1; missing <= ARAL_FACES_MOST; missing++) some += tally.shared[missing];
     printf(" no newton %lu, 1 or more %lu, 10 or more", tally.shared[0], some);

@@ -11,9 +11,11 @@
 #include <stdlib.h>
 #include <string.h>
 
-enum { OUT = 2048, WALKED = 4096 };
+enum { OUT = 16384, OUT_OF_SHORT = 2048, SHORT = 1500, WALKED = 4096 };
+#define NEWTON INT64_C(20000000000)
 static struct {
     unsigned long sheets, high, single, square, accepted, refused[9], walked, questions, answered, numbers, calls;
+    unsigned long most[5], over, walked_over; /* accepted by year; of more than 24 faces, and of these walked */
     unsigned long choosing[ARAL_FACES_MOST + 1], idle; /* accepted, by how many faces choose; and with idle ones */
 } tally;
 static dice die;
@@ -37,8 +39,16 @@ static void differ(const char *what, const text *t)
 
 static int same_extreme(const aral_extreme *p, const aral_extreme *q)
 {
-    return p->number == q->number && p->line == q->line && p->total == q->total && p->wind == q->wind
-        && p->internal == q->internal && p->faces == q->faces && !memcmp(p->alternative, q->alternative, 24);
+    return p->number == q->number && p->line == q->line && p->total == q->total && p->newtons == q->newtons
+        && p->remainder == q->remainder && p->wind == q->wind && p->internal == q->internal && p->faces == q->faces
+        && !memcmp(p->alternative, q->alternative, sizeof p->alternative);
+}
+
+/* That newtons and remainder are right by themselves: those of the total, where there is one. */
+static int right_pair(const aral_extreme *e, int64_t year)
+{
+    if (e->remainder >= (uint64_t)NEWTON) return 0;
+    return year < 4 ? (__int128)NEWTON * e->newtons + (__int128)e->remainder == e->total : e->total == 0;
 }
 
 static int same_text(aral_text p, aral_text q)
@@ -50,15 +60,18 @@ static int same_text(aral_text p, aral_text q)
 
 typedef aral_text writes(const uint8_t *, size_t, uint8_t *, size_t);
 
+/* No sheet that is as short as this, and no report of it, is longer than OUT_OF_SHORT: it has less than 125 faces. */
+static size_t out_of(const text *t) { return t->length < SHORT ? OUT_OF_SHORT : OUT; }
+
 /* Both write into buffers that held the same bytes; answers and every byte must agree. */
 static aral_text compare_writing(const char *what, writes *ours, writes *theirs, const text *t, size_t room)
 {
     static uint8_t mine[OUT], other[OUT];
-    memset(mine, (int)(roll(&die) & 255), OUT);
-    memcpy(other, mine, OUT);
+    memset(mine, (int)(roll(&die) & 255), out_of(t));
+    memcpy(other, mine, out_of(t));
     aral_text p = ours(t->byte, t->length, mine, room), q = theirs(t->byte, t->length, other, room);
     tally.calls++;
-    if (!same_text(p, q) || memcmp(mine, other, OUT)) {
+    if (!same_text(p, q) || memcmp(mine, other, out_of(t))) {
         printf("library %u %u %" PRIu64 ", plain %u %u %" PRIu64 ", room %zu\n", p.number, p.line, p.length, q.number,
                q.line, q.length, room);
         differ(what, t);
@@ -71,23 +84,27 @@ static aral_text compare_writing(const char *what, writes *ours, writes *theirs,
 
 static void compare_rooms(const char *what, writes *ours, writes *theirs, const text *t)
 {
-    aral_text whole = compare_writing(what, ours, theirs, t, OUT);
+    aral_text whole = compare_writing(what, ours, theirs, t, out_of(t));
     if (whole.number) {
         compare_writing(what, ours, theirs, t, 0);
         return;
     }
     compare_writing(what, ours, theirs, t, whole.length);
     if (compare_writing(what, ours, theirs, t, whole.length - 1).number != 7) differ("a room one short", t);
-    compare_writing(what, ours, theirs, t, (size_t)pick(&die, 0, OUT));
+    compare_writing(what, ours, theirs, t, (size_t)pick(&die, 0, (int64_t)out_of(t)));
 }
+
+/* The year of a sheet that is accepted: one digit on line 2, after `V 1`. */
+static int year_of(const text *t) { return t->length > 5 && t->byte[0] == 'V' ? t->byte[4] - '0' : 1; }
 
 static void compare_total(const text *t, int64_t line)
 {
     aral_extreme p = aral_total(t->byte, t->length, line), q = plain_total(t->byte, t->length, line);
     tally.calls++;
-    if (same_extreme(&p, &q)) return;
-    printf("line %" PRId64 ": library %u %u %" PRId64 ", plain %u %u %" PRId64 "\n", line, p.number, p.line, p.total,
-           q.number, q.line, q.total);
+    if (same_extreme(&p, &q) && right_pair(&p, year_of(t))) return;
+    printf("line %" PRId64 ": library %u %u %" PRId64 " %" PRId64 " %" PRIu64 ", ", line, p.number, p.line, p.total,
+           p.newtons, p.remainder);
+    printf("plain %u %u %" PRId64 " %" PRId64 " %" PRIu64 "\n", q.number, q.line, q.total, q.newtons, q.remainder);
     differ("a total", t);
 }
 
@@ -143,6 +160,7 @@ static aral_answer compare_sheet(const text *t)
     tally.high += t->length > 0 && t->byte[0] == 'V';
     if (p.number == 0) tally.accepted++;
     else if (p.number <= 8) tally.refused[p.number]++;
+    if (p.number == 0) tally.most[year_of(t)]++;
     compare_rooms("a sheet written again", aral_rewrite, plain_rewrite, t);
     compare_rooms("a report", aral_report, plain_report, t);
     compare_engines(t, p);
@@ -157,8 +175,10 @@ static aral_answer compare_sheet(const text *t)
 static void compare_walk(const sample *s, const text *t)
 {
     aral_extreme best[6];
+    tally.over += s->faces > 24;
     if (!walk(s, WALKED, best)) return;
     tally.walked++;
+    tally.walked_over += s->faces > 24;
     for (int k = 0; k < 6; k++) {
         aral_extreme p = aral_total(t->byte, t->length, k + 1), q = plain_total(t->byte, t->length, k + 1);
         if (!same_extreme(&q, &best[k])) differ("the plain calculator and the walk through every case", t);
@@ -247,7 +267,7 @@ static void compare_questions(unsigned long count)
         sample s;
         make_building(&die, &s);
         int64_t direction = direction_of(&die, pick(&die, 0, 3) ? s.kind : 6), internal = pick(&die, -100, 100);
-        int64_t year = pick(&die, 0, 3) ? s.year : pick(&die, -1, 4);
+        int64_t year = pick(&die, 0, 3) ? s.year : pick(&die, -1, 5);
         int64_t *number[] = {&s.h, &s.a, &s.b, &s.density, &s.kind, &s.x, &direction, &internal, &year};
         for (int64_t slips = pick(&die, 0, 2); slips > 0; slips--) {
             int64_t *slip = number[pick(&die, 0, 8)];
@@ -271,8 +291,8 @@ static void ask_all(const sample *s)
 static void compare_tables(void)
 {
     static const int64_t tall[] = {100, 500, 501, 1500, 1501, 6000}, wide[] = {1000, 1001, 1500, 1501, 4000};
-    for (int i = 0; i < 90; i++) {
-        sample s = {.year = 1 + i % 3, .h = tall[i / 15], .a = wide[i / 3 % 5], .b = 1000, .density = 1250, .kind = 1};
+    for (int i = 0; i < 120; i++) {
+        sample s = {.year = 1 + i % 4, .h = tall[i / 20], .a = wide[i / 4 % 5], .b = 1000, .density = 1250, .kind = 1};
         for (s.x = i % 5; s.x <= 604; s.x += 5) ask_all(&s);
         s.kind = 5;
         for (s.x = 296 + i % 5; s.x <= 904; s.x += 5) ask_all(&s);
@@ -313,6 +333,41 @@ static int right_doubles(int64_t n, const aral_double *d)
     return low < exact && exact < high && next_above(d->low) == d->high;
 }
 
+/* That those of newtons and a remainder are right by themselves: no double lies between low and the newtons, nor
+   between the newtons, or one more where something remains, and high. */
+static int right_newtons(int64_t newtons, uint64_t remainder, const aral_double *d)
+{
+    long double low = d->low, high = d->high, least = (long double)newtons, most = least + (remainder != 0);
+    if ((d->low == 0 && signbit(d->low)) || (d->high == 0 && signbit(d->high))) return 0;
+    if (d->exact) return d->exact == 1 && remainder == 0 && low == least && high == least;
+    if (remainder == 0 && (long double)(double)newtons == least) return 0;
+    return low <= least && next_above(d->low) > least && high >= most && next_below(d->high) < most;
+}
+
+static aral_pair some_pair(void)
+{
+    static const uint64_t remainder[] = {0, 1, NEWTON - 1, NEWTON, UINT64_MAX};
+    return (aral_pair){some_number(), pick(&die, 0, 1) ? remainder[pick(&die, 0, 4)] : roll(&die) >> pick(&die, 0, 63)};
+}
+
+static void compare_pairs(void)
+{
+    aral_pair x = some_pair(), y = some_pair(), z = some_pair();
+    aral_double p = aral_panel_newtons(x.newtons, x.remainder), q = plain_panel_newtons(x.newtons, x.remainder);
+    aral_point v = aral_chart_newtons(x, y, z), w = plain_chart_newtons(x, y, z);
+    tally.calls += 2;
+    if (p.exact != q.exact || memcmp(&p.low, &q.low, 2 * sizeof p.low) || !right_newtons(x.newtons, x.remainder, &p)) {
+        printf("%" PRId64 " and %" PRIu64 ": library %u %a %a, ", x.newtons, x.remainder, p.exact, p.low, p.high);
+        printf("plain %u %a %a\n", q.exact, q.low, q.high);
+        differ("the doubles of newtons", NULL);
+    }
+    if (memcmp(&v, &w, sizeof v)) {
+        printf("%" PRId64 " %" PRIu64 ", %" PRId64 " %" PRIu64 ", ", x.newtons, x.remainder, y.newtons, y.remainder);
+        printf("%" PRId64 " %" PRIu64 "\n", z.newtons, z.remainder);
+        differ("a chart point of newtons", NULL);
+    }
+}
+
 static void compare_digits(int64_t n, size_t room)
 {
     uint8_t mine[40], other[40];
@@ -345,6 +400,7 @@ static void compare_numbers(unsigned long count)
             differ("a chart point", NULL);
         }
         compare_digits(x, (size_t)pick(&die, 0, 24));
+        compare_pairs();
     }
 }
 
@@ -374,7 +430,10 @@ int main(int argc, char **argv)
     printf("%lu accepted, refused by number", tally.accepted);
     for (int number = 1; number <= 8; number++)
         if (number != ARAL_ROOM) printf(" %d: %lu", number, tally.refused[number]);
-    printf("\n%lu jobs walked through every case\n", tally.walked);
+    printf("\naccepted of year 1: %lu, 2: %lu, 3: %lu, 4: %lu\n", tally.most[1], tally.most[2], tally.most[3],
+           tally.most[4]);
+    printf("%lu jobs walked through every case; of %lu with more than 24 faces %lu\n", tally.walked, tally.over,
+           tally.walked_over);
     print_choosing();
     printf("%lu questions, %lu of them answered; %lu numbers; %lu calls compared: all the same\n", tally.questions,
            tally.answered, tally.numbers, tally.calls);

@@ -7,7 +7,7 @@
 #include <string.h>
 
 typedef struct { aral_extreme line[6]; } lines;
-static struct { unsigned long jobs[4], winds, unnamed, dropped, alike, kept[9]; } tally;
+static struct { unsigned long jobs[5], over, winds, unnamed, dropped, alike, kept[9]; } tally;
 static dice die;
 
 static void differ(const char *what, const sample *s, int wind)
@@ -44,7 +44,8 @@ static int stay(const lines *before, const lines *after, int wind)
     for (int k = 0; k < 6; k++) {
         aral_extreme p = before->line[k], q = after->line[k];
         p.wind -= p.wind > (uint32_t)wind + 1;
-        if (q.number || p.total != q.total || p.wind != q.wind || p.internal != q.internal || p.faces != q.faces
+        if (q.number || p.total != q.total || p.newtons != q.newtons || p.remainder != q.remainder) return 0;
+        if (p.wind != q.wind || p.internal != q.internal || p.faces != q.faces
             || memcmp(p.alternative, q.alternative, sizeof p.alternative))
             return 0;
     }
@@ -110,12 +111,13 @@ static void repeat_winds(sample *s)
 static void try_job(unsigned long i)
 {
     static sample s;
-    int year = 1 + (int)(i % 3);
+    int year = 1 + (int)(i % 4);
     make_sized(&die, &s, year, pick(&die, 0, 6), (int)pick(&die, 2, 8), (int)pick(&die, 1, 4),
-               year == 1 ? 0 : (int)pick(&die, 1, 16), (int)pick(&die, 1, 24));
+               year == 1 ? 0 : (int)pick(&die, 1, 16), some_faces(&die, year));
     if (pick(&die, 0, 1)) repeat_winds(&s);
     lines all = lines_of(&s);
     tally.jobs[year]++;
+    tally.over += s.faces > 24;
     tally.winds += (unsigned long)s.winds;
     check_alike(&s, &all);
     for (int wind = 0; wind < s.winds; wind++) {
@@ -137,8 +139,10 @@ int main(int argc, char **argv)
     die.state = strtoull(argv[1], NULL, 10);
     printf("seed %s\n", argv[1]);
     for (unsigned long i = 0, count = strtoul(argv[2], NULL, 10); i < count; i++) try_job(i);
-    printf("jobs of year 1: %lu, 2: %lu, 3: %lu; of %lu winds %lu are named by no line; pairs of winds alike %lu\n",
-           tally.jobs[1], tally.jobs[2], tally.jobs[3], tally.winds, tally.unnamed, tally.alike);
+    printf("jobs of year 1: %lu, 2: %lu, 3: %lu, 4: %lu, with more than 24 faces %lu\n", tally.jobs[1], tally.jobs[2],
+           tally.jobs[3], tally.jobs[4], tally.over);
+    printf("of %lu winds %lu are named by no line; pairs of winds alike %lu\n", tally.winds, tally.unnamed,
+           tally.alike);
     printf("jobs by the winds that are left without them");
     for (int winds = 1; winds <= 6; winds++) printf(" %d: %lu", winds, tally.kept[winds]);
     printf("\n%lu winds taken out, by themselves and one after another: every line stays\n", tally.dropped);

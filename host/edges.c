@@ -8,6 +8,7 @@
 #include <stdlib.h>
 #include <string.h>
 
+enum { LONG = 1500 }; /* bytes that only a text of year 4 has */
 static unsigned long calls;
 
 typedef aral_text writes(const uint8_t *, size_t, uint8_t *, size_t);
@@ -26,7 +27,8 @@ static void write_at(writes *ours, writes *theirs, const uint8_t *sheet, size_t 
 
 static void write_rooms(writes *ours, writes *theirs, const uint8_t *sheet, size_t n, size_t length)
 {
-    for (size_t room = 0; room <= length + 2; room++) {
+    size_t step = length > LONG ? 9 : 1;
+    for (size_t room = 0; room <= length + 2; room += room < 2 || room + 12 > length ? 1 : step) {
         write_at(ours, theirs, sheet, n, room, 1);
         write_at(ours, theirs, sheet, n, room, 0);
     }
@@ -67,6 +69,7 @@ static void read_at(const uint8_t *bytes, size_t n, int after)
     calls += 2;
     if (p.number != q.number || p.line != q.line) fail("reading at an edge");
     if (e.number != f.number || e.line != f.line || e.total != f.total) fail("a total at an edge");
+    if (e.newtons != f.newtons || e.remainder != f.remainder) fail("newtons at an edge");
     write_at(aral_rewrite, plain_rewrite, sheet, n, ARAL_SHEET_MOST, after);
     write_at(aral_report, plain_report, sheet, n, ARAL_SHEET_MOST, after);
     write_at(aral_report, plain_report, sheet, n, 0, after);
@@ -74,11 +77,13 @@ static void read_at(const uint8_t *bytes, size_t n, int after)
     write_at(aral_plain, plain_plain, sheet, n, 0, after);
 }
 
-/* Every part of the sheet from its start, and every room around each text's length. */
+/* Every part of the sheet from its start, and every room around each text's length; but of a long shed, whose face
+   lines are much alike, every ninth. */
 static void every_length(const text *t)
 {
     static uint8_t out[WATCHED];
-    for (size_t n = 0; n <= t->length; n++) {
+    size_t step = t->length > LONG ? 9 : 1;
+    for (size_t n = t->length % step; n <= t->length; n += step) {
         read_at(t->byte, n, 1);
         read_at(t->byte, n, 0);
     }
@@ -101,17 +106,19 @@ static void every_digit(void)
 
 /* Every count and every field of a sheet as long as it may be. Of all kinds 6 has the longest: its directions and marks
    have one byte more, 8 and 24 of them, and x one less than the 4 bytes of curved eaves. Years 2 and 3 have one form;
-   those of year 3 here are square. */
-enum { LONGEST = 6 };
+   those of years 3 and 4 here are square. In year 4 there are 216 faces more, of 35 bytes or with kind 6 of 36, and
+   their count has a byte more. */
+enum { LONGEST = 8 };
 static const struct { int year, kind, x, direction; size_t length; } longest_of[LONGEST] = {
     {1, 4, 1200, 90, 827}, {1, 6, 300, 180, 858}, {2, 4, 1200, 90, 1158}, {2, 6, 300, 180, 1189},
-    {3, 4, 1200, 90, 1158}, {3, 6, 300, 180, 1189}};
+    {3, 4, 1200, 90, 1158}, {3, 6, 300, 180, 1189}, {4, 4, 1200, 90, 8719}, {4, 6, 300, 180, ARAL_SHEET_MOST}};
 
 static void longest(int which, text *t)
 {
-    static sample s = {.h = 12000, .b = 10000, .density = 1250, .winds = 8, .internals = 4, .faces = 24};
+    static sample s = {.h = 12000, .b = 10000, .density = 1250, .winds = 8, .internals = 4};
     s.year = longest_of[which].year;
-    s.a = s.year == 3 ? 10000 : 12000;
+    s.faces = ARAL_FACES_OF(s.year);
+    s.a = s.year >= 3 ? 10000 : 12000;
     s.kind = longest_of[which].kind;
     s.x = longest_of[which].x;
     s.steps = s.year == 1 ? 0 : 16;
@@ -124,7 +131,7 @@ static void longest(int which, text *t)
         s.step[i].height = 10000 + i;
         s.step[i].factor = 1000;
     }
-    for (int i = 0; i < 24; i++) {
+    for (int i = 0; i < s.faces; i++) {
         s.zone[i] = 'F';
         s.mark[i] = longest_of[which].direction;
         s.height[i] = 10015;
@@ -135,7 +142,7 @@ static void longest(int which, text *t)
     if (aral_read(t->byte, t->length).number) fail("the longest sheet");
 }
 
-/* On a flat roof all 24 faces of the longest sheet choose. */
+/* On a flat roof all faces of the longest sheet choose. */
 static void no_pointers(const text *t, int flat)
 {
     aral_answer a = aral_read(NULL, 0);

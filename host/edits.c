@@ -14,7 +14,9 @@
 
 enum { ADD, REPLACE, TAKE_OUT, EDITS };
 static const char *const names[EDITS] = {"added", "replaced", "taken out"};
-static struct { unsigned long opened, walked, steps, done[EDITS][10], anew, texts, shown[2], plain[2]; } tally;
+static struct {
+    unsigned long opened, walked, steps, done[EDITS][10], anew, texts, shown[2], shown_anew, plain[2], most;
+} tally;
 static dice die;
 
 static void show_worksheet(const aral_worksheet *w)
@@ -57,9 +59,10 @@ static void compare_edited(const char *what, const aral_worksheet *w, const aral
         differ(what, w);
     }
     if (same_worksheet(&p->worksheet, &q->worksheet)) return;
-    int same = same_fields(&p->worksheet, &q->worksheet), sum = same - JOB_FIELDS;
+    int same = same_fields(&p->worksheet, &q->worksheet), sum = (same - JOB_FIELDS) / 2;
     printf("both answer %u %u; after it field %d differs", p->number, p->line, same);
-    if (sum >= 0) printf(", %c %s of cell %d", "xyz"[sum % 6 / 2], sum % 2 ? "least" : "greatest", sum / 6);
+    if (same >= JOB_FIELDS)
+        printf(", %c %s of cell %d", "xyz"[sum % 6 / 2], sum % 2 ? "least" : "greatest", sum / 6);
     printf("; of the library and of the plain calculator:\n");
     show_worksheet(&p->worksheet);
     show_worksheet(&q->worksheet);
@@ -92,7 +95,8 @@ static aral_text compare_rooms(const char *what, writes *ours, writes *theirs, c
 {
     static uint8_t other[WATCHED];
     aral_text whole = compare_text(what, ours, theirs, w, WATCHED, text), none = ours(*w, NULL, 0);
-    compare_text(what, ours, theirs, w, (size_t)pick(&die, 0, ARAL_SHEET_MOST), other);
+    int64_t about = whole.number ? 1000 : (int64_t)whole.length;
+    compare_text(what, ours, theirs, w, (size_t)pick(&die, 0, about + about / 4), other);
     if (whole.number) {
         if (none.number != whole.number || none.line != whole.line) differ("a refusal and one without a buffer", w);
         return whole;
@@ -117,7 +121,7 @@ static void compare_engines(const aral_worksheet *w, const uint8_t *sheet, size_
 }
 
 /* What is written is a sheet that opens as the same job. Where the sums are those of its faces, as they must be where
-   they were kept from an accepted job on, its report is what is shown. */
+   they were kept from an accepted job on, its report is what is shown; and so where one is none that a job can have. */
 static void compare_texts(const aral_worksheet *w, int kept)
 {
     static uint8_t shown[WATCHED], written[WATCHED], report[WATCHED];
@@ -132,7 +136,8 @@ static void compare_texts(const aral_worksheet *w, int kept)
     if (again.number || same < JOB_FIELDS) differ("a worksheet and its sheet opened", w);
     if (kept && same < RECORD_FIELDS) differ("the sums kept and those of the faces", w);
     tally.shown[same == RECORD_FIELDS]++;
-    if (same < RECORD_FIELDS) return;
+    tally.shown_anew += no_jobs(&w->sums, w->job.year);
+    if (same < RECORD_FIELDS && !no_jobs(&w->sums, w->job.year)) return;
     aral_text r = aral_report(written, t.length, report, sizeof report);
     if (r.number || r.length != s.length || memcmp(report, shown, r.length))
         differ("what is shown and the report of the sheet written afresh", w);
@@ -167,9 +172,11 @@ static void compare_walk(const sample *s, aral_worksheet *w)
             one.internal[0] = s->internal[internal];
             if (!walk(&one, 300, best)) continue;
             tally.walked++;
-            for (int k = 0; k < 6; k++)
-                if (*sum_at(&w->sums, 6 * (4 * wind + internal) + k) != best[k].total)
+            for (int k = 0; k < 6; k++) {
+                aral_pair sum = *sum_at(&w->sums, 6 * (4 * wind + internal) + k);
+                if (sum.newtons != best[k].newtons || sum.remainder != best[k].remainder)
                     differ("the sums of a sheet opened and all its cases walked", w);
+            }
         }
 }
 
@@ -187,7 +194,7 @@ static aral_face new_face(sample *s)
 /* A number of a face: mostly of one that is there. */
 static int64_t some_face(const aral_worksheet *w)
 {
-    int64_t count = w->job.faces.count > 24 ? 24 : w->job.faces.count;
+    int64_t count = w->job.faces.count > ARAL_FACES_MOST ? ARAL_FACES_MOST : w->job.faces.count;
     return pick(&die, 0, 4) ? pick(&die, 1, count ? count : 1) : edge_of(&die, count);
 }
 
@@ -217,7 +224,8 @@ static int step(sample *s, aral_worksheet *w, int liked)
     call(edit, w, face, new_face(s), &p, &q);
     tally.steps++;
     tally.done[edit][p.number < 10 ? p.number : 0]++;
-    tally.anew += !p.number && too_large(&w->sums);
+    tally.anew += !p.number && no_jobs(&w->sums, w->job.year);
+    tally.most += !p.number && p.worksheet.job.faces.count > 24;
     compare_edited(names[edit], w, &p, &q);
     if (p.number && !same_worksheet(&p.worksheet, w)) differ("a refused edit's worksheet and the one handed in", w);
     *w = p.worksheet;
@@ -282,8 +290,9 @@ int main(int argc, char **argv)
             if (number != ARAL_ROOM) printf(" %d: %lu", number, tally.done[edit][number]);
         printf("\n");
     }
-    printf("shown by the sums of the faces %lu, by others %lu; %lu edits of sums too large, %lu cells walked\n",
-           tally.shown[1], tally.shown[0], tally.anew, tally.walked);
+    printf("shown by the sums of the faces %lu, by others %lu; with sums that no job has %lu shown, %lu edited\n",
+           tally.shown[1], tally.shown[0], tally.shown_anew, tally.anew);
+    printf("%lu cells walked; %lu edits left more than 24 faces\n", tally.walked, tally.most);
     printf("shown by the plain engine too %lu, with more faces than it takes %lu\n", tally.plain[1], tally.plain[0]);
     printf("%lu sheets opened, %lu edits, %lu texts: all the same\n", tally.opened, tally.steps, tally.texts);
     return 0;

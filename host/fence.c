@@ -10,7 +10,9 @@
 #include <sys/mman.h>
 
 enum { PAGE = 65536, FILL = 0xa5 }; /* PAGE: a multiple of any machine's page */
+enum { BESIDE = 4096 };             /* how much beside a lent room is looked at */
 static fence input, output;
+static size_t looked_at;            /* how much of the output is: the room lent last, and what is beside it */
 
 void fail(const char *what)
 {
@@ -83,9 +85,13 @@ void check_within(fence f, size_t watched, const uint8_t *at, int after, const v
     if (!filled(from, at) || !filled(at + length, from + watched)) fail("a byte that should have stayed");
 }
 
-uint8_t *lend_room(size_t room, int after) { return lend_within(output, WATCHED, room, after); }
+uint8_t *lend_room(size_t room, int after)
+{
+    looked_at = room + BESIDE;
+    return lend_within(output, looked_at, room, after);
+}
 
 void check_room(const uint8_t *at, int after, const uint8_t *text, size_t length)
 {
-    check_within(output, WATCHED, at, after, text, length);
+    check_within(output, looked_at, at, after, text, length);
 }

@@ -6,7 +6,7 @@
 #include <stdint.h>
 
 typedef struct { uint8_t *start, *end; } fence; /* bytes between two pages that can't be touched */
-enum { WATCHED = 4096 };                        /* the most that is lent as a room */
+enum { WATCHED = 16384 };                       /* the most that is lent as a room */
 
 void fail(const char *what);                    /* says so, and ends the program */
 void make_fences(void);                         /* what the rest needs; from then on a touched page fails */

@@ -6,14 +6,13 @@
 #include "aralimogga.h"
 #include "edit.h"
 #include "setting.h"
+#include "units.h"
 #include "words.h"
 #include <inttypes.h>
 #include <stdio.h>
 
-#define NEWTON INT64_C(20000000000)
-
 /* A line of the table: a force, what it is rounded down and what remains, and the newtons of the column. */
-typedef struct { int64_t force, down, remainder, newtons; } entry;
+typedef struct { units force; int64_t down, remainder, newtons; } entry;
 
 static aral_answer newtons_of(const aral_job *j, int64_t line, int64_t column[ARAL_FACES_MOST])
 {
@@ -24,9 +23,9 @@ static entry entry_of(const aral_job *j, const aral_extreme *e, int64_t line, ui
 {
     int64_t down[ARAL_FACES_MOST] = {0};
     aral_job one = alone(j, e->wind - 1, e->internal - 1, face);
-    int64_t force = total_of(&one, line).total;
+    aral_extreme own = total_of(&one, line);
     newtons_of(&one, line, down);
-    return (entry){force, down[0], force - NEWTON * down[0], newtons};
+    return (entry){units_of(&own), down[0], (int64_t)(units_of(&own) - (units)NEWTON * down[0]), newtons};
 }
 
 static void print_heading(const aral_job *j, const aral_extreme *e, int64_t line)
@@ -42,7 +41,8 @@ static void print_heading(const aral_job *j, const aral_extreme *e, int64_t line
 /* `more` of the newtons were missing. */
 static void print_entry(const entry *t, int64_t more)
 {
-    printf(" %20" PRId64 " %12" PRId64 " %12" PRId64, t->force, t->down, t->remainder);
+    char room[UNITS_ROOM];
+    printf(" %20s %12" PRId64 " %12" PRId64, text_of(t->force, room), t->down, t->remainder);
     if (more > 0) printf(" %+3" PRId64, more);
     else printf("    ");
     printf(" %10" PRId64 "\n", t->newtons);
@@ -53,7 +53,6 @@ static void print_entry(const entry *t, int64_t more)
 static int64_t print_table(const aral_job *j, const aral_extreme *e, int64_t line, const int64_t *column)
 {
     entry sum = {0, 0, 0, 0};
-    int64_t down = e->total / NEWTON - (e->total % NEWTON < 0);
     for (uint32_t i = 0; i < j->faces.count; i++) {
         entry t = entry_of(j, e, line, i, column[i]);
         printf("%4u %4c %11u", i + 1, j->faces.entry[i].zone, e->alternative[i]);
@@ -63,7 +62,7 @@ static int64_t print_table(const aral_job *j, const aral_extreme *e, int64_t lin
     printf("%-21s", "sum");
     print_entry(&sum, sum.newtons - sum.down);
     printf("%-21s", "total");
-    print_entry(&(entry){e->total, down, e->total - NEWTON * down, down}, 0);
+    print_entry(&(entry){units_of(e), e->newtons, (int64_t)e->remainder, e->newtons}, 0);
     return sum.newtons - sum.down;
 }
 

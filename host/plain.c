@@ -5,8 +5,10 @@
 #include "step.h"
 #include <string.h>
 
-enum { WINDS = 8, INTERNALS = 4, STEPS = 16, FACES = 24, TURNS = 5 };
-enum { LAST_YEAR = 3 };   /* the sheets of years 2 to here open with V and have one form */
+enum { WINDS = 8, INTERNALS = 4, STEPS = 16, FACES = 240, TURNS = 5 };
+enum { FEW = 24 };         /* the most faces of a sheet up to year 3: their forces add up within 64 bits */
+enum { LONG = 4 };         /* the first year of long sheds: up to FACES faces, and totals of two numbers */
+enum { LAST_YEAR = 4 };    /* the sheets of years 2 to here open with V and have one form */
 enum { EVERY = 99999999 }; /* a face's mark `-`, for every wind: no number in form is so large */
 enum { FORM = 1, COUNT, RANGE, RATIO, ROOF, PLACE, ROOM, HEIGHT, CASES = 10 };
 enum { NO_ROOF, GABLE, STRAIGHT, PARAPET, CURVED, MANSARD, SINGLE };
@@ -27,6 +29,9 @@ static int within(int64_t value, int64_t least, int64_t greatest) { return least
 
 /* Whether the job has a profile, and a height for each face. */
 static int profiled(const job *j) { return j->year >= 2; }
+
+/* The most faces that a job of a year may have. */
+static int most_faces(int year) { return year >= LONG ? FACES : FEW; }
 
 /* ---- The printed tables, in hundredths ---- */
 
@@ -355,7 +360,7 @@ static int read_face(reader *r, const job *j, face *f)
 
 static int read_faces(reader *r, job *j)
 {
-    int fault = read_count(r, 'F', FACES, &j->faces);
+    int fault = read_count(r, 'F', most_faces(j->year), &j->faces);
     for (int i = 0; !fault && i < j->faces; i++) fault = read_face(r, j, &j->face[i]);
     return fault;
 }
@@ -457,7 +462,7 @@ static void put_sheet(writer *w, const job *j)
 /* What a face offers under one direction, by the direction's eighths of a turn: no alternative where it is marked for
    another. */
 typedef struct { int count, value[2]; } offer;
-typedef struct { int64_t total; int wind, internal; } best;
+typedef struct { units total; int wind, internal; } best;
 typedef struct { offer offer[FACES][TURNS]; int64_t weight[WINDS][FACES][3]; best best[6]; } worst;
 
 static int turn_of(int direction) { return direction / 45; }
@@ -507,13 +512,14 @@ static void weigh(const job *j, worst *w)
     }
 }
 
-/* The greatest and the least total on each axis under one wind and internal: each face chooses by itself. Inline, so
-   that a report, which the benchmark measures, is not slowed by the sums, which it does not need. */
-static inline void sum_case(const job *j, const worst *w, int wind, int internal, int64_t sum[6])
+/* What faces `from` up to `to` bring to the greatest and the least total on each axis under one wind and internal: each
+   chooses by itself. So few are added up here that 64 bits hold it. Inline, so that a report, which the benchmark
+   measures, is not slowed by the sums, which it does not need. */
+static inline void sum_few(const job *j, const worst *w, int wind, int internal, int from, int to, int64_t sum[6])
 {
     int turn = turn_of(j->direction[wind]), inside = 10 * j->internal[internal];
     memset(sum, 0, 6 * sizeof *sum);
-    for (int i = 0; i < j->faces; i++) {
+    for (int i = from; i < to; i++) {
         const offer *o = &w->offer[i][turn];
         if (o->count == 0) continue;
         for (int axis = 0; axis < 3; axis++) {
@@ -525,11 +531,22 @@ static inline void sum_case(const job *j, const worst *w, int wind, int internal
     }
 }
 
+/* The greatest and the least total on each axis under one wind and internal. */
+static inline void sum_case(const job *j, const worst *w, int wind, int internal, units sum[6])
+{
+    for (int k = 0; k < 6; k++) sum[k] = 0;
+    for (int from = 0; from < j->faces; from += FEW) {
+        int64_t part[6];
+        sum_few(j, w, wind, internal, from, from + FEW < j->faces ? from + FEW : j->faces, part);
+        for (int k = 0; k < 6; k++) sum[k] += part[k];
+    }
+}
+
 /* Report lines 0, 2 and 4 want the greatest, the others the least. */
-static int beats(int k, int64_t total, int64_t than) { return k % 2 == 0 ? total > than : total < than; }
+static int beats(int k, units total, units than) { return k % 2 == 0 ? total > than : total < than; }
 
 /* Takes the sums of a wind and internal where they are the first, or further out than all before. */
-static void keep_best(worst *w, const int64_t sum[6], int wind, int internal)
+static void keep_best(worst *w, const units sum[6], int wind, int internal)
 {
     for (int k = 0; k < 6; k++) {
         best found = {sum[k], wind, internal};
@@ -543,7 +560,7 @@ static void find_worst(const job *j, worst *w)
     weigh(j, w);
     for (int wind = 0; wind < j->winds; wind++)
         for (int internal = 0; internal < j->internals; internal++) {
-            int64_t sum[6];
+            units sum[6];
             sum_case(j, w, wind, internal, sum);
             keep_best(w, sum, wind, internal);
         }
@@ -560,12 +577,38 @@ static int alternative(const job *j, const worst *w, int k, int i)
     return beats(k, second, first) ? 2 : 1;
 }
 
-/* A line of the report up to its alternatives. Inline for the same reason as sum_case. */
-static inline void put_best(writer *out, int k, const best *b)
+/* ---- Newtons and remainders ---- */
+
+#define NEWTON INT64_C(20000000000)
+
+aral_pair ENTRY(pair_of)(units total)
+{
+    int64_t newtons = (int64_t)(total / NEWTON), over = (int64_t)(total % NEWTON);
+    return over < 0 ? (aral_pair){newtons - 1, (uint64_t)(over + NEWTON)} : (aral_pair){newtons, (uint64_t)over};
+}
+
+units ENTRY(units_of)(aral_pair p) { return (units)NEWTON * p.newtons + p.remainder; }
+
+/* A total as the report of a year has it. */
+static void put_total(writer *out, int year, units total)
+{
+    if (year < LONG) {
+        put_after_space(out, (int64_t)total);
+        return;
+    }
+    aral_pair p = ENTRY(pair_of)(total);
+    put_after_space(out, p.newtons);
+    put_after_space(out, (int64_t)p.remainder);
+}
+
+/* ---- The report ---- */
+
+/* A line of the report up to its alternatives. Inline for the same reason as sum_few. */
+static inline void put_best(writer *out, int year, int k, const best *b)
 {
     put(out, "xyz"[k / 2]);
     for (const char *side = k % 2 == 0 ? " max" : " min"; *side; side++) put(out, *side);
-    put_after_space(out, b->total);
+    put_total(out, year, b->total);
     put_after_space(out, b->wind + 1);
     put_after_space(out, b->internal + 1);
 }
@@ -573,7 +616,7 @@ static inline void put_best(writer *out, int k, const best *b)
 static void put_report(writer *out, const job *j, const worst *w)
 {
     for (int k = 0; k < 6; k++) {
-        put_best(out, k, &w->best[k]);
+        put_best(out, j->year, k, &w->best[k]);
         for (int i = 0; i < j->faces; i++) put_after_space(out, alternative(j, w, k, i));
         put(out, '\n');
     }
@@ -585,8 +628,8 @@ static void put_report(writer *out, const job *j, const worst *w)
 enum { CHOICES = 8 };
 
 /* A case: its wind and internal coefficient, from 0, and each face's alternative, from 1. */
-typedef struct { int wind, internal, alternative[FACES]; } one_case;
-typedef struct { int64_t total; one_case first; } reached;
+typedef struct { int wind, internal; uint8_t alternative[FACES]; } one_case;
+typedef struct { units total; one_case first; } reached;
 
 /* A face has one alternative, number 1, where it adds nothing. */
 static int alternatives(const job *j, const worst *w, int wind, int i)
@@ -622,10 +665,10 @@ static int next_case(const job *j, const worst *w, one_case *c)
     return ++c->wind < j->winds;
 }
 
-static void total_case(const job *j, const worst *w, const one_case *c, int64_t total[3])
+static void total_case(const job *j, const worst *w, const one_case *c, units total[3])
 {
     int turn = turn_of(j->direction[c->wind]), inside = 10 * j->internal[c->internal];
-    memset(total, 0, 3 * sizeof *total);
+    for (int axis = 0; axis < 3; axis++) total[axis] = 0;
     for (int i = 0; i < j->faces; i++) {
         const offer *o = &w->offer[i][turn];
         if (o->count == 0) continue;
@@ -634,17 +677,27 @@ static void total_case(const job *j, const worst *w, const one_case *c, int64_t 
     }
 }
 
+/* Of the alternatives only those of the job's faces are kept. */
+static void keep_case(const job *j, reached *r, units total, const one_case *c)
+{
+    r->total = total;
+    r->first.wind = c->wind;
+    r->first.internal = c->internal;
+    memcpy(r->first.alternative, c->alternative, (size_t)j->faces);
+}
+
 /* Walks every case, and keeps the first that is furthest out. */
 static void walk_cases(const job *j, const worst *w, reached r[6])
 {
-    one_case c = {.wind = 0};
+    one_case c;
     int first = 1;
+    c.wind = c.internal = 0;
     for (int i = 0; i < j->faces; i++) c.alternative[i] = 1;
     do {
-        int64_t total[3];
+        units total[3];
         total_case(j, w, &c, total);
         for (int k = 0; k < 6; k++)
-            if (first || beats(k, total[k / 2], r[k].total)) r[k] = (reached){total[k / 2], c};
+            if (first || beats(k, total[k / 2], r[k].total)) keep_case(j, &r[k], total[k / 2], &c);
         first = 0;
     } while (next_case(j, w, &c));
 }
@@ -664,7 +717,7 @@ aral_text ENTRY(plain)(const uint8_t *sheet, size_t n, uint8_t *out, size_t room
     w.length = 0;
     for (int k = 0; k < 6; k++) {
         const one_case *c = &r[k].first;
-        put_best(&w, k, &(best){r[k].total, c->wind, c->internal});
+        put_best(&w, j.year, k, &(best){r[k].total, c->wind, c->internal});
         for (int i = 0; i < j.faces; i++) put_after_space(&w, c->alternative[i]);
         put(&w, '\n');
     }
@@ -674,6 +727,11 @@ aral_text ENTRY(plain)(const uint8_t *sheet, size_t n, uint8_t *out, size_t room
 /* ---- The sums of a worksheet ---- */
 
 static int cell_of(int wind, int internal) { return INTERNALS * wind + internal; }
+
+static aral_span span_of(units greatest, units least)
+{
+    return (aral_span){ENTRY(pair_of)(greatest), ENTRY(pair_of)(least)};
+}
 
 aral_sums ENTRY(add_up)(const uint8_t *sheet, size_t n)
 {
@@ -686,10 +744,10 @@ aral_sums ENTRY(add_up)(const uint8_t *sheet, size_t n)
     weigh(&j, &w);
     for (int wind = 0; wind < j.winds; wind++)
         for (int internal = 0; internal < j.internals; internal++) {
-            int64_t sum[6];
+            units sum[6];
             sum_case(&j, &w, wind, internal, sum);
             sums.cell[cell_of(wind, internal)] =
-                (aral_sum_cell){{sum[0], sum[1]}, {sum[2], sum[3]}, {sum[4], sum[5]}};
+                (aral_sum_cell){span_of(sum[0], sum[1]), span_of(sum[2], sum[3]), span_of(sum[4], sum[5])};
         }
     return sums;
 }
@@ -702,7 +760,10 @@ static void find_stored(const job *j, const aral_sums *sums, worst *w)
     for (int wind = 0; wind < j->winds; wind++)
         for (int internal = 0; internal < j->internals; internal++) {
             const aral_sum_cell *c = &sums->cell[cell_of(wind, internal)];
-            const int64_t sum[6] = {c->x.greatest, c->x.least, c->y.greatest, c->y.least, c->z.greatest, c->z.least};
+            const aral_pair pair[6] = {c->x.greatest, c->x.least, c->y.greatest,
+                                       c->y.least,    c->z.greatest, c->z.least};
+            units sum[6];
+            for (int k = 0; k < 6; k++) sum[k] = ENTRY(units_of)(pair[k]);
             keep_best(w, sum, wind, internal);
         }
 }
@@ -781,7 +842,10 @@ aral_extreme ENTRY(total)(const uint8_t *sheet, size_t n, int64_t line)
     if (answer.number) return e;
     find_worst(&j, &found);
     int k = (int)line - 1;
-    e.total = found.best[k].total;
+    aral_pair p = ENTRY(pair_of)(found.best[k].total);
+    if (j.year < LONG) e.total = (int64_t)found.best[k].total;
+    e.newtons = p.newtons;
+    e.remainder = p.remainder;
     e.wind = (uint32_t)found.best[k].wind + 1;
     e.internal = (uint32_t)found.best[k].internal + 1;
     e.faces = (uint32_t)j.faces;
@@ -866,5 +930,23 @@ aral_double ENTRY(panel)(int64_t total)
 aral_point ENTRY(chart)(int64_t x, int64_t y, int64_t z)
 {
     aral_double dx = ENTRY(panel)(x), dy = ENTRY(panel)(y), dz = ENTRY(panel)(z);
+    return (aral_point){dx.low, dx.high, dy.low, dy.high, dz.low, dz.high};
+}
+
+/* The greatest double at or below a number of newtons is the panel's low one. One newton more than the greatest number
+   of 64 bits is 2^63, which is a double and the one next above it. */
+aral_double ENTRY(panel_newtons)(int64_t newtons, uint64_t remainder)
+{
+    aral_double d = ENTRY(panel)(newtons);
+    if (remainder == 0) return d;
+    d.exact = 0;
+    if (newtons < INT64_MAX) d.high = ENTRY(panel)(newtons + 1).high;
+    return d;
+}
+
+aral_point ENTRY(chart_newtons)(aral_pair x, aral_pair y, aral_pair z)
+{
+    aral_double dx = ENTRY(panel_newtons)(x.newtons, x.remainder), dy = ENTRY(panel_newtons)(y.newtons, y.remainder);
+    aral_double dz = ENTRY(panel_newtons)(z.newtons, z.remainder);
     return (aral_point){dx.low, dx.high, dy.low, dy.high, dz.low, dz.high};
 }

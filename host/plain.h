@@ -36,13 +36,23 @@ aral_rose plain_rose_take(aral_rose r, const uint8_t *part, size_t n);
 aral_rose plain_rose_end(aral_rose r);
 aral_double plain_panel(int64_t total);
 aral_point plain_chart(int64_t x, int64_t y, int64_t z);
+aral_double plain_panel_newtons(int64_t newtons, uint64_t remainder);
+aral_point plain_chart_newtons(aral_pair x, aral_pair y, aral_pair z);
+
+/* A number of units is one whole number here, which 64 bits do not hold; and as newtons and remainder. */
+typedef __int128 units;
+aral_pair ENTRY(pair_of)(units total);
+units ENTRY(units_of)(aral_pair p);
 
 /* For plain_edits.c: the sums of a sheet, all zero where it is refused; and its report by stored sums, whether they are
    those of its faces or not. */
 aral_sums ENTRY(add_up)(const uint8_t *sheet, size_t n);
 aral_text ENTRY(report_by)(const uint8_t *sheet, size_t n, const aral_sums *sums, uint8_t *out, size_t room);
 
-/* For plain_column.c: the force of each face in the case that a report line of an accepted sheet names, in units. */
+/* For plain_column.c: the sheet that a setting with these faces would be, and its length; and the force of each face in
+   the case that a report line of an accepted sheet names, in units. */
+enum { PLAIN_PAGE = 276 * 6 * 21 }; /* at most 276 lines, of at most 6 fields, each of at most 20 bytes and one after */
+size_t ENTRY(sheet_of)(const aral_setting *s, const aral_face *face, size_t faces, uint8_t page[PLAIN_PAGE]);
 void ENTRY(forces)(const uint8_t *sheet, size_t n, int64_t line, int64_t force[ARAL_FACES_MOST]);
 
 /* The rose of a file's lines counted as a whole, where it is at hand in one piece: up to the first refusal, or all of

@@ -1,16 +1,16 @@
 /* The plain calculator's worksheets. A record is judged, added up, shown and written as the sheet that it would be: the
    sheet is made here, and plain.c reads it. */
 #include "plain.h"
+#include "setting.h"
 #include <string.h>
 
 enum { COUNT = 2, ROOM = 7, NO_FACE = 9 };
-enum { WINDS = 8, INTERNALS = 4, STEPS = 16, FACES = ARAL_FACES_MOST, CELLS = WINDS * INTERNALS };
+enum { WINDS = 8, INTERNALS = 4, STEPS = 16, FACES = 240, CELLS = WINDS * INTERNALS };
+enum { LONG = 4 }; /* the first year whose jobs may have so many faces; before it 24 */
 
 /* ---- The sheet of a record ---- */
 
-/* At most 60 lines, of at most 6 fields, each of at most 20 bytes and the one after it. */
-enum { LONGEST = 60 * 6 * 21 };
-typedef struct { uint8_t text[LONGEST]; size_t length; } page;
+typedef struct { uint8_t *text; size_t length; } page;
 
 static void put(page *p, uint8_t byte) { p->text[p->length++] = byte; }
 
@@ -23,21 +23,21 @@ static void put_letter(page *p, uint8_t letter)
 /* A number of any length, and the byte that ends its field. */
 static void put_number(page *p, int64_t value, char end)
 {
-    p->length += ENTRY(digits)(value, p->text + p->length, LONGEST - p->length).length;
+    p->length += ENTRY(digits)(value, p->text + p->length, PLAIN_PAGE - p->length).length;
     put(p, (uint8_t)end);
 }
 
 /* A count line. One above the room is written as one too many, also where it has more digits than a sheet takes.
    Answers how many entries can follow. */
-static uint32_t put_count(page *p, char letter, uint32_t count, uint32_t room)
+static size_t put_count(page *p, char letter, size_t count, size_t room)
 {
-    uint32_t shown = count > room ? room + 1 : count;
+    size_t shown = count > room ? room + 1 : count;
     put_letter(p, (uint8_t)letter);
-    put_number(p, shown, '\n');
+    put_number(p, (int64_t)shown, '\n');
     return shown > room ? 0 : shown;
 }
 
-static int has_heights(const aral_job *j) { return j->year != 1; }
+static int has_heights(int64_t year) { return year != 1; }
 
 static void put_face(page *p, const aral_face *f, int high)
 {
@@ -59,39 +59,50 @@ static void put_building(page *p, const aral_building *g)
 
 static void put_profile(page *p, const aral_profile *profile)
 {
-    uint32_t count = put_count(p, 'P', profile->count, STEPS);
-    for (uint32_t i = 0; i < count; i++) {
+    size_t count = put_count(p, 'P', profile->count, STEPS);
+    for (size_t i = 0; i < count; i++) {
         put_number(p, profile->entry[i].height, ' ');
         put_number(p, profile->entry[i].factor, '\n');
     }
 }
 
-/* The sheet that the record would be. What follows a count above its room does not matter: that line is refused. */
-static void put_job(page *p, const aral_job *j)
+static void put_setting(page *p, const aral_setting *s)
 {
-    p->length = 0;
-    if (has_heights(j)) {
+    if (has_heights(s->year)) {
         put_count(p, 'V', 1, 1);
-        put_number(p, j->year, '\n');
+        put_number(p, s->year, '\n');
     }
-    put_building(p, &j->building);
-    uint32_t winds = put_count(p, 'W', j->winds.count, WINDS);
-    for (uint32_t i = 0; i < winds; i++) {
-        put_number(p, j->winds.entry[i].direction, ' ');
-        put_number(p, j->winds.entry[i].speed, '\n');
+    put_building(p, &s->building);
+    size_t winds = put_count(p, 'W', s->winds.count, WINDS);
+    for (size_t i = 0; i < winds; i++) {
+        put_number(p, s->winds.entry[i].direction, ' ');
+        put_number(p, s->winds.entry[i].speed, '\n');
     }
-    uint32_t internals = put_count(p, 'I', j->internals.count, INTERNALS);
-    for (uint32_t i = 0; i < internals; i++) put_number(p, j->internals.entry[i], '\n');
-    if (has_heights(j)) put_profile(p, &j->profile);
-    uint32_t faces = put_count(p, 'F', j->faces.count, FACES);
-    for (uint32_t i = 0; i < faces; i++) put_face(p, &j->faces.entry[i], has_heights(j));
+    size_t internals = put_count(p, 'I', s->internals.count, INTERNALS);
+    for (size_t i = 0; i < internals; i++) put_number(p, s->internals.entry[i], '\n');
+    if (has_heights(s->year)) put_profile(p, &s->profile);
+}
+
+/* What follows a count above its room does not matter: that line is refused. */
+size_t ENTRY(sheet_of)(const aral_setting *s, const aral_face *face, size_t faces, uint8_t text[PLAIN_PAGE])
+{
+    page p = {text, 0};
+    put_setting(&p, s);
+    size_t shown = put_count(&p, 'F', faces, FACES);
+    for (size_t i = 0; i < shown; i++) put_face(&p, &face[i], has_heights(s->year));
+    return p.length;
+}
+
+static size_t put_job(uint8_t text[PLAIN_PAGE], const aral_job *j)
+{
+    aral_setting s = setting_of(j);
+    return ENTRY(sheet_of)(&s, j->faces.entry, j->faces.count, text);
 }
 
 static aral_answer judge(const aral_worksheet *w)
 {
-    page p;
-    put_job(&p, &w->job);
-    return ENTRY(read)(p.text, p.length);
+    uint8_t text[PLAIN_PAGE];
+    return ENTRY(read)(text, put_job(text, &w->job));
 }
 
 /* ---- The record of a sheet ---- */
@@ -161,13 +172,13 @@ static void read_job(fields *f, aral_job *j)
     }
     j->internals.count = count(f);
     for (uint32_t i = 0; i < j->internals.count; i++) j->internals.entry[i] = number(f);
-    if (has_heights(j)) j->profile.count = count(f);
+    if (has_heights(j->year)) j->profile.count = count(f);
     for (uint32_t i = 0; i < j->profile.count; i++) {
         j->profile.entry[i].height = number(f);
         j->profile.entry[i].factor = number(f);
     }
     j->faces.count = count(f);
-    for (uint32_t i = 0; i < j->faces.count; i++) read_face(f, has_heights(j), &j->faces.entry[i]);
+    for (uint32_t i = 0; i < j->faces.count; i++) read_face(f, has_heights(j->year), &j->faces.entry[i]);
 }
 
 aral_edited ENTRY(open)(const uint8_t *sheet, size_t n)
@@ -184,44 +195,56 @@ aral_edited ENTRY(open)(const uint8_t *sheet, size_t n)
 
 /* ---- Sums ---- */
 
-/* No sum of a job is larger: 24 faces, each of 2200 thousandths at a pressure number of 1500 x 1000 x 1000 on an area
-   of 100000. */
-#define LARGEST 7920000000000000000
+/* No sum of a face is larger: 2200 thousandths at a pressure number of 1500 x 1000 x 1000 on an area of 100000. */
+#define LARGEST_FACE ((units)2200 * 1500 * 1000000 * 100000)
+#define NEWTON 20000000000u
+
+static int most_faces(int64_t year) { return year >= LONG ? FACES : 24; }
 
 static aral_sums sums_of(const aral_job *j)
 {
-    page p;
-    put_job(&p, j);
-    return ENTRY(add_up)(p.text, p.length);
+    uint8_t text[PLAIN_PAGE];
+    return ENTRY(add_up)(text, put_job(text, j));
 }
 
 /* What a face of the job brings into each sum: what the sums of the job would be if it had this face alone. */
 static aral_sums part_of(const aral_job *j, const aral_face *f)
 {
-    aral_job alone = *j;
-    alone.faces.count = 1;
-    alone.faces.entry[0] = *f;
-    return sums_of(&alone);
+    uint8_t text[PLAIN_PAGE];
+    aral_setting s = setting_of(j);
+    return ENTRY(add_up)(text, ENTRY(sheet_of)(&s, f, 1, text));
 }
 
-static int allowed(aral_span s)
+static int allowed(aral_pair p, units largest)
 {
-    return -LARGEST <= s.least && s.least <= LARGEST && -LARGEST <= s.greatest && s.greatest <= LARGEST;
+    units sum = ENTRY(units_of)(p);
+    return p.remainder < NEWTON && -largest <= sum && sum <= largest;
 }
 
-/* Whether each of the numbers, also past the counts, is one that a sum can be. */
-static int all_allowed(const aral_sums *sums)
+static int both_allowed(aral_span s, units largest)
 {
+    return allowed(s.greatest, largest) && allowed(s.least, largest);
+}
+
+/* Whether each of the pairs, also past the counts, is one that a sum of a job of the year can be. */
+static int all_allowed(const aral_sums *sums, int64_t year)
+{
+    units largest = most_faces(year) * LARGEST_FACE;
     for (int i = 0; i < CELLS; i++) {
         const aral_sum_cell *c = &sums->cell[i];
-        if (!allowed(c->x) || !allowed(c->y) || !allowed(c->z)) return 0;
+        if (!both_allowed(c->x, largest) || !both_allowed(c->y, largest) || !both_allowed(c->z, largest)) return 0;
     }
     return 1;
 }
 
-static aral_span moved(aral_span s, int sign, aral_span part)
+static aral_pair moved(aral_pair p, int sign, aral_pair part)
 {
-    return (aral_span){s.greatest + sign * part.greatest, s.least + sign * part.least};
+    return ENTRY(pair_of)(ENTRY(units_of)(p) + sign * ENTRY(units_of)(part));
+}
+
+static aral_span both_moved(aral_span s, int sign, aral_span part)
+{
+    return (aral_span){moved(s.greatest, sign, part.greatest), moved(s.least, sign, part.least)};
 }
 
 /* The face's part added to each sum (sign 1) or taken out of it (sign -1). Past the counts it has none. */
@@ -230,16 +253,16 @@ static void move_sums(aral_worksheet *w, int sign, const aral_face *f)
     aral_sums part = part_of(&w->job, f);
     for (int i = 0; i < CELLS; i++) {
         aral_sum_cell *c = &w->sums.cell[i];
-        c->x = moved(c->x, sign, part.cell[i].x);
-        c->y = moved(c->y, sign, part.cell[i].y);
-        c->z = moved(c->z, sign, part.cell[i].z);
+        c->x = both_moved(c->x, sign, part.cell[i].x);
+        c->y = both_moved(c->y, sign, part.cell[i].y);
+        c->z = both_moved(c->z, sign, part.cell[i].z);
     }
 }
 
 /* The sums after an edit, by the face that left and the one that came, NULL where none did. */
 static void keep_sums(aral_worksheet *w, const aral_face *left, const aral_face *came)
 {
-    if (!all_allowed(&w->sums)) {
+    if (!all_allowed(&w->sums, w->job.year)) {
         w->sums = sums_of(&w->job);
         return;
     }
@@ -259,7 +282,7 @@ static int has_face(const aral_worksheet *w, int64_t face) { return face >= 1 &&
 /* The face as the record holds it: in year 1 without its height. */
 static aral_face held(const aral_worksheet *w, aral_face f)
 {
-    if (!has_heights(&w->job)) f.height = 0;
+    if (!has_heights(w->job.year)) f.height = 0;
     return f;
 }
 
@@ -278,7 +301,7 @@ aral_edited ENTRY(add)(aral_worksheet w, aral_face f)
 {
     aral_answer own = judge(&w);
     if (own.number) return answered(own.number, own.line, &w);
-    if (w.job.faces.count == FACES) return answered(COUNT, 0, &w);
+    if ((int)w.job.faces.count == most_faces(w.job.year)) return answered(COUNT, 0, &w);
     aral_worksheet after = w;
     after.job.faces.entry[after.job.faces.count++] = held(&w, f);
     return edited(&w, &after, NULL, &f);
@@ -312,18 +335,19 @@ aral_edited ENTRY(take_out)(aral_worksheet w, int64_t face)
 
 aral_text ENTRY(show)(aral_worksheet w, uint8_t *out, size_t room)
 {
-    page p;
-    put_job(&p, &w.job);
-    return ENTRY(report_by)(p.text, p.length, &w.sums, out, room);
+    uint8_t text[PLAIN_PAGE];
+    size_t length = put_job(text, &w.job);
+    if (!all_allowed(&w.sums, w.job.year)) return ENTRY(report)(text, length, out, room);
+    return ENTRY(report_by)(text, length, &w.sums, out, room);
 }
 
 aral_text ENTRY(write)(aral_worksheet w, uint8_t *out, size_t room)
 {
-    page p;
-    put_job(&p, &w.job);
-    aral_answer own = ENTRY(read)(p.text, p.length);
+    uint8_t text[PLAIN_PAGE];
+    size_t length = put_job(text, &w.job);
+    aral_answer own = ENTRY(read)(text, length);
     if (own.number) return (aral_text){own.number, own.line, 0};
-    if (p.length > room) return (aral_text){ROOM, 0, 0};
-    memcpy(out, p.text, p.length);
-    return (aral_text){0, 0, p.length};
+    if (length > room) return (aral_text){ROOM, 0, 0};
+    memcpy(out, text, length);
+    return (aral_text){0, 0, length};
 }

@@ -4,7 +4,8 @@
 #include "plain.h"
 #include <string.h>
 
-#define LARGEST 7920000000000000000 /* that a job's sum can be */
+enum { FACES = ARAL_FACES_MOST };
+#define NEWTON UINT64_C(20000000000)
 
 aral_face face_at(const sample *s, int i)
 {
@@ -61,28 +62,40 @@ static void fill_rest(dice *d, aral_job *j, wanted *some)
     for (uint32_t i = used(j->internals.count, 4); i < 4; i++) j->internals.entry[i] = some(d);
     for (uint32_t i = j->year == 1 ? 0 : used(j->profile.count, 16); i < 16; i++)
         j->profile.entry[i] = (aral_step){some(d), some(d)};
-    for (uint32_t i = used(j->faces.count, 24); i < 24; i++) fill_face(d, &j->faces.entry[i], some);
-    for (uint32_t i = 0; j->year == 1 && i < used(j->faces.count, 24); i++) j->faces.entry[i].height = some(d);
+    for (uint32_t i = used(j->faces.count, FACES); i < FACES; i++) fill_face(d, &j->faces.entry[i], some);
+    for (uint32_t i = 0; j->year == 1 && i < used(j->faces.count, FACES); i++) j->faces.entry[i].height = some(d);
+}
+
+typedef aral_pair wanted_sum(dice *d, int64_t year);
+
+/* The largest that a sum of a job of the year can be: 330000000000000000 for each face. */
+static units largest_in(int64_t year) { return ARAL_FACES_OF(year) * (units)330000000000000000; }
+
+static aral_pair no_sum(dice *d, int64_t year)
+{
+    (void)d;
+    (void)year;
+    return (aral_pair){0, 0};
 }
 
 /* A sum that a job can have. */
-static int64_t some_sum(dice *d)
+static aral_pair some_sum(dice *d, int64_t year)
 {
-    int64_t size = (int64_t)(roll(d) % (LARGEST + UINT64_C(1)));
-    return pick(d, 0, 1) ? size : -size;
+    units size = ((units)(roll(d) >> 1) << 32 | (units)(roll(d) >> 32)) % (largest_in(year) + 1);
+    return plain_pair_of(pick(d, 0, 1) ? size : -size);
 }
 
-/* Whether field i of the sums is within the counts. */
+/* Whether sum i is within the counts. */
 static int counted(const aral_job *j, int i)
 {
     uint32_t wind = (uint32_t)i / 24, internal = (uint32_t)i / 6 % 4;
     return wind < j->winds.count && internal < j->internals.count;
 }
 
-static void fill_sums_past(dice *d, aral_worksheet *w, wanted *some)
+static void fill_sums_past(dice *d, aral_worksheet *w, wanted_sum *some)
 {
-    for (int i = 0; i < SUM_FIELDS; i++)
-        if (!counted(&w->job, i)) *sum_at(&w->sums, i) = some(d);
+    for (int i = 0; i < SUMS; i++)
+        if (!counted(&w->job, i)) *sum_at(&w->sums, i) = some(d, w->job.year);
 }
 
 void litter(dice *d, aral_worksheet *w)
@@ -94,15 +107,15 @@ void litter(dice *d, aral_worksheet *w)
 void clear_litter(aral_worksheet *w)
 {
     fill_rest(NULL, &w->job, zero);
-    fill_sums_past(NULL, w, zero);
+    fill_sums_past(NULL, w, no_sum);
 }
 
 /* ---- What is not allowed ---- */
 
 static uint32_t wild_count(dice *d, uint32_t room)
 {
-    static const uint32_t count[] = {0, 0, 25, 255, 256, 65536, 9999999, 10000000, INT32_MAX, UINT32_MAX};
-    return pick(d, 0, 1) ? room + (uint32_t)pick(d, 0, 2) : count[pick(d, 0, 9)];
+    static const uint32_t count[] = {0, 0, 25, 241, 255, 256, 65536, 9999999, 10000000, INT32_MAX, UINT32_MAX};
+    return pick(d, 0, 1) ? room + (uint32_t)pick(d, 0, 2) : count[pick(d, 0, 10)];
 }
 
 static void spoil_number(dice *d, int64_t *number) { *number = edge_of(d, *number); }
@@ -136,35 +149,63 @@ void spoil_record(dice *d, aral_worksheet *w)
     aral_wind *wind = &j->winds.entry[pick(d, 0, 7)];
     aral_step *step = &j->profile.entry[pick(d, 0, 15)];
     switch (pick(d, 0, 12)) {
-    case 0: j->year = pick(d, 0, 1) ? pick(d, -1, 5) : edge_of(d, j->year); break;
+    case 0: j->year = pick(d, 0, 1) ? pick(d, -1, 6) : edge_of(d, j->year); break;
     case 1:
     case 2: spoil_building(d, &j->building); break;
     case 3: j->winds.count = wild_count(d, 8); break;
     case 4: j->internals.count = wild_count(d, 4); break;
     case 5: j->profile.count = wild_count(d, 16); break;
-    case 6: j->faces.count = wild_count(d, 24); break;
+    case 6: j->faces.count = wild_count(d, pick(d, 0, 1) ? 24 : FACES); break;
     case 7: spoil_number(d, pick(d, 0, 1) ? &wind->direction : &wind->speed); break;
     case 8: spoil_number(d, &j->internals.entry[pick(d, 0, 3)]); break;
     case 9: spoil_number(d, pick(d, 0, 1) ? &step->height : &step->factor); break;
-    default: spoil_face(d, &j->faces.entry[pick(d, 0, used(j->faces.count ? j->faces.count : 1, 24) - 1)]); break;
+    default: spoil_face(d, &j->faces.entry[pick(d, 0, used(j->faces.count ? j->faces.count : 1, FACES) - 1)]); break;
     }
 }
 
 /* ---- Other sums ---- */
 
-static int64_t any_bits(dice *d) { return (int64_t)roll(d); }
-
-static int64_t tiny(dice *d) { return pick(d, -1, 1); }
-
-static int64_t largest(dice *d) { return pick(d, 0, 1) ? LARGEST : -LARGEST; }
-
-static int64_t beside_largest(dice *d) { return largest(d) + pick(d, -1, 1); }
-
-static int64_t at_the_ends(dice *d) { return pick(d, 0, 1) ? INT64_MAX : INT64_MIN; }
-
-static void fill_sums(dice *d, aral_sums *sums, wanted *some)
+static aral_pair any_bits(dice *d, int64_t year)
 {
-    for (int i = 0; i < SUM_FIELDS; i++) *sum_at(sums, i) = some(d);
+    (void)year;
+    return (aral_pair){(int64_t)roll(d), roll(d)};
+}
+
+static aral_pair tiny(dice *d, int64_t year)
+{
+    (void)year;
+    return plain_pair_of(pick(d, -1, 1));
+}
+
+static units largest_of(dice *d, int64_t year) { return pick(d, 0, 1) ? largest_in(year) : -largest_in(year); }
+
+static aral_pair largest(dice *d, int64_t year) { return plain_pair_of(largest_of(d, year)); }
+
+static aral_pair beside_largest(dice *d, int64_t year) { return plain_pair_of(largest_of(d, year) + pick(d, -1, 1)); }
+
+/* Beside the largest of years 1 to 3 or of year 4, whichever the year is. */
+static aral_pair beside_another(dice *d, int64_t year)
+{
+    (void)year;
+    return beside_largest(d, pick(d, 3, 4));
+}
+
+/* A remainder that is none, or almost none, with newtons that a sum can have. */
+static aral_pair at_a_newton(dice *d, int64_t year)
+{
+    static const uint64_t remainder[] = {NEWTON - 1, NEWTON, NEWTON + 1, UINT64_C(1) << 32, UINT64_MAX};
+    return (aral_pair){some_sum(d, year).newtons, remainder[pick(d, 0, 4)]};
+}
+
+static aral_pair at_the_ends(dice *d, int64_t year)
+{
+    (void)year;
+    return (aral_pair){pick(d, 0, 1) ? INT64_MAX : INT64_MIN, pick(d, 0, 1) ? UINT64_MAX : roll(d) % NEWTON};
+}
+
+static void fill_sums(dice *d, aral_worksheet *w, wanted_sum *some)
+{
+    for (int i = 0; i < SUMS; i++) *sum_at(&w->sums, i) = some(d, w->job.year);
 }
 
 static aral_sums sums_of_another(dice *d)
@@ -176,38 +217,43 @@ static aral_sums sums_of_another(dice *d)
     return plain_open(t.byte, t.length).worksheet.sums;
 }
 
-/* One number, beside the largest or at the ends; or, where there are any, one past the counts. */
+/* One pair, beside the largest, at a whole newton or at the ends; or, where there are any, one past the counts. */
 static void spoil_sum(dice *d, aral_worksheet *w)
 {
-    int past = (int)pick(d, 0, 1), i = (int)pick(d, 0, SUM_FIELDS - 1);
-    for (int tries = 0; past && tries < SUM_FIELDS && counted(&w->job, i); tries++) i = (i + 1) % SUM_FIELDS;
-    *sum_at(&w->sums, i) = pick(d, 0, 3) ? beside_largest(d) : at_the_ends(d);
+    static wanted_sum *const some[] = {beside_largest, beside_largest, beside_another, at_a_newton, at_the_ends};
+    int past = (int)pick(d, 0, 1), i = (int)pick(d, 0, SUMS - 1);
+    for (int tries = 0; past && tries < SUMS && counted(&w->job, i); tries++) i = (i + 1) % SUMS;
+    *sum_at(&w->sums, i) = some[pick(d, 0, 4)](d, w->job.year);
 }
 
 void spoil_sums(dice *d, aral_worksheet *w)
 {
-    static wanted *const whole[] = {any_bits, some_sum, tiny, largest, beside_largest, at_the_ends, zero};
+    static wanted_sum *const whole[] = {any_bits, some_sum, tiny, largest, beside_largest, at_the_ends, no_sum};
     int64_t kind = pick(d, 0, 13);
-    if (kind < 7) fill_sums(d, &w->sums, whole[kind]);
+    if (kind < 7) fill_sums(d, w, whole[kind]);
     else if (kind < 9) w->sums = sums_of_another(d);
     else spoil_sum(d, w);
 }
 
-int too_large(const aral_sums *sums)
+int no_jobs(const aral_sums *sums, int64_t year)
 {
     aral_sums copy = *sums;
-    for (int i = 0; i < SUM_FIELDS; i++)
-        if (*sum_at(&copy, i) > LARGEST || *sum_at(&copy, i) < -LARGEST) return 1;
+    int64_t most = ARAL_FACES_OF(year) * INT64_C(16500000);
+    for (int i = 0; i < SUMS; i++) {
+        aral_pair p = *sum_at(&copy, i);
+        if (p.remainder >= NEWTON || p.newtons < -most || p.newtons > most) return 1;
+        if (p.newtons == most && p.remainder > 0) return 1;
+    }
     return 0;
 }
 
 /* ---- Fields ---- */
 
-int64_t *sum_at(aral_sums *sums, int i)
+aral_pair *sum_at(aral_sums *sums, int i)
 {
     aral_sum_cell *c = &sums->cell[i / 6];
-    int64_t *const number[] = {&c->x.greatest, &c->x.least, &c->y.greatest, &c->y.least, &c->z.greatest, &c->z.least};
-    return number[i % 6];
+    aral_pair *const pair[] = {&c->x.greatest, &c->x.least, &c->y.greatest, &c->y.least, &c->z.greatest, &c->z.least};
+    return pair[i % 6];
 }
 
 void fields_of(const aral_worksheet *w, int64_t field[RECORD_FIELDS])
@@ -229,11 +275,14 @@ void fields_of(const aral_worksheet *w, int64_t field[RECORD_FIELDS])
         *field++ = j->profile.entry[i].factor;
     }
     *field++ = j->faces.count;
-    for (int i = 0; i < 24; i++) {
+    for (int i = 0; i < FACES; i++) {
         const aral_face *f = &j->faces.entry[i];
         const int64_t number[] = {f->zone, f->mark, f->height, f->x, f->y, f->z};
         for (int k = 0; k < 6; k++) *field++ = number[k];
     }
     aral_sums sums = w->sums;
-    for (int i = 0; i < SUM_FIELDS; i++) *field++ = *sum_at(&sums, i);
+    for (int i = 0; i < SUMS; i++) {
+        *field++ = sum_at(&sums, i)->newtons;
+        *field++ = (int64_t)sum_at(&sums, i)->remainder;
+    }
 }

@@ -13,12 +13,12 @@ void clear_litter(aral_worksheet *w);                           /* zero there, a
 void spoil_record(dice *d, aral_worksheet *w);                  /* one field, mostly not allowed */
 void spoil_face(dice *d, aral_face *f);
 void spoil_sums(dice *d, aral_worksheet *w);                    /* other sums than those of the faces */
-int too_large(const aral_sums *sums);                           /* whether one is larger than a job's can be */
+int no_jobs(const aral_sums *sums, int64_t year);               /* whether one is none that its year's jobs can have */
 
-/* Every field of a worksheet, in order, those of its sums last: a record's padding is no part of it. */
-enum { JOB_FIELDS = 1 + 6 + (1 + 8 * 2) + (1 + 4) + (1 + 16 * 2) + (1 + 24 * 6), SUM_FIELDS = 32 * 3 * 2 };
-enum { RECORD_FIELDS = JOB_FIELDS + SUM_FIELDS };
+/* Every field of a worksheet, in order, those of its sums last, two for each: a record's padding is no part of it. */
+enum { JOB_FIELDS = 1 + 6 + (1 + 8 * 2) + (1 + 4) + (1 + 16 * 2) + (1 + ARAL_FACES_MOST * 6), SUMS = 32 * 3 * 2 };
+enum { RECORD_FIELDS = JOB_FIELDS + 2 * SUMS };
 void fields_of(const aral_worksheet *w, int64_t field[RECORD_FIELDS]);
-int64_t *sum_at(aral_sums *sums, int i);                        /* field i of the sums, from 0 */
+aral_pair *sum_at(aral_sums *sums, int i);                      /* sum i, from 0 */
 
 #endif

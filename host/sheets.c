@@ -88,7 +88,7 @@ static int acceptable(const sample *s)
     return plain_outside(s->year, s->h, s->a, s->b, s->density, s->kind, s->x, 0, 'A').number == 0;
 }
 
-/* Of year 3 many are square. */
+/* From year 3 on many are square. */
 static void building_of(dice *d, sample *s, int year, int64_t kind)
 {
     static const int64_t over[] = {1, 3, 4}, under[] = {1, 2, 1};
@@ -97,14 +97,14 @@ static void building_of(dice *d, sample *s, int year, int64_t kind)
     do {
         s->b = pick(d, 0, 3) ? pick(d, 100, 10000) : ONE_OF(d, 100, 101, 1000, 7500, 20000, 29999);
         s->a = pick(d, 0, 1) ? near_ratio(d, s->b, over, under, 3) : pick(d, s->b, 4 * s->b);
-        if (year == 3 && pick(d, 0, 2) == 0) s->a = s->b;
+        if (year >= 3 && pick(d, 0, 2) == 0) s->a = s->b;
         s->h = clamp(height(d, s->b), 100, 30000);
         s->density = pick(d, 0, 1) ? 1250 : ONE_OF(d, 1000, 1001, 1225, 1499, 1500);
         s->x = roof_number(d, s);
     } while (!acceptable(s));
 }
 
-void make_building(dice *d, sample *s) { building_of(d, s, (int)pick(d, 1, 3), pick(d, 0, 6)); }
+void make_building(dice *d, sample *s) { building_of(d, s, (int)pick(d, 1, 4), pick(d, 0, 6)); }
 
 /* ---- Profiles ---- */
 
@@ -191,11 +191,18 @@ void make_sized(dice *d, sample *s, int year, int64_t kind, int winds, int inter
     for (int i = 0; i < faces; i++) make_face(d, s, i);
 }
 
+/* Long sheds take long: one in four of those that may be is. */
+int some_faces(dice *d, int year)
+{
+    if (year < 4 || pick(d, 0, 3)) return (int)pick(d, 1, 24);
+    return (int)(pick(d, 0, 3) ? pick(d, 1, 240) : ONE_OF(d, 24, 25, 48, 49, 239, 240, 240));
+}
+
 void make_sample(dice *d, sample *s)
 {
-    int small = (int)pick(d, 0, 1), year = (int)pick(d, 1, 3);
+    int small = (int)pick(d, 0, 1), year = (int)pick(d, 1, 4);
     make_sized(d, s, year, pick(d, 0, 6), (int)pick(d, 1, small ? 2 : 8), (int)pick(d, 1, small ? 2 : 4),
-               year == 1 ? 0 : (int)pick(d, 1, small ? 3 : 16), (int)pick(d, 1, small ? 5 : 24));
+               year == 1 ? 0 : (int)pick(d, 1, small ? 3 : 16), small ? (int)pick(d, 1, 5) : some_faces(d, year));
 }
 
 static void spoil_building(dice *d, sample *s)

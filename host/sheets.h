@@ -2,6 +2,7 @@
 #ifndef SHEETS_H
 #define SHEETS_H
 
+#include "aralimogga.h"
 #include <stddef.h>
 #include <stdint.h>
 
@@ -12,9 +13,10 @@ enum { DASH = 99999999 };
 typedef struct {
     int64_t h, a, b, density, kind, x;
     int year, winds, internals, steps, faces;
-    int direction[8], speed[8], internal[4], mark[24], height[24], area[24][3];
+    int direction[8], speed[8], internal[4];
     struct { int height, factor; } step[16];
-    char zone[24];
+    int mark[ARAL_FACES_MOST], height[ARAL_FACES_MOST], area[ARAL_FACES_MOST][3];
+    char zone[ARAL_FACES_MOST];
 } sample;
 
 enum { TEXT_ROOM = 1 << 16 };
@@ -27,6 +29,7 @@ int64_t edge_of(dice *d, int64_t usual);                      /* `usual`, or a 6
 int direction_of(dice *d, int64_t kind);                      /* one that the roof kind has */
 void make_building(dice *d, sample *s);                       /* an acceptable building of some year */
 void make_sample(dice *d, sample *s);                         /* an acceptable job */
+int some_faces(dice *d, int year);                            /* how many a job of the year may have, few more often */
 void make_sized(dice *d, sample *s, int year, int64_t kind, int winds, int internals, int steps, int faces);
 void make_face(dice *d, sample *s, int i);                    /* entry i, as the building and the profile allow */
 void spoil(dice *d, sample *s);                               /* one number or letter, mostly not allowed */

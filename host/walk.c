@@ -77,34 +77,49 @@ static int next_choice(int faces, const part *p, uint8_t *alternative)
     return 0;
 }
 
-static void judge(int faces, const part *p, const aral_extreme *now, int first, aral_extreme best[6])
+/* A total takes up to 67 bits. */
+typedef __int128 wide;
+
+static void judge(int faces, const part *p, const aral_extreme *now, int first, aral_extreme best[6], wide furthest[6])
 {
-    int64_t total[3] = {0, 0, 0};
+    wide total[3] = {0, 0, 0};
     for (int i = 0; i < faces; i++)
         for (int axis = 0; axis < 3; axis++) total[axis] += p[i].force[now->alternative[i] - 1][axis];
     for (int k = 0; k < 6; k++) {
-        int64_t t = total[k / 2];
-        if (!first && (k % 2 == 0 ? t <= best[k].total : t >= best[k].total)) continue;
+        wide t = total[k / 2];
+        if (!first && (k % 2 == 0 ? t <= furthest[k] : t >= furthest[k])) continue;
         best[k] = *now;
-        best[k].total = t;
+        furthest[k] = t;
     }
+}
+
+/* The total as its newtons and the rest, up from far below zero; before year 4 also as it is. */
+static void put_total(int year, wide total, aral_extreme *e)
+{
+    const wide newton = 20000000000, below = 1000000000000;
+    e->newtons = (int64_t)((total + below * newton) / newton - below);
+    e->remainder = (uint64_t)((total + below * newton) % newton);
+    e->total = year < 4 ? (int64_t)total : 0;
 }
 
 int walk(const sample *s, uint64_t most, aral_extreme best[6])
 {
     uint64_t walked = 0;
+    wide furthest[6];
     for (int wind = 0; wind < s->winds; wind++)
         for (int internal = 0; internal < s->internals; internal++) {
-            part p[24];
-            aral_extreme now = {0, 0, 0, (uint32_t)wind + 1, (uint32_t)internal + 1, (uint32_t)s->faces, {0}};
+            part p[ARAL_FACES_MOST];
+            aral_extreme now = {
+                .wind = (uint32_t)wind + 1, .internal = (uint32_t)internal + 1, .faces = (uint32_t)s->faces};
             for (int i = 0; i < s->faces; i++) {
                 face_part(s, wind, internal, i, &p[i]);
                 now.alternative[i] = 1;
             }
             do {
                 if (walked == most) return 0;
-                judge(s->faces, p, &now, walked++ == 0, best);
+                judge(s->faces, p, &now, walked++ == 0, best, furthest);
             } while (next_choice(s->faces, p, now.alternative));
         }
+    for (int k = 0; k < 6; k++) put_total(s->year, furthest[k], &best[k]);
     return 1;
 }

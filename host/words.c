@@ -13,7 +13,7 @@ typedef enum {
 /* A count line has its section's letter. `%s` is what the building's roof kind allows. */
 static const struct { char letter; const char *what, *form; int fields; } roles[] = {
     {'V', "opens section V, the year: the letter V, a space and the count, which is always 1", "V 1", 2},
-    {0, "is the year that the sheet is written for (2 or 3)", "3", 1},
+    {0, "is the year that the sheet is written for (2, 3 or 4)", "3", 1},
     {'B', "opens section B, the building: the letter B, a space and the count, which is always 1", "B 1", 2},
     {0, "is the building: height h, longer side a and shorter side b in cm (100 to 30000), air density in g/m3\n"
      "(1000 to 1500), roof kind (0 to 6) and roof number x (0 to 30000)", "500 1200 1000 1250 2 0", 6},
@@ -165,6 +165,8 @@ static long year_of(const uint8_t *sheet, size_t n)
     return year;
 }
 
+static int has_long_sheds(const uint8_t *sheet, size_t n) { return year_of(sheet, n) >= 4; }
+
 /* ---- 1: the form ---- */
 
 static const char *field_slip(const char *field)
@@ -195,7 +197,7 @@ static const char *form_slip(const line_text *t, role r, char field[FIELDS][FIEL
     for (int i = 0; i < count && i < FIELDS; i++)
         if (!*field[i]) return "there is one space between fields, none before the first and none after the last";
     if (letter && !is_letter(field[0], letter, letter))
-        return r == B_COUNT ? "it must open with B, or a sheet of year 2 or 3 with V"
+        return r == B_COUNT ? "it must open with B, or a sheet of a later year with V"
                             : "it must open with another letter";
     for (int i = 0; i < count && i < FIELDS; i++)
         if (field_slip(field[i])) return field_slip(field[i]);
@@ -213,6 +215,18 @@ static void explain_form(const line_text *t, role r)
     if (r == AFTER) printf("Nothing may follow the last face, not even an empty line. Is the count after F right?\n");
     else if (!t->there) printf("The sheet ends where a line is still called for. Are the counts right?\n");
     else printf("The line is not in form: %s.\n", form_slip(t, r, field, cut(t, field)));
+}
+
+/* ---- 2: counts ---- */
+
+static void explain_count(const uint8_t *sheet, size_t n, role r, const char *field)
+{
+    long count = strtol(field, NULL, 10);
+    printf("The count is %s.\n", field);
+    if (r != F_COUNT || has_long_sheds(sheet, n) || count < 1 || count > ARAL_FACES_MOST) return;
+    printf("From year 4 on a sheet may have up to %d faces: it then opens with `V 1` and the line `4`, and is written\n"
+           "as one of year 3.\n",
+           ARAL_FACES_MOST);
 }
 
 /* ---- 3: ranges ---- */
@@ -256,7 +270,7 @@ static void say_direction(const uint8_t *sheet, size_t n, const char *name, cons
 
 static void explain_year(const char *field)
 {
-    printf("The year is %s; it must be 2 or 3.\n", field);
+    printf("The year is %s; it must be 2, 3 or 4.\n", field);
     if (!strcmp(field, "1")) printf("A sheet of year 1 has no section V: it opens with `B 1`.\n");
 }
 
@@ -402,6 +416,13 @@ static const char *allowed_at(const uint8_t *sheet, size_t n, role r)
     return r == WIND ? winds_of(value[4]) : marks_of(value[4]);
 }
 
+/* What a line is for. Only how many faces may follow goes by the year. */
+static const char *purpose_at(const uint8_t *sheet, size_t n, role r)
+{
+    if (r != F_COUNT || !has_long_sheds(sheet, n)) return roles[r].what;
+    return "opens section F, the faces: the letter F, a space and how many follow (1 to 240)";
+}
+
 const char *title_of(uint32_t number)
 {
     static const char *const title[] = {
@@ -421,12 +442,12 @@ void explain(const uint8_t *sheet, size_t n, aral_answer refusal)
     show_line(refusal.line, &t);
     cut(&t, field);
     if (refusal.number == 1) explain_form(&t, r);
-    else if (refusal.number == 2) printf("The count is %s.\n", field[1]);
+    else if (refusal.number == 2) explain_count(sheet, n, r, field[1]);
     else if (refusal.number == 3) explain_range(sheet, n, r, item, field);
     else if (refusal.number == 8) explain_height(sheet, n, field[2]);
     else explain_building(sheet, n, refusal.number, field);
     printf("Line %u ", refusal.line);
-    printf(roles[r].what, item, count, allowed_at(sheet, n, r));
+    printf(purpose_at(sheet, n, r), item, count, allowed_at(sheet, n, r));
     if (*roles[r].form) printf(", as `%s`", roles[r].form);
     printf(".\n");
 }
@@ -463,6 +484,8 @@ static void describe_profile(const uint8_t *sheet, size_t n)
     printf("It is of year %ld: each face has the wind's speed at its own height. Lines of the profile: %u,\n",
            year_of(sheet, n), count);
     printf("from %ld/1000 of the speed at %ld cm to %ld/1000 at %ld cm.\n", first[1], first[0], last[1], last[0]);
+    if (!has_long_sheds(sheet, n)) return;
+    printf("A total is two numbers: whole newtons, rounded down, and what remains, 0 to 19999999999 units.\n");
 }
 
 void describe(const uint8_t *sheet, size_t n)

@@ -6,12 +6,12 @@
 #include <string.h>
 
 static const calculator both[] = {
-    {"library", aral_read, aral_report, aral_plain, aral_outside, aral_net, aral_panel, aral_open, aral_add,
-     aral_replace, aral_take_out, aral_show, aral_write, aral_column, aral_mend,
-     aral_rose_new, aral_rose_take, aral_rose_end},
-    {"plain", plain_read, plain_report, plain_plain, plain_outside, plain_net, plain_panel, plain_open, plain_add,
-     plain_replace, plain_take_out, plain_show, plain_write, plain_column, plain_mend,
-     plain_rose_new, plain_rose_take, plain_rose_end}};
+    {"library", aral_read, aral_report, aral_plain, aral_outside, aral_net, aral_total, aral_panel,
+     aral_panel_newtons, aral_chart_newtons, aral_open, aral_add, aral_replace, aral_take_out, aral_show, aral_write,
+     aral_column, aral_mend, aral_rose_new, aral_rose_take, aral_rose_end},
+    {"plain", plain_read, plain_report, plain_plain, plain_outside, plain_net, plain_total, plain_panel,
+     plain_panel_newtons, plain_chart_newtons, plain_open, plain_add, plain_replace, plain_take_out, plain_show,
+     plain_write, plain_column, plain_mend, plain_rose_new, plain_rose_take, plain_rose_end}};
 static int cases, failures;
 
 void expect(const calculator *c, const char *what, int holds)
@@ -116,12 +116,16 @@ static const row questions[] = {
     {"eight digits in year 2", 2, 10000000, 1200, 1000, 0, 0, 0, 'A', 1, 4, 0, 0, 0, 0, 0},
     {"seven digits in year 3", 3, 9999999, 1200, 1000, 0, 0, 0, 'A', 3, 4, 0, 0, 0, 0, 0},
     {"no year 0", 0, 500, 1200, 1000, 0, 0, 0, 'A', 3, 0, 0, 0, 0, 0, 0},
-    {"no year 4", 4, 500, 1200, 1000, 0, 0, 0, 'A', 3, 0, 0, 0, 0, 0, 0},
+    {"P1 in year 4", 4, 500, 1200, 1000, 0, 0, 0, 'B', 0, 0, -200, 1, 1, 0, 1},
+    {"P5's twin of year 4", 4, 500, 1000, 1000, 0, 0, 0, 'B', 0, 0, -200, 1, 1, 0, 1},
+    {"a below b in year 4", 4, 500, 999, 1000, 0, 0, 0, 'B', 4, 4, 0, 0, 0, 0, 0},
+    {"P11 on a square plan in year 4", 4, 12000, 10000, 10000, 4, 603, 0, '1', 0, 0, -1499, 5, 6, 1, 200},
+    {"no year 5", 5, 500, 1200, 1000, 0, 0, 0, 'A', 3, 0, 0, 0, 0, 0, 0},
     {"no year -1", -1, 500, 1200, 1000, 0, 0, 0, 'A', 3, 0, 0, 0, 0, 0, 0},
     {"no year 2^32 + 1", 4294967297, 500, 1200, 1000, 0, 0, 0, 'A', 3, 0, 0, 0, 0, 0, 0},
     {"no year of the least", INT64_MIN, 500, 1200, 1000, 0, 0, 0, 'A', 3, 0, 0, 0, 0, 0, 0},
-    {"the year before the plan", 4, 500, 999, 1000, 0, 0, 0, 'A', 3, 0, 0, 0, 0, 0, 0},
-    {"the year before the form of the building", 4, 10000000, 1000, 1000, 0, 0, 0, 'A', 3, 0, 0, 0, 0, 0, 0},
+    {"the year before the plan", 5, 500, 999, 1000, 0, 0, 0, 'A', 3, 0, 0, 0, 0, 0, 0},
+    {"the year before the form of the building", 5, 10000000, 1000, 1000, 0, 0, 0, 'A', 3, 0, 0, 0, 0, 0, 0},
     {"the year before the zone", 0, 500, 1200, 1000, 0, 0, 0, 'E', 3, 0, 0, 0, 0, 0, 0},
 };
 
@@ -215,8 +219,13 @@ static const verdict sheets[] = {
     {"V 1\n03\n", 1, 2},
     {"V 1\n3 3\n", 1, 2},
     {"V 1\n-3\n", 3, 2},
-    {"V 1\n4\n", 3, 2},
+    {"V 1\n4\n", 1, 3},
+    {"V 1\n4", 1, 2},
+    {"V 1\n04\n", 1, 2},
+    {"V 1\n-4\n", 3, 2},
+    {"V 1\n5\n", 3, 2},
     {"V 1\n30\n", 3, 2},
+    {"V 1\n40\n", 3, 2},
     {"V 1\n9999999\n", 3, 2},
     {"V 1\n-2\n", 3, 2},
     {"V 1\n2\n", 1, 3},
@@ -305,7 +314,8 @@ static const verdict sheets[] = {
     {SQUARE("1"), 3, 2},
     {SQUARE("2"), 4, 4},
     {SQUARE("3"), 1, 5},
-    {SQUARE("4"), 3, 2},
+    {SQUARE("4"), 1, 5},
+    {SQUARE("5"), 3, 2},
     {"V 1\n3\nB 1\n500 1001 1000 1250 0 0\n", 1, 5},
     {"V 1\n3\nB 1\n500 999 1000 1250 0 0\n", 4, 4},
     {"V 1\n3\nB 1\n500 4001 1000 1250 0 0\n", 4, 4},
@@ -497,6 +507,7 @@ int main(void)
         check_greatest(&both[i], "V 1\n3\n", "P 1\n30000 1000\n", "E 0 30000 -100000 100000 0\n");
         check_doubles(&both[i]);
         check_edits(&both[i]);
+        check_long(&both[i]);
         check_engine(&both[i]);
         check_newtons(&both[i]);
         check_mending(&both[i]);

@@ -11,7 +11,10 @@ typedef struct {
     aral_text (*plain)(const uint8_t *, size_t, uint8_t *, size_t);
     aral_coefficient (*outside)(int64_t, int64_t, int64_t, int64_t, int64_t, int64_t, int64_t, int64_t, uint8_t);
     aral_coefficient (*net)(int64_t, int64_t, int64_t, int64_t, int64_t, int64_t, int64_t, int64_t, uint8_t, int64_t);
+    aral_extreme (*total)(const uint8_t *, size_t, int64_t);
     aral_double (*panel)(int64_t);
+    aral_double (*panel_newtons)(int64_t, uint64_t);
+    aral_point (*chart_newtons)(aral_pair, aral_pair, aral_pair);
     aral_edited (*open)(const uint8_t *, size_t);
     aral_edited (*add)(aral_worksheet, aral_face);
     aral_edited (*replace)(aral_worksheet, int64_t, aral_face);
@@ -28,9 +31,11 @@ typedef struct {
 /* Counts the case, and says which does not hold. */
 void expect(const calculator *c, const char *what, int holds);
 
-/* The worked edits (worked_edits.c), and the worked cases of the plain engine (worked_engine.c), of the newton column
-   (worked_column.c), of mending (worked_mend.c) and of wind roses (worked_rose.c). */
+/* The worked edits (worked_edits.c), and the worked cases of long sheds (worked_long.c), of the plain engine
+   (worked_engine.c), of the newton column (worked_column.c), of mending (worked_mend.c) and of wind roses
+   (worked_rose.c). */
 void check_edits(const calculator *c);
+void check_long(const calculator *c);
 void check_engine(const calculator *c);
 void check_newtons(const calculator *c);
 void check_mending(const calculator *c);

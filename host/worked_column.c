@@ -10,9 +10,10 @@
 #define FLAT "B 1\n500 1200 1000 1250 2 0\n"
 #define JOB(faces) FLAT "W 1\n0 400\nI 1\n1\n" faces
 #define HIGH "V 1\n2\n" FLAT "W 1\n0 400\nI 1\n0\nP 2\n0 500\n600 1000\n"
+#define LONG_JOB "V 1\n4\n" FLAT "W 1\n0 400\nI 1\n1\nP 1\n600 1000\n"
 #define THREE(line) "F 3\n" line line line
 
-enum { SHOWN = 4, ROOM = 30, MANY = 1000, KEPT = -77 };
+enum { SHOWN = 4, ROOM = 250, MANY = 1000, KEPT = -77 };
 typedef struct { const char *name, *sheet; int64_t line, newtons[SHOWN]; } shared;
 static const shared columns[] = {
     {"the sample's column: 5000, 4000 and 0",
@@ -43,6 +44,8 @@ static const shared columns[] = {
     {"x max at the second internal: 7.1", FLAT "W 1\n0 400\nI 2\n1\n-1\n" THREE("A 0 10 0 0\n"), 1, {71, 71, 71}},
     {"of two cases alike the first: 2 under wind 0 and under wind 90", FLAT
      "W 2\n0 400\n90 400\nI 1\n0\nF 2\nD 90 -1 0 0\nB 0 -1 0 0\n", 2, {0, 2}},
+    {"20.7 in year 4 too", LONG_JOB THREE("A 0 600 1 0 0\n"), 1, {7, 7, 6}},
+    {"-0.3 in year 4 too", LONG_JOB "F 3\nB 0 600 1 0 0\nA 0 600 1 0 0\nC 0 600 1 0 0\n", 1, {-2, 7, -6}},
     {"at the heights of year 2: 7, and a quarter of it", HIGH "F 3\nA 0 600 1 0 0\nA 0 0 1 0 0\nA 0 0 1 0 0\n", 1,
      {7, 2, 1}},
 };
@@ -110,6 +113,30 @@ static void check_most(const calculator *c)
     expect(c, "the least", answer_to(c, &t, column).number == 0 && holds(column, newtons, 24));
 }
 
+/* 240 faces in year 4: of 1656 N 1440 by rounding 6.9 down, so that the first 216 get one more; and the largest. */
+static void check_long_sheds(const calculator *c)
+{
+    int64_t column[ROOM], newtons[ARAL_FACES_MOST];
+    call t = call_of(c, LONG_JOB "F 1\nA 0 600 1 0 0\n", 1);
+    t.n = t.room = 240;
+    for (int i = 0; i < 240; i++) newtons[i] = i < 216 ? 7 : 6;
+    expect(c, "240 faces", answer_to(c, &t, column).number == 0 && holds(column, newtons, 240));
+    t.room = 239;
+    expect(c, "240 faces in a column of 239", answer_to(c, &t, column).number == ARAL_ROOM && holds(column, NULL, 0));
+    t.n = t.room = 241;
+    aral_answer a = answer_to(c, &t, column);
+    expect(c, "241 faces", a.number == ARAL_COUNT && a.line == 11 && holds(column, NULL, 0));
+    t.s.year = 3;
+    t.n = 25;
+    a = answer_to(c, &t, column);
+    expect(c, "25 faces in year 3", a.number == ARAL_COUNT && a.line == 11 && holds(column, NULL, 0));
+    t = call_of(c, "V 1\n4\nB 1\n500 1200 1000 1500 1 100\nW 1\n0 1000\nI 1\n100\nP 1\n0 1000\n"
+                   "F 1\nE 0 0 -100000 100000 0\n", 1);
+    t.n = t.room = 240;
+    for (int i = 0; i < 240; i++) newtons[i] = 16500000;
+    expect(c, "the largest of 240", answer_to(c, &t, column).number == 0 && holds(column, newtons, 240));
+}
+
 /* ---- Refusals ---- */
 
 /* Lines 5 to 7 are the winds, 8 to 10 the internals, 11 to 13 the profile, 14 the faces' count, 15 to 17 the faces. */
@@ -133,6 +160,9 @@ SLIP(area_long, t->face[2].y = 10000000)
 SLIP(zone_4, t->face[3].zone = 'I')
 SLIP(year_0, t->s.year = 0)
 SLIP(year_4, t->s.year = 4)
+SLIP(year_5, t->s.year = 5)
+SLIP(year_4_face_25, t->s.year = 4; t->n = 25; t->room = 25)
+SLIP(year_4_face_241, t->s.year = 4; t->n = 241; t->room = ROOM)
 SLIP(h_long, t->s.building.h = 10000000)
 SLIP(square, t->s.building.a = t->s.building.b)
 SLIP(eaves, t->s.building.x = 1)
@@ -177,7 +207,10 @@ static const struct { const char *name; void (*slip)(call *); uint32_t number, l
     {"an area of eight digits", area_long, 1, 17},
     {"what stands past the faces", zone_4, 0, 0},
     {"year 0", year_0, 3, 2},
-    {"year 4", year_4, 3, 2},
+    {"year 4", year_4, 0, 0},
+    {"year 5", year_5, 3, 2},
+    {"25 faces in year 4", year_4_face_25, 0, 0},
+    {"241 faces in year 4", year_4_face_241, 2, 14},
     {"a height of eight digits", h_long, 1, 4},
     {"a square plan in year 2", square, 4, 4},
     {"straight eaves with a number", eaves, 5, 4},
@@ -224,5 +257,6 @@ void check_newtons(const calculator *c)
 {
     check_shared(c);
     check_most(c);
+    check_long_sheds(c);
     check_refusals(c);
 }

@@ -79,7 +79,7 @@ static const move full[] = {
 };
 
 /* A cell's sums by hand, as x greatest, x least, y greatest, .. z least: nets in thousandths times areas in thousands
-   of dm2 under a wind of 400. One is 200,000,000,000 units. */
+   of dm2 under a wind of 400. One is 200,000,000,000 units, which are 10 N. */
 typedef struct { int number[6]; } worked_cell;
 
 /* The sample's two cells, of 0.2 and of -0.3. Zone F has 200 and -200, so its nets are 0 or -400, and 500 or 100. */
@@ -219,7 +219,7 @@ static void check_held(const calculator *c, const char *what, const aral_workshe
 static void check_years(const calculator *c)
 {
     static const struct { const char *what; int64_t year; uint32_t number; } years[] = {
-        {"a record of year 0", 0, 3}, {"a record of year 4", 4, 3}, {"a record of year -1", -1, 3},
+        {"a record of year 0", 0, 3}, {"a record of year 5", 5, 3}, {"a record of year -1", -1, 3},
         {"a record of year 9999999", 9999999, 3}, {"a record of year 10000000", 10000000, 1},
         {"a record of year 2^32 + 1", 4294967297, 1}};
     for (size_t i = 0; i < sizeof years / sizeof *years; i++) {
@@ -233,8 +233,8 @@ static void check_years(const calculator *c)
 
 static void check_counts(const calculator *c)
 {
-    static const uint32_t wrong[] = {0, 25, 10000000, UINT32_MAX};
-    for (int i = 0; i < 4; i++) {
+    static const uint32_t wrong[] = {0, 25, 240, 241, 10000000, UINT32_MAX};
+    for (int i = 0; i < 6; i++) {
         aral_worksheet w = opened(c, SAMPLE);
         w.job.faces.count = wrong[i];
         check_held(c, "a count of faces", &w, 2, 8);
@@ -287,11 +287,16 @@ static void check_not_carried(const calculator *c)
 
 /* ---- Sums ---- */
 
+static int same_pair(aral_pair p, int64_t newtons, uint64_t remainder)
+{
+    return p.newtons == newtons && p.remainder == remainder;
+}
+
 static int same_cell(const aral_sum_cell *c, const worked_cell *worked)
 {
-    const int64_t number[] = {c->x.greatest, c->x.least, c->y.greatest, c->y.least, c->z.greatest, c->z.least};
+    const aral_pair pair[] = {c->x.greatest, c->x.least, c->y.greatest, c->y.least, c->z.greatest, c->z.least};
     for (int k = 0; k < 6; k++)
-        if (number[k] != worked->number[k] * INT64_C(200000000000)) return 0;
+        if (pair[k].newtons != worked->number[k] * 10 || pair[k].remainder) return 0;
     return 1;
 }
 
@@ -319,7 +324,7 @@ static void check_sums(const calculator *c)
     static const worked_cell nothing[2];
     aral_worksheet w = opened(c, SAMPLE);
     expect(c, "sums: the sample opened", same_sums(&w.sums, sample_cells, 1));
-    expect(c, "sums: 9000 N", w.sums.cell[0].x.greatest == 180000000000000);
+    expect(c, "sums: 9000 N", same_pair(w.sums.cell[0].x.greatest, 9000, 0));
     check_sums_moves(c, w, 1, sample_sums, sizeof sample_sums / sizeof *sample_sums);
     w = opened(c, TURNING);
     expect(c, "sums: two winds opened", same_sums(&w.sums, turning_cells, 4));
@@ -338,49 +343,75 @@ static void check_other_sums(const calculator *c)
     aral_edited e = c->add(w, (aral_face){'A', 0, 0, 1000, 0, 0});
     expect(c, "A added to sums of 0: 500, 1000",
            shows(c, &e.worksheet, "x max 200000000000000 1 2 1 1 1 1\nx min 100000000000000 1 1 1 1 1 1\n"));
-    w.sums.cell[0].z = (aral_span){-1, 7};
-    w.sums.cell[1].z = (aral_span){5, 7};
-    w.sums.cell[2].z = w.sums.cell[4].z = (aral_span){INT64_MAX, INT64_MIN};
+    w.sums.cell[0].z = (aral_span){{-1, 19999999999}, {0, 7}};
+    w.sums.cell[1].z = (aral_span){{0, 5}, {0, 7}};
+    w.sums.cell[2].z = w.sums.cell[4].z = (aral_span){{396000000, 0}, {-396000000, 0}};
     expect(c, "the second cell's sum, and the first of two", shows(c, &w, "z max 5 1 2 1 1 2\nz min 7 1 1 1 1 1\n"));
-    w.sums.cell[1].z = (aral_span){INT64_MAX, INT64_MIN};
-    expect(c, "the ends", shows(c, &w, "z max 9223372036854775807 1 2 1 1 2\nz min -9223372036854775808 1 2 1 1 1\n"));
+    w.sums.cell[1].z = (aral_span){{-1, 19999999998}, {-1, 19999999998}};
+    expect(c, "minus one unit, and minus two", shows(c, &w, "z max -1 1 1 1 1 2\nz min -2 1 2 1 1 1\n"));
+    w.sums.cell[1].z = (aral_span){{396000000, 0}, {-396000000, 0}};
+    expect(c, "the ends", shows(c, &w, "z max 7920000000000000000 1 2 1 1 2\nz min -7920000000000000000 1 2 1 1 1\n"));
+    w.sums.cell[1].z.least = (aral_pair){INT64_MIN, UINT64_MAX};
+    expect(c, "past the ends: anew", shows(c, &w, "z max 160000000000000 1 1 1 1 2\nz min -200000000000000 1 2"));
     e = c->replace(w, 3, (aral_face){'G', 0, 0, 0, 0, 0});
     expect(c, "a refused edit keeps them", e.number == 6 && !memcmp(&e.worksheet.sums, &w.sums, sizeof w.sums));
 }
 
-/* A sum up to 7.92 x 10^18 in size is kept, and moved on; a larger one lets all be added up anew. Here x of 0.2 is one
-   unit off, and the number stands on y of a cell, in the counts or past them, where the new face brings nothing. */
-static void check_large_sum(const calculator *c, int64_t number, int cell, int kept)
+/* ---- Sums that no job has ---- */
+
+/* What is tried on a worksheet of a year: how far its sums go, in newtons; what is shown of x where the sum of 0.2 is
+   one unit off, and where all are added up anew. */
+typedef struct { const char *sheet; int64_t most; int high; const char *off, *anew; } year_sums;
+#define LONG_SAMPLE "V 1\n4\nB 1\n500 1200 1000 1250 2 0\nW 1\n0 400\nI 2\n20\n-30\nP 1\n600 1000\n" \
+                    "F 3\nA 0 600 1000 0 0\nB - 600 -1000 0 0\nF 0 600 0 0 -2000\n"
+static const year_sums of_years[] = {
+    {SAMPLE, 396000000, 0, "x max 180000000000001 1 1 1 1 1\n", "x max 180000000000000 1 1 1 1 1\n"},
+    {LONG_SAMPLE, 3960000000, 600, "x max 9000 1 1 1 1 1 1\n", "x max 9000 0 1 1 1 1 1\n"}};
+
+static aral_face one_more_a(const year_sums *y) { return (aral_face){'A', 0, y->high, 1000, 0, 0}; }
+
+/* A pair that a job's sum can be is kept, and moved on; another lets all be added up anew, by an edit and where they
+   are shown. Here x of 0.2 is one unit off, and the pair stands on y of a cell, in the counts or past them, where the
+   new face brings nothing. */
+static void check_pair(const calculator *c, const year_sums *y, aral_pair p, int cell, int kept)
 {
-    aral_worksheet w = opened(c, SAMPLE);
-    w.sums.cell[0].x.greatest++;
-    w.sums.cell[cell].y = (aral_span){cell % 2 ? number : 0, cell % 2 ? 0 : number};
-    aral_edited e = c->add(w, (aral_face){'A', 0, 0, 1000, 0, 0});
-    const aral_span *x = &e.worksheet.sums.cell[0].x, *y = &e.worksheet.sums.cell[cell].y;
-    expect(c, "x beside a large sum", x->greatest == 280000000000000 + kept && x->least == 280000000000000);
-    expect(c, "a large sum, kept or 0", y->greatest + y->least == (kept ? number : 0));
+    static const aral_pair none;
+    aral_worksheet w = opened(c, y->sheet);
+    w.sums.cell[0].x.greatest.remainder++;
+    w.sums.cell[cell].y = (aral_span){cell % 2 ? p : none, cell % 2 ? none : p};
+    expect(c, "x shown beside a large sum", shows(c, &w, kept ? y->off : y->anew));
+    aral_edited e = c->add(w, one_more_a(y));
+    const aral_span *x = &e.worksheet.sums.cell[0].x, *at = &e.worksheet.sums.cell[cell].y;
+    expect(c, "x beside a large sum", same_pair(x->greatest, 14000, (uint64_t)kept) && same_pair(x->least, 14000, 0));
+    aral_pair held = cell % 2 ? at->greatest : at->least, other = cell % 2 ? at->least : at->greatest;
+    expect(c, "a large sum, kept or 0", same_pair(held, kept ? p.newtons : 0, kept ? p.remainder : 0));
+    expect(c, "the sum beside it", same_pair(other, 0, 0));
 }
 
-static void check_large_sums(const calculator *c)
+static void check_large_sums(const calculator *c, const year_sums *y)
 {
-    static const struct { int64_t number; int kept; } large[] = {
-        {7920000000000000000, 1}, {-7920000000000000000, 1}, {7920000000000000001, 0}, {-7920000000000000001, 0},
-        {INT64_MAX, 0},           {INT64_MIN, 0}};
+    const struct { aral_pair pair; int kept; } large[] = {
+        {{y->most, 0}, 1},               {{-y->most, 0}, 1},
+        {{y->most, 1}, 0},               {{-y->most - 1, 19999999999}, 0},
+        {{y->most - 1, 19999999999}, 1}, {{-y->most, 19999999999}, 1},
+        {{y->most - 1, 20000000000}, 0}, {{-y->most - 1, 20000000000}, 0},
+        {{0, 20000000000}, 0},           {{0, UINT64_MAX}, 0},
+        {{INT64_MAX, 0}, 0},             {{INT64_MIN, 0}, 0}};
     static const int cell[] = {0, 1, 2, 4, 31};
-    for (int i = 0; i < 6; i++)
-        for (int k = 0; k < 5; k++) check_large_sum(c, large[i].number, cell[k], large[i].kept);
+    for (size_t i = 0; i < sizeof large / sizeof *large; i++)
+        for (int k = 0; k < 5; k++) check_pair(c, y, large[i].pair, cell[k], large[i].kept);
 }
 
-/* An edit may carry a sum past the largest. The next adds up anew: 900 + 500 + 500. */
-static void check_carried_past(const calculator *c)
+/* An edit may carry a sum past the largest. It is then shown anew, and the next edit adds up anew: 900 + 500 + 500. */
+static void check_carried_past(const calculator *c, const year_sums *y, const char *line)
 {
-    static const aral_face a = {'A', 0, 0, 1000, 0, 0};
-    aral_worksheet w = opened(c, SAMPLE);
-    w.sums.cell[0].x.greatest = 7920000000000000000;
-    aral_edited e = c->add(w, a);
-    expect(c, "a sum carried past the largest", e.worksheet.sums.cell[0].x.greatest == 7920100000000000000);
-    e = c->add(e.worksheet, a);
-    expect(c, "and added up anew", e.worksheet.sums.cell[0].x.greatest == 380000000000000);
+    aral_worksheet w = opened(c, y->sheet);
+    w.sums.cell[0].x.greatest = (aral_pair){y->most, 0};
+    aral_edited e = c->add(w, one_more_a(y));
+    expect(c, "a sum carried past the largest", same_pair(e.worksheet.sums.cell[0].x.greatest, y->most + 5000, 0));
+    expect(c, "and shown anew", shows(c, &e.worksheet, line));
+    e = c->add(e.worksheet, one_more_a(y));
+    expect(c, "and added up anew", same_pair(e.worksheet.sums.cell[0].x.greatest, 19000, 0));
 }
 
 /* What is written is the sheet; one short of it is refused, and nothing is written. */
@@ -409,6 +440,7 @@ void check_edits(const calculator *c)
     check_written(c);
     check_sums(c);
     check_other_sums(c);
-    check_large_sums(c);
-    check_carried_past(c);
+    for (int i = 0; i < 2; i++) check_large_sums(c, &of_years[i]);
+    check_carried_past(c, &of_years[0], "x max 380000000000000 1 2 1 1 1 1\n");
+    check_carried_past(c, &of_years[1], "x max 19000 0 1 2 1 1 1 1\n");
 }

@@ -15,6 +15,10 @@
 #define BOTH_WINDS "W 2\n0 400\n90 200\n"
 #define NONE_INSIDE "I 1\n0\n"
 #define HIGH_FACE "F - 600 0 0 -1000\n"
+#define FOUR_HIGH HIGH_FACE HIGH_FACE HIGH_FACE HIGH_FACE
+#define EIGHT_HIGH FOUR_HIGH FOUR_HIGH
+#define FORTY_HIGH EIGHT_HIGH EIGHT_HIGH EIGHT_HIGH EIGHT_HIGH EIGHT_HIGH
+#define EIGHTY_HIGH FORTY_HIGH FORTY_HIGH
 
 /* What the plain engine answers, and one line of its report where it takes the job. */
 typedef struct { const char *name, *sheet; uint32_t number, line; const char *has; } engine_case;
@@ -47,8 +51,14 @@ static const engine_case engine_cases[] = {
     {"the last of all cases: wind 2, where four act at 400", FLAT "W 2\n90 200\n0 400\n" NONE_INSIDE
      "F 8\n" FOUR("90") FOUR("0"), 0, 0, "z max 160000000000000 2 1 1 1 1 1 2 2 2 2\n"},
     {"of year 3 at half the speed, a quarter each", "V 1\n3\nB 1\n500 1000 1000 1250 2 0\n" ONE_WIND NONE_INSIDE
-     "P 1\n600 500\nF 8\n" HIGH_FACE HIGH_FACE HIGH_FACE HIGH_FACE HIGH_FACE HIGH_FACE HIGH_FACE HIGH_FACE, 0, 0,
+     "P 1\n600 500\nF 8\n" EIGHT_HIGH, 0, 0,
      "z max 80000000000000 1 1 2 2 2 2 2 2 2 2\n"},
+    {"of year 4: 4000 N and nothing remains", "V 1\n4\nB 1\n500 1000 1000 1250 2 0\n" ONE_WIND NONE_INSIDE
+     "P 1\n600 500\nF 8\n" EIGHT_HIGH, 0, 0, "z max 4000 0 1 1 2 2 2 2 2 2 2 2\n"},
+    {"nine of year 4", "V 1\n4\nB 1\n500 1000 1000 1250 2 0\n" ONE_WIND NONE_INSIDE
+     "P 1\n600 500\nF 9\n" EIGHT_HIGH HIGH_FACE, 10, 0, ""},
+    {"240 of a gable in year 4: 240 times a quarter of 8000 N", "V 1\n4\nB 1\n500 1200 1000 1250 1 0\n" ONE_WIND
+     NONE_INSIDE "P 1\n600 500\nF 240\n" EIGHTY_HIGH EIGHTY_HIGH EIGHTY_HIGH, 0, 0, "z min 480000 0 1 1 1 1 1 1 1 1 1"},
     {"nine faces", FLAT ONE_WIND NONE_INSIDE "F 9\n" EIGHT("-") FACE("-", "-1000"), 10, 0, ""},
     {"nine, one of them without area", FLAT ONE_WIND NONE_INSIDE "F 9\n" FACE("0", "0") EIGHT("-"), 10, 0, ""},
     {"nine, of which one is for a wind that does not blow", FLAT ONE_WIND NONE_INSIDE
@@ -66,7 +76,7 @@ static const engine_case engine_cases[] = {
     {"a line too many first", FLAT ONE_WIND NONE_INSIDE "F 9\n" EIGHT("-") FACE("-", "0") "\n", 1, 17, ""},
 };
 
-enum { OUT = 1000 };
+enum { OUT = 4000 };
 
 static int as_it_was(const char *out)
 {

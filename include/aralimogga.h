@@ -6,9 +6,9 @@
    number  given when
    0       accepted; the line is 0 too
    1       the line is missing, unended, extra or not in the sheet's form
-   2       a count is not 1 for V and B, or not 1 to 8 for W, 1 to 4 for I, 1 to 16 for P, 1 to 24 for F; an edit would
-           leave more than 24 faces, or none (line 0)
-   3       a number is outside its range, the year is not 2 or 3, a direction or a mark is a number that the roof has
+   2       a count is not 1 for V and B, or not 1 to 8 for W, 1 to 4 for I, 1 to 16 for P, 1 to 24 for F, from year 4
+           on 1 to 240; an edit would leave more faces than that, or none (line 0)
+   3       a number is outside its range, the year is not 2 to 4, a direction or a mark is a number that the roof has
            no wind for, or a height of the profile does not rise
    4       h/b is over 6, or a/b is under 1 or over 4; in years 1 and 2 also where a/b is 1
    5       the roof number x is outside its kind's range
@@ -19,10 +19,11 @@
    10      more than 8 faces have two alternatives under at least one of the job's winds (line 0); by aral_plain alone
    11      an observation comes after 1,000,000 accepted ones; by a rose alone, whose other refusals are 1 and 3
 
-   A sheet of year 1 opens with section B. One of a later year opens with section V and the year, 2 or 3; it has a
+   A sheet of year 1 opens with section B. One of a later year opens with section V and the year, 2 to 4; it has a
    section P after I, the profile, and a height after each face's mark. A face's speed is then the wind's times the
    profile's factor at its height, rounded once to a tenth, a half up. Year 3 has the form of year 2 and takes square
-   plans too, a equal to b: their walls have the rows of a/b to 3/2. All else is the same in years 2 and 3.
+   plans too, a equal to b: their walls have the rows of a/b to 3/2. All else is the same in years 2 and 3. Year 4 has
+   the form of year 3, with up to 240 faces, and its report has each total as newtons and a remainder.
 
    Roof kinds are 0 none, 1 gable, 2 flat with straight eaves, 3 with a parapet, 4 with curved eaves, 5 with a mansard,
    and 6 a single slope, whose x is 50 to 300 tenths of a degree. Winds, marks and questions have the directions 0 and
@@ -34,7 +35,8 @@
 
    What a caller owes: a pointer and its length name bytes or entries that may be read (`sheet`, `faces`, `part`) or
    written (`out`, `column`, `list`), no two of a call overlap, and no other thread writes them during the call. Where
-   the length is 0 the pointer may be null. */
+   the length is 0 the pointer may be null. And it owes the stack: records are large, and no call takes more of it than
+   ARAL_STACK_MOST bytes, the records that it is handed and answers included. */
 #ifndef ARALIMOGGA_H
 #define ARALIMOGGA_H
 
@@ -47,8 +49,8 @@ extern "C" {
 
 /* The version of these shapes: it rises where a record or a call changes. 2: a coefficient names its rows. 3: a
    question names its year. 4: worksheets. 5: a worksheet keeps its sums. 6: the plain engine. 7: newton columns.
-   8: sheets mended. 9: wind roses. */
-#define ARAL_VERSION 9
+   8: sheets mended. 9: wind roses. 10: long sheds. */
+#define ARAL_VERSION 10
 
 /* The refusals by name. */
 enum {
@@ -65,13 +67,16 @@ enum {
     ARAL_OBSERVATIONS = 11
 };
 
-/* The greatest lengths: in bytes of an acceptable sheet, a report and the digits of a number; and of a job's faces. And
-   the most faces with two alternatives under at least one of the winds that aral_plain takes. */
-#define ARAL_SHEET_MOST 1190
-#define ARAL_REPORT_MOST 474
+/* The greatest lengths: in bytes of an acceptable sheet, a report and the digits of a number. The faces that a record
+   has room for, and how many of them a job of a year may have. The most faces with two alternatives under at least one
+   of the winds that aral_plain takes. And the stack of a call, in bytes. */
+#define ARAL_SHEET_MOST 8966
+#define ARAL_REPORT_MOST 3084
 #define ARAL_DIGITS_MOST 20
-#define ARAL_FACES_MOST 24
+#define ARAL_FACES_MOST 240
+#define ARAL_FACES_OF(year) ((year) < 4 ? 24 : ARAL_FACES_MOST)
 #define ARAL_CHOICES_MOST 8
+#define ARAL_STACK_MOST 262144
 
 /* A rose has so many sectors, in each of them so many Beaufort numbers, and takes so many observations. */
 #define ARAL_SECTORS 16
@@ -119,12 +124,18 @@ typedef struct {
     uint32_t part, whole;
 } aral_coefficient;
 
-/* One of the six totals, in units of 0.00000000005 N (20,000,000,000 units are one newton), and the first case that
-   reaches it: the wind, the internal coefficient and each face's alternative, all numbered from 1.
+/* A number of units of 0.00000000005 N, of which 20,000,000,000 are one newton: whole newtons, rounded down towards
+   minus infinity, and the units that remain, 0 to 19,999,999,999. So minus one unit is -1 and 19999999999. */
+typedef struct { int64_t newtons; uint64_t remainder; } aral_pair;
+
+/* One of the six totals as newtons and remainder, in years 1 to 3 also as units in `total`, which is 0 in year 4; and
+   the first case that reaches it: the wind, the internal coefficient and each face's alternative, all numbered from 1.
    `alternative` is 0 past `faces`. Everything after `line` is 0 where refused. */
 typedef struct {
     uint32_t number, line;
     int64_t total;
+    int64_t newtons;
+    uint64_t remainder;
     uint32_t wind, internal, faces;
     uint8_t alternative[ARAL_FACES_MOST];
 } aral_extreme;
@@ -169,17 +180,18 @@ typedef struct {
 } aral_setting;
 
 /* For each wind and internal coefficient, both counted from 0, cell[4 * wind + internal] has on each axis the greatest
-   and the least total over every choice of the faces' alternatives, in the units of aral_extreme. Cells past the counts
-   are no part of the sums. */
-typedef struct { int64_t greatest, least; } aral_span;
+   and the least total over every choice of the faces' alternatives, in every year as a pair. Cells past the counts are
+   no part of the sums. */
+typedef struct { aral_pair greatest, least; } aral_span;
 typedef struct { aral_span x, y, z; } aral_sum_cell;
 typedef struct { aral_sum_cell cell[32]; } aral_sums;
 
 /* A job that the host holds while its faces are edited, and its sums, kept from edit to edit. It may hold anything:
    each call judges the held job first, with the number and line that its sheet would get. So a number of more than
-   seven digits or a zone that is none of A to H is 1, a count above the room of its list 2, and a year other than 1 to
-   3 is 3 at line 2. No call refuses sums: from aral_open on they are those of the faces after every edit, refused or
-   not, and a host that puts others in their place is shown what it put there. */
+   seven digits or a zone that is none of A to H is 1, a count above the room of its list 2, and so is one of more faces
+   than its year may have; a year other than 1 to 4 is 3 at line 2. No call refuses sums: from aral_open on they are
+   those of the faces after every edit, refused or not, and a host that puts others in their place is shown what it put
+   there, if a job of the year could have it: see the edits. */
 typedef struct { aral_job job; aral_sums sums; } aral_worksheet;
 
 /* Accepted (0, 0) with the worksheet after the edit; or the refusal, with the worksheet as it was handed in. */
@@ -225,7 +237,8 @@ aral_text aral_rewrite(const uint8_t *sheet, size_t n, uint8_t *out, size_t room
 aral_mended aral_mend(const uint8_t *sheet, size_t n, uint8_t *out, size_t room, uint64_t *list, size_t list_room);
 
 /* Reads a sheet and writes the report of its worst cases: six lines, `x max`, `x min`, `y max`, `y min`, `z max`,
-   `z min`, each followed by the total in units, the wind, the internal coefficient and each face's alternative.
+   `z min`, each followed by the total, the wind, the internal coefficient and each face's alternative. The total is in
+   units; in year 4 it is two numbers, newtons and remainder, both without leading zeros: `-1 19999999999`.
    Refusals and the buffer as for aral_rewrite. No report is longer than ARAL_REPORT_MOST bytes. */
 aral_text aral_report(const uint8_t *sheet, size_t n, uint8_t *out, size_t room);
 
@@ -249,8 +262,9 @@ aral_extreme aral_total(const uint8_t *sheet, size_t n, int64_t line);
    the largest remainders, the earlier face first where equal. So column[0] to column[n - 1], face by face, add up to
    the total rounded down, and each is less than 1 N from the face's force. Entries from column[n] on stay as they were.
    Refuses, in this order: the job, with the number and line that its sheet would get, as for a worksheet: no face, or
-   more than 24, is 2 at the line of section F's count; another report line with 3, line 0; a column of `room` entries
-   that is shorter than the faces with 7, line 0. A refused call changes no entry of the column. */
+   more than 24, in year 4 more than 240, is 2 at the line of section F's count; another report line with 3, line 0; a
+   column of `room` entries that is shorter than the faces with 7, line 0. A refused call changes no entry of the
+   column. */
 aral_answer aral_column(aral_setting s, const aral_face *faces, size_t n, int64_t line, int64_t *column, size_t room);
 
 /* Writes the decimal digits of any number, most significant first, after a `-` where it is negative.
@@ -259,7 +273,7 @@ aral_answer aral_column(aral_setting s, const aral_face *faces, size_t n, int64_
 aral_text aral_digits(int64_t number, uint8_t *out, size_t room);
 
 /* The outside coefficient of one place on a building under one wind direction, in thousandths, and its rows.
-   The year, 1 to 3; height h, longer side a and shorter side b in cm, density in g/m3, the roof's kind and its number
+   The year, 1 to 4; height h, longer side a and shorter side b in cm, density in g/m3, the roof's kind and its number
    x, as on the building's line of a sheet of that year. `place` is the letter of a zone, `A` to `H`, or `w` for the
    wall local, `1` for L1, `2` for L2.
    Refuses, in this order: another year with 3, line 0; the building with 1, 3, 4 or 5 as its sheet would be, at line 2
@@ -284,11 +298,13 @@ aral_edited aral_open(const uint8_t *sheet, size_t n);
    and the entry that the last one had is zero. In year 1 a new face's height is not looked at, and the worksheet has
    0 for it.
    Each sum loses the part of the face that leaves, its greatest or least force there, and gains that of the face that
-   comes; cells past the counts stay. But where one of the 192 numbers handed in, past the counts or not, is over
-   7920000000000000000 in size, which no job's sum is, all are added up anew from the faces, with zero past the counts.
+   comes; cells past the counts stay. But where one of the 192 pairs handed in, past the counts or not, is none that a
+   job of its year can have, all are added up anew from the faces, with zero past the counts. Such a pair has a
+   remainder of 20000000000 or more, or is over 7920000000000000000 units in size, which are 396000000 N; in year 4 over
+   79200000000000000000, which are 3960000000 N.
    Refuse, in this order: the held job, as its sheet would be; a face other than 1 to the count with 9, line 0; adding
-   to 24 faces, or taking out the only one, with 2, line 0; the new face with 1, 3, 6 or 8 as its line of the sheet
-   would be: one after the last face's where it is added, that of face `face` where it replaces it. */
+   to 24 faces, in year 4 to 240, or taking out the only one, with 2, line 0; the new face with 1, 3, 6 or 8 as its line
+   of the sheet would be: one after the last face's where it is added, that of face `face` where it replaces it. */
 aral_edited aral_add(aral_worksheet w, aral_face f);
 aral_edited aral_replace(aral_worksheet w, int64_t face, aral_face f);
 aral_edited aral_take_out(aral_worksheet w, int64_t face);
@@ -296,7 +312,8 @@ aral_edited aral_take_out(aral_worksheet w, int64_t face);
 /* Write the report of the held job, as aral_report does of its sheet, and its sheet.
    The report is made from the sums: each total is the sum that is furthest out within the counts, with the first wind
    and internal coefficient that have it, and each face's alternative is the first that goes furthest out there. So it
-   is the report of the sheet where the sums are those of the faces. The sheet does not go by the sums.
+   is the report of the sheet where the sums are those of the faces, and also where one of the 192 pairs is none that a
+   job of its year can have, since they are then added up anew as by an edit. The sheet does not go by the sums.
    Refuse the held job as its sheet would be; then with 7, line 0, where the text is longer than `room`. The buffer as
    for aral_rewrite. No report is longer than ARAL_REPORT_MOST bytes, and no sheet than ARAL_SHEET_MOST. */
 aral_text aral_show(aral_worksheet w, uint8_t *out, size_t room);
@@ -326,6 +343,15 @@ aral_double aral_panel(int64_t total);
 
 /* The chart point of three totals. Never refuses. */
 aral_point aral_chart(int64_t x, int64_t y, int64_t z);
+
+/* The panel's doubles of a total of year 4, which are of the newtons alone; and the chart point of three such totals.
+   Never refuse, whatever the numbers are. Where the remainder is 0 and a double equals the newtons, it is exact. Else
+   low is the greatest double at or below the newtons, and high the least double at or above the newtons where the
+   remainder is 0, and at or above one more where it is anything else. So -1 and 19999999999 are between -1 and +0;
+   newtons that no double equals, all of them over 2^53 in size, are between those beside them. Zero is positive
+   zero. */
+aral_double aral_panel_newtons(int64_t newtons, uint64_t remainder);
+aral_point aral_chart_newtons(aral_pair x, aral_pair y, aral_pair z);
 
 #ifdef __cplusplus
 }
