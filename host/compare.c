@@ -15,7 +15,8 @@ enum { OUT = 16384, OUT_OF_SHORT = 2048, SHORT = 1500, WALKED = 4096 };
 #define NEWTON INT64_C(20000000000)
 static struct {
     unsigned long sheets, high, single, square, accepted, refused[9], walked, questions, answered, numbers, calls;
-    unsigned long most[5], over, walked_over; /* accepted by year; of more than 24 faces, and of these walked */
+    unsigned long of_year[5], over, walked_over; /* accepted by year; of more than 24 faces, and of these walked */
+    unsigned long wide;                          /* totals that take more than 64 bits */
     unsigned long choosing[ARAL_FACES_MOST + 1], idle; /* accepted, by how many faces choose; and with idle ones */
 } tally;
 static dice die;
@@ -101,6 +102,7 @@ static void compare_total(const text *t, int64_t line)
 {
     aral_extreme p = aral_total(t->byte, t->length, line), q = plain_total(t->byte, t->length, line);
     tally.calls++;
+    tally.wide += p.newtons >= INT64_MAX / NEWTON || p.newtons <= INT64_MIN / NEWTON;
     if (same_extreme(&p, &q) && right_pair(&p, year_of(t))) return;
     printf("line %" PRId64 ": library %u %u %" PRId64 " %" PRId64 " %" PRIu64 ", ", line, p.number, p.line, p.total,
            p.newtons, p.remainder);
@@ -160,7 +162,7 @@ static aral_answer compare_sheet(const text *t)
     tally.high += t->length > 0 && t->byte[0] == 'V';
     if (p.number == 0) tally.accepted++;
     else if (p.number <= 8) tally.refused[p.number]++;
-    if (p.number == 0) tally.most[year_of(t)]++;
+    if (p.number == 0) tally.of_year[year_of(t)]++;
     compare_rooms("a sheet written again", aral_rewrite, plain_rewrite, t);
     compare_rooms("a report", aral_report, plain_report, t);
     compare_engines(t, p);
@@ -430,8 +432,8 @@ int main(int argc, char **argv)
     printf("%lu accepted, refused by number", tally.accepted);
     for (int number = 1; number <= 8; number++)
         if (number != ARAL_ROOM) printf(" %d: %lu", number, tally.refused[number]);
-    printf("\naccepted of year 1: %lu, 2: %lu, 3: %lu, 4: %lu\n", tally.most[1], tally.most[2], tally.most[3],
-           tally.most[4]);
+    printf("\naccepted of year 1: %lu, 2: %lu, 3: %lu, 4: %lu; totals of more than 64 bits: %lu\n", tally.of_year[1],
+           tally.of_year[2], tally.of_year[3], tally.of_year[4], tally.wide);
     printf("%lu jobs walked through every case; of %lu with more than 24 faces %lu\n", tally.walked, tally.over,
            tally.walked_over);
     print_choosing();

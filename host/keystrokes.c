@@ -1,8 +1,9 @@
 /* Edits worksheets over and over, for the benchmark:
      kept|unkept edit|keystroke FACES EDITS [timed]
-   Six worksheets, of roof kinds 0 to 5, with 8 winds, 4 internals and so many faces, are taken in turn. An edit puts
-   another face in a face's place; a keystroke is an edit and the six lines after it. This file is compiled twice: the
-   program `kept` holds the sums, and `unkept`, with -DUNKEPT, a job alone, whose faces are added up for each report.
+   Six worksheets, of roof kinds 0 to 5, with 8 winds, 4 internals and so many faces, are taken in turn; they are of
+   year 1, and with more faces than it may have of year 4. An edit puts another face in a face's place; a keystroke is
+   an edit and the six lines after it. This file is compiled twice: the program `kept` holds the sums, and `unkept`,
+   with -DUNKEPT, a job alone, whose faces are added up for each report.
    Prints a sum over what was shown and the six lines of each worksheet at the end, which are the same for both; or with
    `timed` edits or keystrokes per second of processor time. */
 #define _POSIX_C_SOURCE 199309L
@@ -15,7 +16,7 @@
 #include <stdlib.h>
 #include <string.h>
 
-enum { SHEETS = 6, SPARES = 25 }; /* no number of faces divides 25, so that each place gets one after another */
+enum { SHEETS = 6, SPARES = 29 }; /* no number of faces divides 29, so that each place gets one after another */
 static struct { unsigned long edits; int faces, shown; } wanted;
 
 /* ---- The two ways ---- */
@@ -82,8 +83,9 @@ static void make_worksheets(void)
     static text t;
     static sample s;
     dice die = {1};
+    int year = wanted.faces <= ARAL_FACES_OF(1) ? 1 : 4;
     for (int i = 0; i < SHEETS; i++) {
-        make_sized(&die, &s, 1, i, 8, 4, 0, wanted.faces);
+        make_sized(&die, &s, year, i, 8, 4, year == 1 ? 0 : 4, wanted.faces);
         write_sample(&s, &t);
         worksheet[i] = opened(&t);
         for (int k = 0; k < SPARES; k++) {

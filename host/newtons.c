@@ -1,8 +1,8 @@
 /* Makes newton columns over and over, for the benchmark:
      newtons library|plain FACES COLUMNS [timed]
    Six jobs, of roof kinds 0 to 5, with 8 winds, 4 internals and so many faces, are taken in turn, and the six lines of
-   each one after another. Prints a sum over the columns, which is the same for both; or with `timed` columns per second
-   of processor time. */
+   each one after another. They are of year 1, and with more faces than it may have of year 4. Prints a sum over the
+   columns, which is the same for both; or with `timed` columns per second of processor time. */
 #define _POSIX_C_SOURCE 199309L
 #include "aralimogga.h"
 #include "plain.h"
@@ -30,8 +30,9 @@ int main(int argc, char **argv)
         fprintf(stderr, "newtons library|plain FACES COLUMNS [timed]\n");
         return 2;
     }
+    int faces = atoi(argv[2]), year = faces <= ARAL_FACES_OF(1) ? 1 : 4;
     for (int i = 0; i < JOBS; i++) {
-        make_sized(&die, &s, 1, i, 8, 4, 0, atoi(argv[2]));
+        make_sized(&die, &s, year, i, 8, 4, year == 1 ? 0 : 4, faces);
         record_of(&s, &w[i]);
     }
     unsigned long count = strtoul(argv[3], NULL, 10);

@@ -198,11 +198,29 @@ int some_faces(dice *d, int year)
     return (int)(pick(d, 0, 3) ? pick(d, 1, 240) : ONE_OF(d, 24, 25, 48, 49, 239, 240, 240));
 }
 
+/* Faces alike but for their areas, which are nearly as large as may be, under a wind and internal coefficient that are:
+   most of their totals take more than 64 bits. */
+static void make_heavy(dice *d, sample *s)
+{
+    s->density = 1500;
+    s->speed[0] = 1000;
+    s->internal[0] = 100;
+    if (s->mark[0] != DASH) s->direction[0] = s->mark[0];
+    for (int i = 0; i < s->steps; i++) s->step[i].factor = 1000;
+    for (int i = 0; i < s->faces; i++) {
+        s->zone[i] = s->zone[0];
+        s->mark[i] = s->mark[0];
+        s->height[i] = s->height[0];
+        for (int axis = 0; axis < 3; axis++) s->area[i][axis] = (int)pick(d, 90000, 100000) * (axis == 1 ? -1 : 1);
+    }
+}
+
 void make_sample(dice *d, sample *s)
 {
     int small = (int)pick(d, 0, 1), year = (int)pick(d, 1, 4);
     make_sized(d, s, year, pick(d, 0, 6), (int)pick(d, 1, small ? 2 : 8), (int)pick(d, 1, small ? 2 : 4),
                year == 1 ? 0 : (int)pick(d, 1, small ? 3 : 16), small ? (int)pick(d, 1, 5) : some_faces(d, year));
+    if (s->faces > 24 && pick(d, 0, 1)) make_heavy(d, s);
 }
 
 static void spoil_building(dice *d, sample *s)
