@@ -545,6 +545,9 @@ static inline void sum_case(const job *j, const worst *w, int wind, int internal
 /* Report lines 0, 2 and 4 want the greatest, the others the least. */
 static int beats(int k, units total, units than) { return k % 2 == 0 ? total > than : total < than; }
 
+/* The same where 64 bits hold both, which takes less time. */
+static int beats_few(int k, int64_t total, int64_t than) { return k % 2 == 0 ? total > than : total < than; }
+
 /* Takes the sums of a wind and internal where they are the first, or further out than all before. */
 static void keep_best(worst *w, const units sum[6], int wind, int internal)
 {
@@ -554,16 +557,35 @@ static void keep_best(worst *w, const units sum[6], int wind, int internal)
     }
 }
 
+/* The same of few faces. */
+static void keep_few(worst *w, const int64_t sum[6], int wind, int internal)
+{
+    for (int k = 0; k < 6; k++) {
+        best found = {sum[k], wind, internal};
+        if ((wind == 0 && internal == 0) || beats_few(k, sum[k], (int64_t)w->best[k].total)) w->best[k] = found;
+    }
+}
+
+/* Years 1 to 3 do not pay for the long sheds. */
+static inline void try_case(const job *j, worst *w, int wind, int internal)
+{
+    units sum[6];
+    int64_t few[6];
+    if (j->faces <= FEW) {
+        sum_few(j, w, wind, internal, 0, j->faces, few);
+        keep_few(w, few, wind, internal);
+    } else {
+        sum_case(j, w, wind, internal, sum);
+        keep_best(w, sum, wind, internal);
+    }
+}
+
 static void find_worst(const job *j, worst *w)
 {
     gather_offers(j, w);
     weigh(j, w);
     for (int wind = 0; wind < j->winds; wind++)
-        for (int internal = 0; internal < j->internals; internal++) {
-            units sum[6];
-            sum_case(j, w, wind, internal, sum);
-            keep_best(w, sum, wind, internal);
-        }
+        for (int internal = 0; internal < j->internals; internal++) try_case(j, w, wind, internal);
 }
 
 /* The alternative that face i takes in the case found for report line k: the first that is as good as any. */
@@ -574,7 +596,7 @@ static int alternative(const job *j, const worst *w, int k, int i)
     if (o->count < 2) return 1;
     int64_t weight = w->weight[b->wind][i][k / 2], inside = 10 * j->internal[b->internal];
     int64_t first = (o->value[0] - inside) * weight, second = (o->value[1] - inside) * weight;
-    return beats(k, second, first) ? 2 : 1;
+    return beats_few(k, second, first) ? 2 : 1;
 }
 
 /* ---- Newtons and remainders ---- */
