@@ -141,7 +141,7 @@ typedef struct {
 } aral_extreme;
 
 /* `exact` 1: low and high are both the number. `exact` 0: no double equals it, low is the nearest double below and
-   high the nearest above. */
+   high the nearest above. Of newtons and a remainder aral_panel_newtons says what they are. */
 typedef struct { uint32_t exact; double low, high; } aral_double;
 
 /* A chart point: for each axis the low and the high double of a total, the same where exact. */
