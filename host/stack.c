@@ -11,7 +11,7 @@
 #include <string.h>
 #include <ucontext.h>
 
-enum { STACK = 1 << 22, FILL = 0xa5, OUT = 16384, JOBS = 14 };
+enum { STACK = 2 * ARAL_STACK_MOST, FILL = 0xa5, OUT = 16384, JOBS = 14 };
 static uint8_t *stack;
 static ucontext_t back;
 
@@ -81,11 +81,11 @@ enum { ENTRIES = sizeof entry / sizeof *entry };
 
 /* ---- How much it takes ---- */
 
+/* The stack is left as it was found: all of one byte. */
 static size_t stack_of(void (*call)(void))
 {
     ucontext_t there;
     size_t untouched = 0;
-    memset(stack, FILL, STACK);
     getcontext(&there);
     there.uc_stack.ss_sp = stack;
     there.uc_stack.ss_size = STACK;
@@ -93,6 +93,7 @@ static size_t stack_of(void (*call)(void))
     makecontext(&there, call, 0);
     swapcontext(&back, &there);
     while (untouched < STACK && stack[untouched] == FILL) untouched++;
+    memset(stack + untouched, FILL, STACK - untouched);
     return STACK - untouched;
 }
 
@@ -123,6 +124,7 @@ int main(int argc, char **argv)
     }
     dice die = {strtoull(argv[1], NULL, 10)};
     stack = make_fence(STACK).start;
+    memset(stack, FILL, STACK);
     rose = aral_rose_new();
     for (int i = 0; i < JOBS; i++) {
         make_job(&die, i % 2 ? 4 : 1, i / 2);
