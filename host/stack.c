@@ -11,7 +11,7 @@
 #include <string.h>
 #include <ucontext.h>
 
-enum { STACK = 2 * ARAL_STACK_MOST, FILL = 0xa5, OUT = 16384, JOBS = 14 };
+enum { STACK = 4 * ARAL_STACK_MOST, FILL = 0xa5, OUT = 16384, JOBS = 14 };
 static uint8_t *stack;
 static ucontext_t back;
 

@@ -299,6 +299,26 @@ static void check_records(const calculator *c)
     }
 }
 
+/* No report is longer than of the most faces with the longest totals that can be shown: of year 4 lines of 5 bytes,
+   12 of newtons, 12 of what remains, 2 for each of 242 numbers, and 1; before it of 5, 21, 2 for each of 26, and 1. */
+static void check_longest(const calculator *c)
+{
+    static const struct { int64_t year; int faces; aral_pair sum; size_t length; } longest[] = {
+        {4, 240, {-3960000000, 19999999999}, ARAL_REPORT_MOST}, {3, 24, {-396000000, 0}, 6 * 79}};
+    for (int i = 0; i < 2; i++) {
+        uint8_t out[ARAL_REPORT_MOST];
+        sheet_text s = sheet_of(LONG, longest[i].faces, "A 0 600 1 0 0\n", "");
+        aral_worksheet w = opened(c, s.text);
+        aral_span all = {longest[i].sum, longest[i].sum};
+        w.job.year = longest[i].year;
+        w.sums.cell[0] = (aral_sum_cell){all, all, all};
+        aral_text t = c->show(w, out, longest[i].length);
+        expect(c, "the longest report", t.number == 0 && t.length == longest[i].length);
+        t = c->show(w, out, longest[i].length - 1);
+        expect(c, "the longest report in a room one short", t.number == ARAL_ROOM && t.line == 0);
+    }
+}
+
 void check_long(const calculator *c)
 {
     check_reckonings(c);
@@ -309,4 +329,5 @@ void check_long(const calculator *c)
     check_sums(c);
     check_full(c);
     check_records(c);
+    check_longest(c);
 }
