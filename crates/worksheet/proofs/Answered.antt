@@ -9,13 +9,14 @@ use Rattle.job.specs.Carried.{Carried, carried}
 use Rattle.job.specs.Walk.{judged}
 use Rattle.worst.specs.declared.Stored.{Stored}
 use Rattle.worst.specs.Stored.{storedIn}
+use Rattle.worst.specs.Within.{mostNewtons, allWithin}
 use Rattle.edits.specs.declared.EditedJob.{EditedJob}
 use Rattle.edits.specs.Edits.{Edit, editVerdict, editFaces, jobWith, editedJob}
 use Rattle.edits.proofs.Accepted.{edited-accepted}
 use Rattle.worksheet.specs.declared.Worksheet.{Worksheet}
-use Rattle.worksheet.specs.Kept.{leaving, coming, partOfFaces, moved, allWithin, sumsAfter}
+use Rattle.worksheet.specs.Kept.{leaving, coming, partOfFaces, moved, sumsAfter}
 use Rattle.worksheet.specs.Worksheet.{edited}
-use Rattle.worksheet.specs.Small.{keptOf}
+use Rattle.worksheet.specs.FromParts.{keptOf}
 use Rattle.worksheet.proofs.OneFace.{was-in-order}
 
 module _ (e : Edit) (w : Worksheet) (to : EditedJob) (p : to ≡ editedJob e (w .job)) where
@@ -58,7 +59,8 @@ module _ (e : Edit) (w : Worksheet) (to : EditedJob) (p : to ≡ editedJob e (w 
           verdict = same-verdict i;
           worksheet = record {
             job = job-after i;
-            sums = cond (allWithin (w .sums .cell)) (moved (w .sums) (hout i) (hnew i)) (anew i);
+            sums = cond (allWithin (mostNewtons (job-after i .year)) (w .sums .cell))
+                (moved (w .sums) (hout i) (hnew i)) (anew i);
           };
         })
         ∙ rw (eq-eqb (editVerdict e j .number) 0 passes)

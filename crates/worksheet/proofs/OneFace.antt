@@ -27,8 +27,7 @@ use Rattle.edits.proofs.Accepted.{Fits, all-fit, new-fits, fit-in-order, holdin
 use Rattle.edits.proofs.Accepted.{many}
 use Rattle.building.proofs.Accepted.{Within}
 use Rattle.worksheet.specs.Kept.{face, leaving, coming, partOfFaces}
-use Rattle.worksheet.specs.Small.{mostPart, AllSmall}
-use Rattle.worksheet.proofs.Bounds.{part-small}
+use Rattle.worksheet.proofs.Bounds.{SumsSmall, in-order-small, none-small}
 
 -- one face alone
 alone : (c : Carried) → InOrder c → (f : Face) → Fits c f → InOrder (withFaces (f ∷ []) c)
@@ -85,23 +84,14 @@ module _ (j : Job) where
         let fits = every-at (Fits c) (c .faces) noFace (n - 1) counted (all-fit c o) in
         alone c o (asCarried f) (subst (Fits c) (held-face (n - 1) (omega arith)) fits)
 
-    pub held-part : partOfFaces (carried j) (asCarried f ∷ [])
-        ≡ partOfFaces (carried j) (take 1 (drop (n - 1) (carried j .faces)))
-    held-part =
-        let c = carried j in
-        ap (partOfFaces c)
-        (ap (λ g. g ∷ []) (sym (held-face (n - 1) (omega arith))) ∙ sym (one-there (c .faces) (n - 1) noFace counted))
+    -- it is the one at its place in what the sheet carries
+    pub held-one : asCarried f ∷ [] ≡ take 1 (drop (n - 1) (carried j .faces))
+    held-one =
+        ap (λ g. g ∷ []) (sym (held-face (n - 1) (omega arith)))
+        ∙ sym (one-there (carried j .faces) (n - 1) noFace counted)
 
--- the part of face k is small
 abbrev pub heldPart : Job → ℤ → Stored
 heldPart j k = partOfFaces (carried j) (face k (carried j .faces))
-
-pub held-small : (j : Job) → InOrder (carried j) → (k : ℤ) → Within 1 (j .faces .count) k
-    → AllSmall mostPart (heldPart j k)
-held-small j o k t =
-    let n = natAbs k in
-    subst (AllSmall mostPart) (held-part j o n (t .from) (t .to))
-    (part-small (carried j) _ (held-alone j o n (t .from) (t .to)))
 
 -- ---- an edit that is not refused
 
@@ -136,6 +126,23 @@ module _ (j : Job) where
   was-in-order (Add f) z = held-in-order j (heldJob j) refl (add-passed j f z .first)
   was-in-order (Replace k f) z = held-in-order j (heldJob j) refl (replace-passed j k f z .first)
   was-in-order (TakeOut k) z = held-in-order j (heldJob j) refl (take-out-passed j k z .first)
+
+  -- ---- the sums of the one that leaves, and of the one that comes, are small
+
+  held-small : InOrder c → (k : ℤ) → Within 1 (j .faces .count) k → SumsSmall c (face k (c .faces))
+  held-small o k t =
+      subst (SumsSmall c) (held-one j o (natAbs k) (t .from) (t .to))
+      (in-order-small c _ (held-alone j o (natAbs k) (t .from) (t .to)))
+
+  pub leaving-small : (e : Edit) → editVerdict e j .number ≡ 0 → SumsSmall c (leaving e (c .faces))
+  leaving-small (Add f) z = none-small c
+  leaving-small (Replace k f) z = held-small (was-in-order (Replace k f) z) k (replace-there k f z)
+  leaving-small (TakeOut k) z = held-small (was-in-order (TakeOut k) z) k (take-out-there k z)
+
+  pub coming-small : (e : Edit) → editVerdict e j .number ≡ 0 → SumsSmall c (coming h e)
+  coming-small (Add f) z = in-order-small c _ (add-alone (was-in-order (Add f) z) f z)
+  coming-small (Replace k f) z = in-order-small c _ (replace-alone (was-in-order (Replace k f) z) k f z)
+  coming-small (TakeOut k) z = none-small c
 
   -- ---- the one in the place of the other
 

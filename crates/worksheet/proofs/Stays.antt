@@ -1,4 +1,5 @@
 -- An edit of a worksheet edits its job: an accepted one stays accepted, and a refused edit leaves all as it was.
+use mathlib.Core.Bool.{true}
 use mathlib.Core.Path.{_≡_, sym, ap, _∙_, subst}
 use lib.Dec.{eqb}
 use borrow.Author.Tests.{eqb-true, ne-eqb}
@@ -11,13 +12,14 @@ use Rattle.job.specs.InOrder.{InOrder}
 use Rattle.job.specs.Walk.{Accepted, judged}
 use Rattle.job.proofs.RoundTrip.{judged-carried}
 use Rattle.worst.specs.Stored.{storedOf}
+use Rattle.worst.specs.Within.{mostNewtons, allWithin}
+use Rattle.worst.proofs.SumsWithin.{own-within}
 use Rattle.edits.specs.Edits.{Edit, editVerdict, editFaces, jobWith, editedJob}
 use Rattle.edits.proofs.Accepted.{fit-in-order, editCarried, carried-edited, in-order-edited, edited-stays}
 use Rattle.worksheet.specs.declared.Worksheet.{Worksheet}
 use Rattle.worksheet.specs.Kept.{leaving, coming, partOfFaces, moved, sumsAfter}
 use Rattle.worksheet.specs.Worksheet.{edited}
-use Rattle.worksheet.proofs.Bounds.{sums-within}
-use Rattle.worksheet.proofs.OneFace.{was-in-order, placed}
+use Rattle.worksheet.proofs.OneFace.{was-in-order, leaving-small, coming-small, placed}
 use Rattle.worksheet.proofs.Exchange.{moved-stored}
 
 module _ (e : Edit) (w : Worksheet) where
@@ -39,6 +41,10 @@ module _ (e : Edit) (w : Worksheet) where
   abbrev j : Job
   j = w .job
 
+  within : InOrder (carried j) → allWithin (mostNewtons (j .year)) (storedOf (carried j) .cell) ≡ true
+  unfolding carried
+  within o = own-within (carried j) o
+
   -- those kept by an edit that is not refused are those of the job after it
   kept-true : editVerdict e j .number ≡ 0 → w .sums ≡ storedOf (carried j)
       → sumsAfter e w ≡ storedOf (carried (jobWith (editFaces e j) j))
@@ -53,10 +59,10 @@ module _ (e : Edit) (w : Worksheet) where
       let out = leaving e (c .faces) in
       let new = coming h e in
       rw held
-      (rw (sums-within c o)
+      (rw (within o)
       (ap (λ l. moved (storedOf (withFaces l c)) (partOfFaces c out) (partOfFaces c new)) (sym (p .was))
       ∙ moved-stored c (p .pre) out new (p .post) (subst (λ l. InOrder (withFaces l c)) (sym (p .was)) o)
-      (subst (λ l. InOrder (withFaces l c)) (sym (p .now)) after)
+      (subst (λ l. InOrder (withFaces l c)) (sym (p .now)) after) (leaving-small j e z) (coming-small j e z)
       ∙ ap (λ l. storedOf (withFaces l c)) (p .now)
       ∙ ap storedOf (sym (carried-edited j o e))))
 

@@ -1,11 +1,12 @@
 -- The sums that a worksheet stores, after an edit: it takes the old face's part out of each cell and puts the new
 -- one's in.
-use mathlib.Core.Bool.{Bool, true, cond, _&&_}
+use mathlib.Core.Bool.{Bool, cond}
 use mathlib.Core.List.{List, [], _∷_}
 use Prim.Native.Nat.{ℕ, _-_}
-use lib.Dec.{leb}
-use lib.IntN.{ℤ, natAbs, _+ℤ_, _-ℤ_}
+use lib.IntN.{ℤ, natAbs}
 use lib.ListN.{take, drop, getD}
+use Rattle.pair.specs.declared.Pair.{Pair}
+use Rattle.pair.specs.Total.{pairSum, pairDifference}
 use Rattle.building.specs.Year.{hasHeights}
 use Rattle.entry.specs.declared.Face.{Face}
 use Rattle.entry.specs.Says.{carriedFace}
@@ -14,6 +15,7 @@ use Rattle.worst.specs.declared.Span.{Span}
 use Rattle.worst.specs.declared.StoredCell.{StoredCell}
 use Rattle.worst.specs.declared.Stored.{Stored}
 use Rattle.worst.specs.Stored.{noCell, cellsOf, storedOf}
+use Rattle.worst.specs.Within.{mostNewtons, allWithin}
 use Rattle.edits.specs.Edits.{Edit, Add, Replace, TakeOut, editFaces, jobWith}
 use Rattle.worksheet.specs.declared.Worksheet.{Worksheet}
 
@@ -41,11 +43,14 @@ partOfFaces c fs = storedOf (withFaces fs c)
 
 -- ---- cell by cell
 
+abbrev pub movedPair : Pair → Pair → Pair → Pair
+movedPair held out new = pairSum (pairDifference held out) new
+
 abbrev pub movedSpan : Span → Span → Span → Span
 movedSpan held out new =
     record {
-      greatest = held .greatest -ℤ out .greatest +ℤ new .greatest;
-      least = held .least -ℤ out .least +ℤ new .least;
+      greatest = movedPair (held .greatest) (out .greatest) (new .greatest);
+      least = movedPair (held .least) (out .least) (new .least);
     }
 
 abbrev pub movedCell : StoredCell → StoredCell → StoredCell → StoredCell
@@ -63,29 +68,14 @@ cellAt t k = getD (t .cell) k noCell
 unfoldable pub moved : Stored → Stored → Stored → Stored
 moved held out new = cellsOf (λ k. movedCell (cellAt held k) (cellAt out k) (cellAt new k))
 
--- ---- sums that an accepted job can have
-
--- none is larger than 7.92 × 10^18 in size
-abbrev pub mostSum : ℕ
-mostSum = 7920000000000000000
-
-abbrev pub spanWithin : Span → Bool
-spanWithin p = leb (natAbs (p .greatest)) mostSum && leb (natAbs (p .least)) mostSum
-
-abbrev pub cellWithin : StoredCell → Bool
-cellWithin t = spanWithin (t .x) && (spanWithin (t .y) && spanWithin (t .z))
-
-unfoldable pub allWithin : List StoredCell → Bool
-allWithin [] = true
-allWithin (t ∷ ts) = cellWithin t && allWithin ts
-
 -- ---- after an edit that is not refused
 
--- where a stored sum lies beyond what an accepted job can have, all are reckoned anew
+-- where a stored sum lies beyond what a job of the year can have, all are reckoned anew
 unfoldable pub sumsAfter : Edit → Worksheet → Stored
 sumsAfter e w =
     let j = w .job in
     let c = carried j in
     let out = partOfFaces c (leaving e (c .faces)) in
     let new = partOfFaces c (coming (hasHeights (j .year)) e) in
-    cond (allWithin (w .sums .cell)) (moved (w .sums) out new) (storedOf (carried (jobWith (editFaces e j) j)))
+    cond (allWithin (mostNewtons (j .year)) (w .sums .cell)) (moved (w .sums) out new)
+    (storedOf (carried (jobWith (editFaces e j) j)))

@@ -1,4 +1,4 @@
--- A sheet opened as a worksheet, and a worksheet after an edit. `Small` serves private contracts alone.
+-- A sheet opened as a worksheet, and a worksheet after an edit. `FromParts` serves private contracts alone.
 pub mod Kept
 pub mod Worksheet
-pub mod Small
+pub mod FromParts

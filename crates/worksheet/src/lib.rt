@@ -10,7 +10,7 @@ ghost use mathlib.Core.Path.{_≡_};
 ghost use Rattle.sheet.specs.Sheet.{reading};
 ghost use Rattle.edits.specs.Edits.{Add, Replace, TakeOut};
 ghost use Rattle.worksheet.specs.Worksheet.{opened, edited};
-ghost use Rattle.worksheet.specs.Small.{mostPart, AllSmall, keptOf};
+ghost use Rattle.worksheet.specs.FromParts.{keptOf};
 
 mod sums; // stored sums, cell by cell
 mod parts; // the part of a face
@@ -51,7 +51,6 @@ fn refused(to: EditedJob, w: Worksheet) -> Edited
 
 // The answer to one that is not: the job after it, and the sums by the parts that it takes out and puts in.
 fn taken(to: EditedJob, w: Worksheet, out: Stored, new: Stored) -> Edited
-    requires { ⌜ AllSmall mostPart out × AllSmall mostPart new ⌝ }
     ensures { λ r. ⌜ r ≡ record {
       verdict = to .verdict;
       worksheet = record {

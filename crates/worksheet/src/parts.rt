@@ -1,6 +1,7 @@
 // The part of a face: the sums of the job with that face alone. It costs the same however many faces the job has.
 use entry::Face;
 use job::Job;
+use pair::Pair;
 use worst::Span;
 use worst::Stored;
 use worst::StoredCell;
@@ -19,9 +20,13 @@ ghost use Rattle.worksheet.specs.Kept.{face, partOfFaces};
 pub(crate) fn none() -> Stored
     ensures { λ r. ⌜ r ≡ noneStored ⌝ }
 {
+    let zero = Pair {
+        newtons: 0,
+        remainder: 0,
+    };
     let span = Span {
-        greatest: 0,
-        least: 0,
+        greatest: zero,
+        least: zero,
     };
     let empty = StoredCell {
         x: span,

@@ -1,10 +1,8 @@
 -- `add`: the edit of its job, answered with the new face's part put in.
-use mathlib.Core.Path.{_≡_, sym, _∙_, subst}
+use mathlib.Core.Path.{_≡_, sym, _∙_}
 use borrow.Author.Needs.{needs}
 use Rattle.job.specs.Carried.{carried}
 use Rattle.edits.specs.Edits.{Add, editVerdict}
-use Rattle.worksheet.specs.Small.{mostPart, AllSmall}
-use Rattle.worksheet.proofs.Bounds.{none-all-small, part-small}
 use Rattle.worksheet.proofs.Exchange.{none-part}
 use Rattle.worksheet.proofs.OneFace.{was-in-order, add-alone}
 use Rattle.worksheet.proofs.Answered.{refused-is, passes, taken-is}
@@ -35,16 +33,6 @@ of-face-requires c κs =
     let j = a .w .job in
     add-alone j (was-in-order j (Add (a .f)) (fine c)) (a .f) (fine c)
 
-taken-requires : tie.Need-taken-requires
-taken-requires c κs =
-    let n = c .before in
-    let i = n .before in
-    let a = start i .args in (
-      subst (AllSmall mostPart) (sym (c .none .ensures)) (none-all-small mostPart),
-      subst (AllSmall mostPart) (sym (n .of-face .ensures))
-          (part-small (carried (a .w .job)) _ (of-face-requires i tt)),
-    )
-
 returns-2 : tie.Need-returns-2
 returns-2 c =
     let z = c .before in
@@ -60,4 +48,4 @@ pub add-spec : {M : Type 1} → statement M
 add-spec =
     tie.close
     (tie.spec (λ c κs. search needs) (λ c κs. search needs) returns of-face-requires (λ c κs. search needs)
-    taken-requires returns-2)
+    (λ c κs. search needs) returns-2)

@@ -1,5 +1,5 @@
 -- `replace`: the edit of its job, answered with the old face's part taken out and the new one's put in.
-use mathlib.Core.Path.{_≡_, sym, ap, _∙_, subst}
+use mathlib.Core.Path.{_≡_, ap, _∙_}
 use native.Mathlib.Omega.{arith}
 use borrow.Author.Needs.{needs}
 use lib.IntN.{ℤ, natAbs}
@@ -8,9 +8,7 @@ use Rattle.whole.proofs.Size.{said, returned}
 use Rattle.job.specs.Carried.{carried}
 use Rattle.job.specs.InOrder.{InOrder}
 use Rattle.edits.specs.Edits.{Replace, editVerdict, editedJob}
-use Rattle.worksheet.specs.Small.{mostPart, AllSmall}
-use Rattle.worksheet.proofs.Bounds.{part-small}
-use Rattle.worksheet.proofs.OneFace.{heldPart, held-small, was-in-order, replace-alone, replace-there}
+use Rattle.worksheet.proofs.OneFace.{heldPart, was-in-order, replace-alone, replace-there}
 use Rattle.worksheet.proofs.Answered.{refused-is, passes, taken-is}
 use Rattle.worksheet.proofs.replace.Statement.{statement}
 use Rattle.worksheet.proofs.replace.Tie as tie
@@ -67,17 +65,6 @@ out-is c =
     let s = start (c .before) in
     said (heldPart (s .args .w .job)) (s .args .k) (c .of-held .ensures) (s .fits .k .sfits)
 
-taken-requires : tie.Need-taken-requires
-taken-requires c κs =
-    let o = c .before in
-    let i = o .before in
-    let a = start i .args in
-    let j = a .w .job in (
-      subst (AllSmall mostPart) (sym (out-is o))
-          (held-small j (held i) (a .k) (replace-there j (a .k) (a .f) (fine i))),
-      subst (AllSmall mostPart) (sym (c .of-face .ensures)) (part-small (carried j) _ (of-face-requires o tt)),
-    )
-
 returns-2 : tie.Need-returns-2
 returns-2 c =
     let n = c .before in
@@ -92,5 +79,5 @@ returns-2 c =
 pub replace-spec : {M : Type 1} → statement M
 replace-spec =
     tie.close
-    (tie.spec (λ c κs. search needs) (λ c κs. search needs) returns of-held-requires of-face-requires taken-requires
-    returns-2)
+    (tie.spec (λ c κs. search needs) (λ c κs. search needs) returns of-held-requires of-face-requires
+    (λ c κs. search needs) returns-2)

@@ -1,5 +1,5 @@
 -- `take_out`: the edit of its job, answered with the old face's part taken out.
-use mathlib.Core.Path.{_≡_, sym, ap, _∙_, subst}
+use mathlib.Core.Path.{_≡_, sym, ap, _∙_}
 use native.Mathlib.Omega.{arith}
 use borrow.Author.Needs.{needs}
 use lib.IntN.{ℤ, natAbs}
@@ -8,10 +8,8 @@ use Rattle.whole.proofs.Size.{said, returned}
 use Rattle.job.specs.Carried.{carried}
 use Rattle.job.specs.InOrder.{InOrder}
 use Rattle.edits.specs.Edits.{TakeOut, editVerdict, editedJob}
-use Rattle.worksheet.specs.Small.{mostPart, AllSmall}
-use Rattle.worksheet.proofs.Bounds.{none-all-small}
 use Rattle.worksheet.proofs.Exchange.{none-part}
-use Rattle.worksheet.proofs.OneFace.{heldPart, held-small, was-in-order, take-out-there}
+use Rattle.worksheet.proofs.OneFace.{heldPart, was-in-order, take-out-there}
 use Rattle.worksheet.proofs.Answered.{refused-is, passes, taken-is}
 use Rattle.worksheet.proofs.take_out.Statement.{statement}
 use Rattle.worksheet.proofs.take_out.Tie as tie
@@ -58,16 +56,6 @@ out-is c =
     let s = start (c .before) in
     said (heldPart (s .args .w .job)) (s .args .k) (c .of-held .ensures) (s .fits .k .sfits)
 
-taken-requires : tie.Need-taken-requires
-taken-requires c κs =
-    let o = c .before in
-    let i = o .before in
-    let a = start i .args in
-    let j = a .w .job in (
-      subst (AllSmall mostPart) (sym (out-is o)) (held-small j (held i) (a .k) (take-out-there j (a .k) (fine i))),
-      subst (AllSmall mostPart) (sym (c .none .ensures)) (none-all-small mostPart),
-    )
-
 returns-2 : tie.Need-returns-2
 returns-2 c =
     let z = c .before in
@@ -83,4 +71,4 @@ pub take-out-spec : {M : Type 1} → statement M
 take-out-spec =
     tie.close
     (tie.spec (λ c κs. search needs) (λ c κs. search needs) returns of-held-requires (λ c κs. search needs)
-    taken-requires returns-2)
+    (λ c κs. search needs) returns-2)

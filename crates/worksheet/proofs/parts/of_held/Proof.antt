@@ -5,11 +5,11 @@ use native.Mathlib.Omega.{arith}
 use borrow.Author.Needs.{needs}
 use lib.IntN.{natAbs}
 use lib.ListN.{take, drop}
-use Rattle.job.specs.Carried.{carried}
+use Rattle.job.specs.Carried.{carried, mostFaces}
 use Rattle.worksheet.specs.Kept.{partOfFaces}
 use Rattle.whole.proofs.Size.{said}
-use Rattle.edits.proofs.Counts.{few-faces}
-use Rattle.worksheet.proofs.OneFace.{held-alone, held-part}
+use Rattle.edits.proofs.Counts.{roomed}
+use Rattle.worksheet.proofs.OneFace.{held-alone, held-one}
 use Rattle.worksheet.proofs.parts.of_held.Statement.{statement}
 use Rattle.worksheet.proofs.parts.of_held.Tie as tie
 
@@ -20,10 +20,8 @@ module _ (c : tie.After-magnitude) where
   size-is : c .magnitude .result ≡ natAbs (start .args .k)
   size-is = said natAbs (start .args .k) (c .magnitude .ensures) (start .fits .k .sfits)
 
-  below : c .magnitude .result - 1 < 24
-  below =
-      let few = few-faces (start .args .job) (start .pre .0) in
-      omega (arith, size-is, start .pre .1, start .pre .2, few .1)
+  below : c .magnitude .result - 1 < mostFaces
+  below = omega (arith, size-is, start .pre .1, start .pre .2, roomed (start .args .job) (start .pre .0))
 
 of-face-requires : tie.Need-of-face-requires
 of-face-requires c κs =
@@ -39,8 +37,9 @@ returns c =
     let s = start d in
     let j = s .args .job in
     c .of-face .ensures
-    ∙ held-part j (s .pre .0) (d .magnitude .result) (omega (arith, size-is d, s .pre .1))
-    (omega (arith, size-is d, s .pre .2))
+    ∙ ap (partOfFaces (carried j))
+    (held-one j (s .pre .0) (d .magnitude .result) (omega (arith, size-is d, s .pre .1))
+    (omega (arith, size-is d, s .pre .2)))
     ∙ ap (λ n. partOfFaces (carried j) (take 1 (drop (n - 1) (carried j .faces)))) (size-is d)
 
 pub of-held-spec : {M : Type 1} → statement M

@@ -30,13 +30,6 @@ loop-holds c =
     let room = sym (length-map (c .args .t1 .cell) _) ∙ c .good .0 .1 .1 .0 .1 .0 .1 in
     (omega arith, room, λ i t. absurd (omega arith))
 
-moved-cell-requires : tie.Need-moved-cell-requires Inv-loop μ-loop
-moved-cell-requires c κs =
-    let l = c .before .before .before in
-    let p = l .before .before .pre in
-    let k = l .before .loop .k in
-    (p .0 k, p .1 k, p .2 k)
-
 loop-again : tie.Need-loop-again Inv-loop μ-loop
 loop-again c =
     let l = c .before .before .before .before in
@@ -66,5 +59,5 @@ pub moved-spec : {M : Type 1} → statement M
 moved-spec =
     tie.close
     (tie.spec Inv-loop μ-loop loop-holds (λ c. search needs) (λ c. search needs) (λ c. search needs)
-    (λ c. search needs) (λ c. search needs) (λ c. search needs) moved-cell-requires (λ c. search needs)
+    (λ c. search needs) (λ c. search needs) (λ c. search needs) (λ c κs. search needs) (λ c. search needs)
     (λ c. search needs) (λ c. search needs) (λ c. search needs) loop-again returns)
