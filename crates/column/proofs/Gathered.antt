@@ -12,7 +12,7 @@ use Rattle.whole.proofs.Lists.{firstOf-length, firstOf-none, firstOf-all, first
 use Rattle.whole.proofs.FirstOf.{firstOf-next}
 use Rattle.entry.specs.declared.Face.{Face}
 use Rattle.job.specs.declared.Faces.{Faces}
-use Rattle.job.specs.Carried.{noFace}
+use Rattle.job.specs.Carried.{noFace, mostFaces}
 use Rattle.column.specs.Listed.{listed}
 use Rattle.column.specs.OneByOne.{noFaces, withOne}
 
@@ -24,24 +24,24 @@ firstOf-enough d (suc n) (x ∷ l) m h = ap (λ k. x ∷ k) (firstOf-enough d n 
 
 one-more : (l : List Face) (f : Face) → withOne (listed l) f ≡ listed (l ++ (f ∷ []))
 unfolding listed
-one-more l f = by-test (ltb (length l) 24) (λ t. room (ltb-true _ _ t)) (λ t. none (ltb-false _ _ t))
+one-more l f = by-test (ltb (length l) mostFaces) (λ t. room (ltb-true _ _ t)) (λ t. none (ltb-false _ _ t))
   where
-    room : length l < 24 → withOne (listed l) f ≡ listed (l ++ (f ∷ []))
+    room : length l < mostFaces → withOne (listed l) f ≡ listed (l ++ (f ∷ []))
     room h =
-        let c : min (length l) 25 ≡ length l = omega arith in
-        let e : min (length (l ++ (f ∷ []))) 25 ≡ length l + 1 = omega (arith, length-append l (f ∷ [])) in
-        rw (c, lt-ltb (length l) 24 h, e, firstOf-more noFace 24 l f h)
+        let c : min (length l) (mostFaces + 1) ≡ length l = omega arith in
+        let e : min (length (l ++ (f ∷ []))) (mostFaces + 1) ≡ length l + 1 = omega (arith, length-append l (f ∷ [])) in
+        rw (c, lt-ltb (length l) mostFaces h, e, firstOf-more noFace mostFaces l f h)
 
-    none : 24 ≤ length l → withOne (listed l) f ≡ listed (l ++ (f ∷ []))
+    none : mostFaces ≤ length l → withOne (listed l) f ≡ listed (l ++ (f ∷ []))
     none h =
-        let e : min (length (l ++ (f ∷ []))) 25 ≡ 25 = omega (arith, length-append l (f ∷ [])) in
-        let c : 24 ≤ min (length l) 25 = omega arith in
-        rw (le-ltb (min (length l) 25) 24 c, e, firstOf-enough noFace 24 l (f ∷ []) h)
+        let e : min (length (l ++ (f ∷ []))) (mostFaces + 1) ≡ mostFaces + 1 = omega (arith, length-append l (f ∷ [])) in
+        let c : mostFaces ≤ min (length l) (mostFaces + 1) = omega arith in
+        rw (le-ltb (min (length l) (mostFaces + 1)) mostFaces c, e, firstOf-enough noFace mostFaces l (f ∷ []) h)
 
 module _ (fs : List Face) where
   pub start : noFaces ≡ listed (firstOf noFace 0 fs)
   unfolding listed firstOf
-  start = ap (λ (l : List Face). record { count = 0; entry = l }) (sym (firstOf-none noFace 24))
+  start = ap (λ (l : List Face). record { count = 0; entry = l }) (sym (firstOf-none noFace mostFaces))
 
   pub more : (s r : Faces) (f : Face) (i : ℕ) → s ≡ listed (firstOf noFace i fs) → f ≡ getD fs i noFace
       → r ≡ withOne s f
@@ -49,26 +49,26 @@ module _ (fs : List Face) where
   more s r f i e d p =
       p ∙ ap₂ withOne e d ∙ one-more (firstOf noFace i fs) (getD fs i noFace) ∙ ap listed (firstOf-next noFace fs i)
 
-  -- the first 25 of a list tell all that its record says
-  telling : listed (firstOf noFace (min (length fs) 25) fs) ≡ listed fs
+  -- one more than a record has room for tell all that it says of a list
+  telling : listed (firstOf noFace (min (length fs) (mostFaces + 1)) fs) ≡ listed fs
   unfolding listed
-  telling = by-test (leb (length fs) 25) (λ t. whole (leb-true _ _ t)) (λ t. part (leb-false _ _ t))
+  telling = by-test (leb (length fs) (mostFaces + 1)) (λ t. whole (leb-true _ _ t)) (λ t. part (leb-false _ _ t))
     where
-      whole : length fs ≤ 25 → listed (firstOf noFace (min (length fs) 25) fs) ≡ listed fs
+      whole : length fs ≤ mostFaces + 1 → listed (firstOf noFace (min (length fs) (mostFaces + 1)) fs) ≡ listed fs
       whole h =
-          let e : min (length fs) 25 ≡ length fs = omega arith in
+          let e : min (length fs) (mostFaces + 1) ≡ length fs = omega arith in
           ap listed (ap (λ n. firstOf noFace n fs) e ∙ firstOf-all noFace fs)
 
-      part : 25 < length fs → listed (firstOf noFace (min (length fs) 25) fs) ≡ listed fs
+      part : mostFaces + 1 < length fs → listed (firstOf noFace (min (length fs) (mostFaces + 1)) fs) ≡ listed fs
       part h =
-          let e : min (length fs) 25 ≡ 25 = omega arith in
-          let n : min (length (firstOf noFace 25 fs)) 25 ≡ min (length fs) 25 =
-          omega (arith, firstOf-length noFace 25 fs) in
+          let e : min (length fs) (mostFaces + 1) ≡ mostFaces + 1 = omega arith in
+          let n : min (length (firstOf noFace (mostFaces + 1) fs)) (mostFaces + 1) ≡ min (length fs) (mostFaces + 1) =
+          omega (arith, firstOf-length noFace (mostFaces + 1) fs) in
           ap (λ k. listed (firstOf noFace k fs)) e
-          ∙ (λ i. record { count = n i; entry = firstOf-fewer noFace 24 25 fs (omega arith) i })
+          ∙ (λ i. record { count = n i; entry = firstOf-fewer noFace mostFaces (mostFaces + 1) fs (omega arith) i })
 
-  pub all : (s : Faces) (i : ℕ) → i ≤ min (length fs) 25 → min (length fs) 25 ≤ i → s ≡ listed (firstOf noFace i fs)
+  pub all : (s : Faces) (i : ℕ) → i ≤ min (length fs) (mostFaces + 1) → min (length fs) (mostFaces + 1) ≤ i → s ≡ listed (firstOf noFace i fs)
       → s ≡ listed fs
   all s i h k e =
-      let d : i ≡ min (length fs) 25 = omega arith in
+      let d : i ≡ min (length fs) (mostFaces + 1) = omega arith in
       e ∙ ap (λ (j : ℕ). listed (firstOf noFace j fs)) d ∙ telling

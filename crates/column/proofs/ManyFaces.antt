@@ -16,7 +16,7 @@ use Rattle.field.specs.declared.Field.{Field}
 use Rattle.field.specs.declared.Field.the-variants.{Plus}
 use Rattle.building.specs.Test.{beyond}
 use Rattle.building.specs.Fault.{first}
-use Rattle.building.specs.Year.{hasHeights}
+use Rattle.building.specs.Year.{hasHeights, faceLimit}
 use Rattle.entry.specs.declared.Face.{Face}
 use Rattle.entry.specs.Says.{carriedFace}
 use Rattle.entry_written.specs.Fields.{faceFields}
@@ -28,9 +28,10 @@ use Rattle.rules.specs.declared.Kind.the-variants.{Count, Entry}
 use Rattle.rules.specs.declared.FieldForm.the-variants.{Mark}
 use Rattle.rules.specs.Form.{hasForm, inForm, numberForms}
 use Rattle.rules.specs.Sections.{faultsOf, lineFault}
-use Rattle.job.specs.Carried.{Carried, nothing, withFaces, before, carried, noFace}
+use Rattle.job.specs.Carried.{Carried, nothing, withFaces, before, carried, noFace, mostFaces}
 use Rattle.job.specs.Lines.{entriesOf, sectionOf, sectionsOf, sheetOf, linesOf}
 use Rattle.job.specs.Walk.{Refused, calls, learn, walk, sheet, readLines, judged}
+use Rattle.job.proofs.Room.{limit-roomed}
 use Rattle.job.proofs.Walk.{walk-on, walk-refused}
 use Rattle.job.proofs.Sections.{countLine}
 use Rattle.job.specs.declared.Setting.{Setting}
@@ -50,7 +51,7 @@ countFault (Count P) = 1
 countFault (Count F) = 2
 countFault (Entry s) = 1
 
-too-many : (n : ℕ) → 24 < n → (k : Kind) (b : Before) → lineFault k b (countLine F n) ≡ countFault k
+too-many : (n : ℕ) → mostFaces < n → (k : Kind) (b : Before) → lineFault k b (countLine F n) ≡ countFault k
 unfolding lineFault inForm hasForm beyond
 too-many n h (Count «V») b = refl
 too-many n h (Count B) b = refl
@@ -59,8 +60,8 @@ too-many n h (Count I) b = refl
 too-many n h (Count P) b = refl
 too-many n h (Count F) b = many
   where
-    many : _≡_ {A = ℕ} (cond (ltb n 1 || ltb 24 n) 2 0) 2
-    many = rw (le-ltb n 1 (omega arith), lt-ltb 24 n h)
+    many : _≡_ {A = ℕ} (cond (ltb n 1 || ltb (faceLimit (b .year)) n) 2 0) 2
+    many = rw (le-ltb n 1 (omega arith), lt-ltb (faceLimit (b .year)) n (omega (arith, limit-roomed (b .year), h)))
 too-many n h (Entry «V») b = refl
 too-many n h (Entry B) b = refl
 too-many n h (Entry W) b = refl
@@ -86,8 +87,8 @@ some-fault (Count F) = omega arith
 some-fault (Entry s) = omega arith
 
 -- lines up to such a count are read alike, whatever follows it
-module _ (m n : ℕ) (hm : 24 < m) (hn : 24 < n) (rest rest′ : List (List Field)) where
-  refused-at : (n : ℕ) → 24 < n → (rest : List (List Field)) (k : Kind) (ks : List Kind) (c : Carried) (line : ℕ)
+module _ (m n : ℕ) (hm : mostFaces < m) (hn : mostFaces < n) (rest rest′ : List (List Field)) where
+  refused-at : (n : ℕ) → mostFaces < n → (rest : List (List Field)) (k : Kind) (ks : List Kind) (c : Carried) (line : ℕ)
       → walk (k ∷ ks) c line (countLine F n ∷ rest) ≡ Refused (refusal (countFault k) line)
   refused-at n h rest k ks c line =
       let e = too-many n h k (before c) in
@@ -122,14 +123,14 @@ faces-last es (s ∷ ss) =
     ∙ sym (append-assoc (sectionOf s (es s)) (sectionsOf es ss) (sectionsOf es (F ∷ [])))
 
 -- two sheets that differ in their faces alone, of which both have too many
-module _ (c : Carried) (fs gs : List Face) (hf : 24 < length fs) (hg : 24 < length gs) where
+module _ (c : Carried) (fs gs : List Face) (hf : mostFaces < length fs) (hg : mostFaces < length gs) where
   abbrev lines : List Face → List Section → List (List Field)
   lines l = sectionsOf (entriesOf (withFaces l c))
 
   abbrev written : List Face → List (List Field)
   written l = map (faceFields (hasHeights (c .year))) l
 
-  many : (l : List Face) → 24 < length l → 24 < length (written l)
+  many : (l : List Face) → mostFaces < length l → mostFaces < length (written l)
   many l h = omega (arith, length-map l (faceFields (hasHeights (c .year))))
 
   fronts-alike : (h : Bool) (ss : List Section) (same : lines fs ss ≡ lines gs ss)
@@ -159,23 +160,23 @@ module _ (s : Setting) (fs : List Face) where
 
   -- what its record carries: as many faces as it counts
   abbrev counted : List Face
-  counted = firstOf noFace (min (length fs) 25) (firstOf noFace 24 fs)
+  counted = firstOf noFace (min (length fs) (mostFaces + 1)) (firstOf noFace mostFaces fs)
 
   record-carries : carried (recordWith s (listed fs)) ≡ withFaces (kept counted) c
   unfolding carried listed
   record-carries = refl
 
-  few : length fs ≤ 24 → counted ≡ fs
+  few : length fs ≤ mostFaces → counted ≡ fs
   few h =
-      let n : min (length fs) 25 ≡ length fs = omega arith in
-      ap (λ m. firstOf noFace m (firstOf noFace 24 fs)) n
-      ∙ firstOf-fewer noFace (length fs) 24 fs h ∙ firstOf-all noFace fs
+      let n : min (length fs) (mostFaces + 1) ≡ length fs = omega arith in
+      ap (λ m. firstOf noFace m (firstOf noFace mostFaces fs)) n
+      ∙ firstOf-fewer noFace (length fs) mostFaces fs h ∙ firstOf-all noFace fs
 
-  lines-alike : 24 < length fs
+  lines-alike : mostFaces < length fs
       → readLines (linesOf (withFaces (kept counted) c)) ≡ readLines (linesOf (withFaces (kept fs) c))
   unfolding linesOf
   lines-alike h =
-      let n = firstOf-length noFace (min (length fs) 25) (firstOf noFace 24 fs) in
+      let n = firstOf-length noFace (min (length fs) (mostFaces + 1)) (firstOf noFace mostFaces fs) in
       sheets-alike c (kept counted) (kept fs)
       (omega (arith, n, length-map counted (carriedFace (hasHeights (s .year)))))
       (omega (arith, length-map fs (carriedFace (hasHeights (s .year)))))
@@ -185,6 +186,6 @@ module _ (s : Setting) (fs : List Face) where
   unfolding judged judgedWith
   judged-listed =
       ap (λ d. readLines (linesOf d)) record-carries
-      ∙ by-test (leb (length fs) 24)
+      ∙ by-test (leb (length fs) mostFaces)
       (λ t. ap (λ l. readLines (linesOf (withFaces (kept l) c))) (few (leb-true _ _ t)))
       (λ t. lines-alike (leb-false _ _ t))

@@ -4,15 +4,16 @@ use mathlib.Core.List.{List}
 use Prim.Native.Nat.{ℕ, _-_}
 use lib.IntN.{ℤ}
 use lib.ListN.{length, replicate}
+use Rattle.pair.specs.Total.{pairOf}
 use Rattle.entry.specs.declared.Wind.{Wind}
-use Rattle.job.specs.Carried.{Carried}
+use Rattle.job.specs.Carried.{Carried, mostFaces}
 use Rattle.job.specs.InOrder.{InOrder}
 use Rattle.worst.specs.declared.Side.{Side}
 use Rattle.worst.specs.declared.Axis.{Axis}
 use Rattle.worst.specs.declared.Extreme.{Extreme}
 use Rattle.worst.specs.Cases.{Case, total, caseTotal, Permitted}
 use Rattle.worst.specs.Forces.{Given, alternatives, force, windAt, internalAt, loads}
-use Rattle.worst.specs.Shown.{padded, shown}
+use Rattle.worst.specs.Shown.{padded, shown, totalIn}
 use Rattle.worst.specs.Worst.{given, extreme}
 use Rattle.worst.proofs.Meaning.{isBest-member}
 use Rattle.worst.proofs.Members.{case-permitted}
@@ -49,11 +50,11 @@ module _ (c : Carried) (o : InOrder c) (axis : Axis) (side : Side) where
   own = atChoice (force axis g u n) (g .faces) (case .chosen)
 
   pub named : e ≡ record {
-    total = e .total;
+    total = pairOf (totalIn e);
     wind = case .wind;
     internal = case .internal;
     faces = length (c .faces);
-    alternative = padded 24 (case .chosen);
+    alternative = padded mostFaces (case .chosen);
   }
   unfolding shown
   named = s .named
@@ -61,15 +62,15 @@ module _ (c : Carried) (o : InOrder c) (axis : Axis) (side : Side) where
   pub all-chosen : length (g .faces) ≡ length (case .chosen)
   all-chosen = chosen-length (alternatives g u) (g .faces) (case .chosen) (permitted .chosen)
 
-  pub shown-own : forcesShown axis g (hostExtreme e) ≡ own
+  pub shown-own : forcesShown axis g (hostExtreme (c .year) e) ≡ own
   unfolding padded
   shown-own =
       (λ k.
       let x = named k in
       atChoice (force axis g (windAt g (x .wind)) (internalAt g (x .internal))) (g .faces) (x .alternative))
-      ∙ choice-past (force axis g u n) (g .faces) (case .chosen) (replicate (24 - length (case .chosen)) 0) all-chosen
+      ∙ choice-past (force axis g u n) (g .faces) (case .chosen) (replicate (mostFaces - length (case .chosen)) 0) all-chosen
 
   -- they add up to the total that is shown
-  pub own-total : addedUp own ≡ e .total
+  pub own-total : addedUp own ≡ totalIn e
   unfolding caseTotal
   own-total = sym (total-added (force axis g u n) (g .faces) (case .chosen)) ∙ s .best .reached

@@ -17,27 +17,27 @@ use Rattle.answers.specs.declared.Extreme.{Extreme}
 use Rattle.answers.specs.Answers.{noHostExtreme, hostExtreme, reportLine, hostLine}
 use Rattle.column.specs.Column.{axisOf}
 
-pub data Told (six : Six) (line : ℤ) : Extreme → Type 0 where
+pub data Told (year : ℤ) (six : Six) (line : ℤ) : Extreme → Type 0 where
   one : (axis : Axis) (side : Side) → line ≡ pos (lineNumber axis side)
-      → Told six line (hostExtreme (shownIn six axis side))
-  none : Told six line (noHostExtreme (refusal 3 0))
+      → Told year six line (hostExtreme year (shownIn six axis side))
+  none : Told year six line (noHostExtreme (refusal 3 0))
 
-pub line-told : (six : Six) (line : ℤ) → Told six line (hostLine six line)
+pub line-told : (year : ℤ) (six : Six) (line : ℤ) → Told year six line (hostLine year six line)
 unfolding reportLine
-line-told six (negsuc n) = none
-line-told six (pos n) =
+line-told year six (negsuc n) = none
+line-told year six (pos n) =
     pick 1 (is X Greatest) (pick 2 (is X Least) (pick 3 (is Y Greatest) (pick 4 (is Y Least) (pick 5 (is Z Greatest)
     (pick 6 (is Z Least) none)))))
   where
     is : (axis : Axis) (side : Side) → n ≡ lineNumber axis side
-        → Told six (pos n) (hostExtreme (shownIn six axis side))
+        → Told year six (pos n) (hostExtreme year (shownIn six axis side))
     is axis side e = one axis side (ap (λ k. pos k) e)
 
-    pick : (k : ℕ) {x y : Extreme} → (n ≡ k → Told six (pos n) x) → Told six (pos n) y
-        → Told six (pos n) (cond (eqb n k) x y)
+    pick : (k : ℕ) {x y : Extreme} → (n ≡ k → Told year six (pos n) x) → Told year six (pos n) y
+        → Told year six (pos n) (cond (eqb n k) x y)
     pick k {x} {y} this that = go (eqb n k) refl
       where
-        go : (t : Bool) → eqb n k ≡ t → Told six (pos n) (cond t x y)
+        go : (t : Bool) → eqb n k ≡ t → Told year six (pos n) (cond t x y)
         go true e = this (eqb-true n k e)
         go false e = that
 
@@ -52,15 +52,15 @@ axis-told Z Least = refl
 
 -- ---- of six extremes that of a line, and of a job's six that of an axis and a side
 
-pub line-is : (six : Six) (axis : Axis) (side : Side)
-    → reportLine six (lineNumber axis side) ≡ hostExtreme (shownIn six axis side)
+pub line-is : (year : ℤ) (six : Six) (axis : Axis) (side : Side)
+    → reportLine year six (lineNumber axis side) ≡ hostExtreme year (shownIn six axis side)
 unfolding reportLine
-line-is six X Greatest = refl
-line-is six X Least = refl
-line-is six Y Greatest = refl
-line-is six Y Least = refl
-line-is six Z Greatest = refl
-line-is six Z Least = refl
+line-is year six X Greatest = refl
+line-is year six X Least = refl
+line-is year six Y Greatest = refl
+line-is year six Y Least = refl
+line-is year six Z Greatest = refl
+line-is year six Z Least = refl
 
 pub one-is : (c : Carried) (axis : Axis) (side : Side) → shownIn (sixExtremes c) axis side ≡ extreme axis side c
 unfolding sixExtremes

@@ -8,10 +8,11 @@ use lib.ListN.{length, take, replicate}
 use Rattle.whole.specs.Lists.{firstOf}
 use Rattle.whole.proofs.Lists.{firstOf-length, firstOf-take, firstOf-fewer, firstOf-all}
 use Rattle.whole.proofs.Pieces.{firstOf-front}
+use Rattle.pair.specs.Total.{pairOf}
 use Rattle.entry.specs.declared.Wind.{Wind}
 use Rattle.entry.specs.declared.Face.{Face}
 use Rattle.job.specs.declared.Job.{Job}
-use Rattle.job.specs.Carried.{carried}
+use Rattle.job.specs.Carried.{carried, mostFaces}
 use Rattle.job.specs.Walk.{judged}
 use Rattle.worst.specs.declared.Side.{Side}
 use Rattle.worst.specs.declared.Axis.{Axis}
@@ -20,7 +21,7 @@ use Rattle.worst.specs.declared.CellForces.{CellForces}
 use Rattle.worst.specs.declared.Extreme.{Extreme}
 use Rattle.worst.specs.Cases.{Case, total, Permitted}
 use Rattle.worst.specs.Forces.{Given, alternatives, force, windAt, internalAt, loads}
-use Rattle.worst.specs.Shown.{padded}
+use Rattle.worst.specs.Shown.{padded, totalIn}
 use Rattle.worst.specs.Worst.{given, extreme, sixExtremes}
 use Rattle.worst.specs.PerFace.{faceForces, forcesIn}
 use Rattle.worst.specs.Rows.{Taken, rows, forceIn}
@@ -57,11 +58,11 @@ module _ (j : Job) (t : Taken j) (axis : Axis) (side : Side) where
   permitted = shows.permitted (carried j) (t .order) axis side
 
   named : e ≡ record {
-    total = e .total;
+    total = pairOf (totalIn e);
     wind = case .wind;
     internal = case .internal;
     faces = length (carried j .faces);
-    alternative = padded 24 (case .chosen);
+    alternative = padded mostFaces (case .chosen);
   }
   named = shows.named (carried j) (t .order) axis side
 
@@ -75,7 +76,7 @@ module _ (j : Job) (t : Taken j) (axis : Axis) (side : Side) where
     abbrev row : Face → FaceForces
     row = faceForces g u n
 
-    few : count ≤ 24
+    few : count ≤ mostFaces
     few = ready j t .profiled .few
 
     wind-low : 1 ≤ case .wind
@@ -101,7 +102,7 @@ module _ (j : Job) (t : Taken j) (axis : Axis) (side : Side) where
     choice-own : firstOf 0 count (e .alternative) ≡ case .chosen
     unfolding padded
     choice-own =
-        let zeros : List ℕ = replicate (24 - length (case .chosen)) 0 in
+        let zeros : List ℕ = replicate (mostFaces - length (case .chosen)) 0 in
         ap (λ (x : Extreme). firstOf 0 count (x .alternative)) named
         ∙ ap (λ m. firstOf 0 m (case .chosen ++ zeros)) (sym (faces-counted j t) ∙ all-chosen)
         ∙ firstOf-front 0 (case .chosen) zeros
@@ -114,16 +115,16 @@ module _ (j : Job) (t : Taken j) (axis : Axis) (side : Side) where
         (permitted .chosen))
 
     pub handed-shown : (l : List ℤ)
-        → l ≡ firstOf (pos 0) 24 (atChoice (forceIn axis) (rows count forces) (firstOf 0 count (e .alternative)))
-        → take count l ≡ forcesShown axis g (hostExtreme e)
+        → l ≡ firstOf (pos 0) mostFaces (atChoice (forceIn axis) (rows count forces) (firstOf 0 count (e .alternative)))
+        → take count l ≡ forcesShown axis g (hostExtreme (carried j .year) e)
     handed-shown l h =
         let long : count ≡ length own =
         sym (choice-length (force axis g u n) (g .faces) (case .chosen) (omega
         (arith, all-chosen)) ∙ faces-counted j t)
         in
-        ap (take count) (h ∙ ap (firstOf (pos 0) 24) handed-own)
-        ∙ sym (firstOf-take (pos 0) count (firstOf (pos 0) 24 own) (omega (arith, few, firstOf-length (pos 0) 24 own)))
-        ∙ firstOf-fewer (pos 0) count 24 own few
+        ap (take count) (h ∙ ap (firstOf (pos 0) mostFaces) handed-own)
+        ∙ sym (firstOf-take (pos 0) count (firstOf (pos 0) mostFaces own) (omega (arith, few, firstOf-length (pos 0) mostFaces own)))
+        ∙ firstOf-fewer (pos 0) count mostFaces own few
         ∙ ap (λ m. firstOf (pos 0) m own) long
         ∙ firstOf-all (pos 0) own
         ∙ sym (shows.shown-own (carried j) (t .order) axis side)
@@ -132,9 +133,9 @@ module _ (j : Job) (t : Taken j) (axis : Axis) (side : Side) where
 
 module _ (j : Job) (t : Taken j) (line : ℤ) where
   -- of the forces of its cell one for each face
-  by-told : (x : host.Extreme) → Told (sixExtremes (carried j)) line x → x .verdict .number ≡ 0 → (l : List ℤ)
+  by-told : (x : host.Extreme) → Told (carried j .year) (sixExtremes (carried j)) line x → x .verdict .number ≡ 0 → (l : List ℤ)
       → (forces : CellForces) → forces ≡ forcesIn (x .wind) (x .internal) (judged j)
-      → l ≡ firstOf (pos 0) 24
+      → l ≡ firstOf (pos 0) mostFaces
       (atChoice (forceIn (axisOf line)) (rows (j .faces .count) forces) (firstOf 0 (j .faces .count) (x .alternative)))
       → take (j .faces .count) l ≡ forcesShown (axisOf line) (given (carried j)) x
   by-told x (one axis side h) z l =
@@ -142,21 +143,21 @@ module _ (j : Job) (t : Taken j) (line : ℤ) where
       subst
       (λ (x : Axis × Extreme). (forces : CellForces)
       → forces ≡ forcesIn (x .1 .wind) (x .1 .internal) (judged j)
-      → l ≡ firstOf (pos 0) 24
+      → l ≡ firstOf (pos 0) mostFaces
       (atChoice (forceIn (x .0)) (rows (j .faces .count) forces) (firstOf 0 (j .faces .count) (x .1 .alternative)))
-      → take (j .faces .count) l ≡ forcesShown (x .0) (given (carried j)) (hostExtreme (x .1)))
+      → take (j .faces .count) l ≡ forcesShown (x .0) (given (carried j)) (hostExtreme (carried j .year) (x .1)))
       (λ i. (sym same i, sym (one-is (carried j) axis side) i))
       (λ forces is h. handed-shown j t axis side forces is l h)
   by-told x none z l = absurd (omega (arith, z))
 
-  pub line-forces : (x : host.Extreme) → x ≡ hostLine (sixExtremes (carried j)) line → x .verdict .number ≡ 0
+  pub line-forces : (x : host.Extreme) → x ≡ hostLine (carried j .year) (sixExtremes (carried j)) line → x .verdict .number ≡ 0
       → (l : List ℤ)
       → (forces : CellForces) → forces ≡ forcesIn (x .wind) (x .internal) (judged j)
-      → l ≡ firstOf (pos 0) 24
+      → l ≡ firstOf (pos 0) mostFaces
       (atChoice (forceIn (axisOf line)) (rows (j .faces .count) forces) (firstOf 0 (j .faces .count) (x .alternative)))
       → take (j .faces .count) l ≡ forcesOn line (judged j)
   line-forces x told z l forces is h =
-      by-told x (subst (Told (sixExtremes (carried j)) line) (sym told) (line-told (sixExtremes
+      by-told x (subst (Told (carried j .year) (sixExtremes (carried j)) line) (sym told) (line-told (carried j .year) (sixExtremes
       (carried j)) line)) z l forces
       is h
       ∙ ap (forcesShown (axisOf line) (given (carried j))) told

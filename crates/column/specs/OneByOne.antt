@@ -5,15 +5,14 @@ use lib.Dec.{ltb}
 use lib.ListN.{set, replicate}
 use Rattle.entry.specs.declared.Face.{Face}
 use Rattle.job.specs.declared.Faces.{Faces}
-use Rattle.job.specs.Carried.{noFace}
-use Rattle.column.specs.Listed.{roomForFaces}
+use Rattle.job.specs.Carried.{noFace, mostFaces}
 
 abbrev pub noFaces : Faces
-noFaces = record { count = 0; entry = replicate roomForFaces noFace }
+noFaces = record { count = 0; entry = replicate mostFaces noFace }
 
 -- one face more
 abbrev pub withOne : Faces → Face → Faces
 withOne fs f =
-    cond (ltb (fs .count) roomForFaces)
+    cond (ltb (fs .count) mostFaces)
     (record { count = fs .count + 1; entry = set (fs .entry) (fs .count) f })
-    (record { count = roomForFaces + 1; entry = fs .entry })
+    (record { count = mostFaces + 1; entry = fs .entry })

@@ -2,14 +2,16 @@
 ghost use mathlib.Core.Path.{_≡_};
 ghost use Prim.Native.Nat.{_+_, min, _<_};
 ghost use lib.ListN.{length, getD};
-ghost use Rattle.job.specs.Carried.{noFace};
-ghost use Rattle.column.specs.Listed.{roomForFaces, listed};
+ghost use Rattle.job.specs.Carried.{noFace, mostFaces};
+ghost use Rattle.column.specs.Listed.{listed};
 ghost use Rattle.column.specs.OneByOne.{noFaces, withOne};
 use entry::Face;
 use job::Faces;
+use job::MOST_FACES;
+use job::no_face;
 
-// A record has room for so many.
-const ROOM: u32 = 24;
+// The room of a record, as it is counted there.
+const ROOM: u32 = MOST_FACES as u32;
 
 // One face of the list.
 fn face_at(faces: &[Face], i: usize) -> Face
@@ -22,15 +24,7 @@ fn face_at(faces: &[Face], i: usize) -> Face
 fn none() -> Faces
     ensures { λ r. ⌜ r ≡ noFaces ⌝ }
 {
-    let f = Face {
-        zone: 0,
-        mark: 0,
-        height: 0,
-        x: 0,
-        y: 0,
-        z: 0,
-    };
-    let entry = [f; 24];
+    let entry = [no_face(); MOST_FACES];
     Faces { count: 0, entry }
 }
 
@@ -52,7 +46,7 @@ fn put(faces: Faces, f: Face) -> Faces
 
 // How many of n faces tell all that a record says of them.
 fn telling(n: usize) -> usize
-    ensures { λ r. ⌜ r ≡ min n (roomForFaces + 1) ⌝ }
+    ensures { λ r. ⌜ r ≡ min n (mostFaces + 1) ⌝ }
 {
     let most = (ROOM + 1) as usize;
     if n < most {

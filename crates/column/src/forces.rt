@@ -3,15 +3,17 @@ ghost use mathlib.Core.Path.{_≡_};
 ghost use Prim.Native.Nat.{_≤_};
 ghost use lib.IntN.{pos};
 ghost use Rattle.whole.specs.Lists.{firstOf};
+ghost use Rattle.job.specs.Carried.{mostFaces};
 ghost use Rattle.worst.specs.Rows.{rows, alongAxis, forceIn};
 ghost use Rattle.column.specs.Column.{atChoice, axisOf};
+use job::MOST_FACES;
 use worst::AxisForces;
 use worst::CellForces;
 use worst::FaceForces;
 
 // In the order of the faces, with zeros past the last.
 pub(crate) struct Forces {
-    pub(crate) face: [i64; 24],
+    pub(crate) face: [i64; MOST_FACES],
 }
 
 // On the axis of a report line.
@@ -41,14 +43,16 @@ fn force_at(line: i64, f: FaceForces, k: u8) -> i64
 pub(crate) fn at_choice(
     line: i64,
     forces: CellForces,
-    alternative: [u8; 24],
+    alternative: [u8; MOST_FACES],
     faces: usize,
 ) -> Forces
-    requires { ⌜ faces ≤ 24 ⌝ }
-    ensures { λ r. ⌜ r .face ≡ firstOf (pos 0) 24 (atChoice (forceIn (axisOf line)) (rows faces forces)
+    requires { ⌜ faces ≤ mostFaces ⌝ }
+    ensures { λ r. ⌜ r .face ≡ firstOf (pos 0) mostFaces (atChoice (forceIn (axisOf line)) (rows faces forces)
         (firstOf 0 faces alternative)) ⌝ }
 {
-    let mut all = Forces { face: [0i64; 24] };
+    let mut all = Forces {
+        face: [0i64; MOST_FACES],
+    };
     let mut i = 0;
     while i < faces {
         let f = forces.face[i];

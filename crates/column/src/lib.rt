@@ -14,6 +14,7 @@ use answers::Extreme;
 use job::Faces;
 use job::Job;
 use job::Setting;
+use job::with_faces;
 use verdict::Verdict;
 
 pub mod faces; // the faces of a lent list
@@ -21,7 +22,8 @@ mod forces; // the force of each face in the case of a line
 
 // The newtons of the faces, in the case that a line shows.
 fn share_case(job: Job, line: i64, shown: Extreme, list: &mut [i64]) -> Verdict
-    requires { ⌜ Taken job × (shown ≡ hostLine (sixExtremes (carried job)) line) × (shown .verdict .number ≡ 0) ⌝ }
+    requires { ⌜ Taken job × (shown ≡ hostLine (carried job .year) (sixExtremes (carried job)) line)
+        × (shown .verdict .number ≡ 0) ⌝ }
     ensures { λ r. ⌜ (r ≡ sharing (forcesOn line (judged job)) (now (list .entry)))
         × (now (list .exit) ≡ bufferAfter (column (forcesOn line (judged job))) (now (list .entry))) ⌝ }
 {
@@ -42,7 +44,7 @@ pub fn column_of(job: Job, line: i64, list: &mut [i64]) -> Verdict
     if w.verdict.number != 0 {
         return w.verdict;
     }
-    let shown = answers::line_of(w.six, line);
+    let shown = answers::line_of(w.year, w.six, line);
     if shown.verdict.number != 0 {
         return shown.verdict;
     }
@@ -54,17 +56,6 @@ pub fn column_in(s: Setting, faces: Faces, line: i64, list: &mut [i64]) -> Verdi
     ensures { λ r. ⌜ (r ≡ columnVerdict (judged (recordWith s faces)) line (now (list .entry)))
         × (now (list .exit) ≡ columnAfter (judged (recordWith s faces)) line (now (list .entry))) ⌝ }
 {
-    let building = s.building;
-    let winds = s.winds;
-    let internals = s.internals;
-    let profile = s.profile;
-    let job = Job {
-        year: s.year,
-        building,
-        winds,
-        internals,
-        profile,
-        faces,
-    };
+    let job = with_faces(s, faces);
     column_of(job, line, list)
 }

@@ -3,6 +3,7 @@ use mathlib.Core.Path.{_≡_, refl, sym, ap, _∙_, subst}
 use borrow.Author.Needs.{needs}
 use lib.IntN.{ℤ}
 use mir.Syntax.{w64}
+use mir.Val.{SFits}
 use mir.ValLaws.{toZ-ofZ}
 use Rattle.verdict.specs.declared.Verdict.{Verdict}
 use Rattle.verdict.specs.Verdict.{Refuses}
@@ -48,8 +49,8 @@ module _ (c : tie.After-worst-cases) where
   taken : v .number ≡ 0 → Taken j
   taken z = let t = taken-is j v own z in record { order = t .order; accepted = t .is }
 
-  six-are : v .number ≡ 0 → c .worst-cases .result .six ≡ sixExtremes (carried j)
-  six-are z = ap (λ (w : Reckoning). w .six) (found ∙ ap reckoned (taken z .accepted))
+  reckoned-is : v .number ≡ 0 → c .worst-cases .result ≡ reckoned (Accepted (carried j))
+  reckoned-is z = found ∙ ap reckoned (taken z .accepted)
 
 returns : tie.Need-returns
 returns c =
@@ -62,18 +63,21 @@ returns c =
 
 module _ (c : tie.After-line-of) where
   abbrev w : tie.After-worst-cases
-  w = c .before .before .before
+  w = c .before .before .before .before
 
   abbrev line : ℤ
   line = s w .args .line
 
   passed : v w .number ≡ 0
-  passed = c .before .if1 .left
+  passed = c .before .before .if1 .left
 
-  shown : c .line-of .result ≡ hostLine (sixExtremes (carried (j w))) line
+  shown : c .line-of .result ≡ hostLine (carried (j w) .year) (sixExtremes (carried (j w))) line
   shown =
+      let r = w .worst-cases .result in
+      let fits : SFits w64 (r .year) = search needs in
       c .line-of .ensures
-      ∙ (λ i. hostLine (six-are w passed i) (toZ-ofZ w64 line (s w .fits .line) i))
+      ∙ (λ i. hostLine (toZ-ofZ w64 (r .year) fits i) (r .six) (toZ-ofZ w64 line (s w .fits .line) i))
+      ∙ ap (λ (x : Reckoning). hostLine (x .year) (x .six) line) (reckoned-is w passed)
 
   line-verdict : c .line-of .result .verdict ≡ hostTotal (judged (j w)) line .verdict
   line-verdict =
@@ -90,7 +94,7 @@ share-case-requires : tie.Need-share-case-requires
 share-case-requires c κs =
     let d = c .before .before .before in (
       taken (w d) (passed d),
-      shown d ∙ ap (hostLine (sixExtremes (carried (j (w d))))) (sym (toZ-ofZ w64 (line d) (s (w d) .fits .line))),
+      shown d ∙ ap (hostLine (carried (j (w d)) .year) (sixExtremes (carried (j (w d))))) (sym (toZ-ofZ w64 (line d) (s (w d) .fits .line))),
       c .before .if2 .left,
     )
 

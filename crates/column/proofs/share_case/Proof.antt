@@ -10,6 +10,7 @@ use mir.ValLaws.{toZ-ofZ}
 use Rattle.whole.specs.Lists.{firstOf}
 use Rattle.whole.proofs.Lists.{firstOf-length}
 use Rattle.page.specs.Writing.{bufferAfter}
+use Rattle.job.specs.Carried.{mostFaces}
 use Rattle.job.specs.Walk.{judged}
 use Rattle.worst.specs.Rows.{rows, forceIn}
 use Rattle.worst.proofs.Rows.{ready}
@@ -19,16 +20,16 @@ use Rattle.column.proofs.Shown.{line-forces}
 use Rattle.column.proofs.share_case.Statement.{statement}
 use Rattle.column.proofs.share_case.Tie as tie
 
-few : (s : tie.Start) → s .args .job .faces .count ≤ 24
+few : (s : tie.Start) → s .args .job .faces .count ≤ mostFaces
 few s = ready (s .args .job) (s .pre .0) .profiled .few
 
--- the forces, all 24 of them
+-- the forces, as many as there is room for
 module _ (c : tie.After-at-choice) where
   abbrev s : tie.Start
   s = c .before .before .before .before
 
-  long : length (c .at-choice .result .face) ≡ 24
-  long = ap length (c .at-choice .ensures) ∙ firstOf-length (pos 0) 24 _
+  long : length (c .at-choice .result .face) ≡ mostFaces
+  long = ap length (c .at-choice .ensures) ∙ firstOf-length (pos 0) mostFaces _
 
   part : s .args .job .faces .count ≡ length (take (s .args .job .faces .count) (c .at-choice .result .face))
   part = simp length-take (omega (arith, long, few s))
@@ -43,7 +44,7 @@ module _ (c : tie.After-at-choice) where
       (cell .result) (cell .ensures)
       (c .at-choice .ensures
       ∙ ap
-      (λ z. firstOf (pos 0) 24
+      (λ z. firstOf (pos 0) mostFaces
       (atChoice (forceIn (axisOf z)) (rows n (cell .result)) (firstOf 0 n (a .shown .alternative))))
       (toZ-ofZ w64 (a .line) (s .fits .line)))
 

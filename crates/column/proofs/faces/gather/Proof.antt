@@ -50,7 +50,7 @@ use denote.Triple.Walked.{says, Stays, stay-none-slice, walkOf, Walks, ends-at, 
 use denote.Exit.{yes}
 use Rattle.entry.specs.declared.Face.{Face}
 use Rattle.job.specs.declared.Faces.{Faces}
-use Rattle.job.specs.Carried.{noFace}
+use Rattle.job.specs.Carried.{noFace, mostFaces}
 use Rattle.column.specs.Listed.{listed}
 use Rattle.column.specs.OneByOne.{noFaces, withOne}
 use Rattle.whole.specs.Lists.{firstOf}
@@ -114,8 +114,8 @@ module _ {M : Type 1} (𝓤 : URA M) (H : Heap 𝓤) (A : Atoms 𝓤) (mem : Mem
   none-said r = exE 𝓤 _ (λ ws. snd∗ 𝓤 (sem 𝓤 H A (lasts none.ended tt tt ws)) (fact 𝓤 (r ≡ noFaces)))
 
   telling-said : (m r : ℕ)
-      → ent 𝓤 (ensured 𝓤 H A telling.ended (telling.clauses 𝓤 H A mem run) tt (m, tt) tt r) (fact 𝓤 (r ≡ min m 25))
-  telling-said m r = exE 𝓤 _ (λ ws. snd∗ 𝓤 (sem 𝓤 H A (lasts telling.ended tt (m, tt) ws)) (fact 𝓤 (r ≡ min m 25)))
+      → ent 𝓤 (ensured 𝓤 H A telling.ended (telling.clauses 𝓤 H A mem run) tt (m, tt) tt r) (fact 𝓤 (r ≡ min m (mostFaces + 1)))
+  telling-said m r = exE 𝓤 _ (λ ws. snd∗ 𝓤 (sem 𝓤 H A (lasts telling.ended tt (m, tt) ws)) (fact 𝓤 (r ≡ min m (mostFaces + 1))))
 
   put-said : (s : Faces) (f : Face) (r : Faces)
       → ent 𝓤 (ensured 𝓤 H A put.ended (put.clauses 𝓤 H A mem run) tt (s, (f, tt)) tt r) (fact 𝓤 (r ≡ withOne s f))
@@ -138,7 +138,7 @@ module _ {M : Type 1} (𝓤 : URA M) (H : Heap 𝓤) (A : Atoms 𝓤) (W : Given
 
   -- so many are read
   abbrev m : ℕ
-  m = min (length (x .now)) 25
+  m = min (length (x .now)) (mostFaces + 1)
 
   abbrev v : Val
   v = sliceVal (x .ptr) (length (x .now))

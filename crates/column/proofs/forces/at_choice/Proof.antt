@@ -11,6 +11,7 @@ use mir.Val.{toZ, ofZ}
 use mir.ValLaws.{toZ-ofZ}
 use Rattle.whole.specs.Lists.{firstOf}
 use Rattle.whole.proofs.Lists.{firstOf-none}
+use Rattle.job.specs.Carried.{mostFaces}
 use Rattle.worst.specs.declared.Axis.{Axis}
 use Rattle.worst.specs.declared.FaceForces.{FaceForces}
 use Rattle.worst.specs.PerFace.{noFaceForces}
@@ -23,16 +24,16 @@ use Rattle.column.proofs.forces.at_choice.Tie as tie
 abbrev Inv-loop : tie.InvT-loop
 Inv-loop line faces forces alternative all₀ i₀ all i =
     (i ≤ faces)
-    × (all .face ≡ firstOf (pos 0) 24
+    × (all .face ≡ firstOf (pos 0) mostFaces
     (upTo (forceIn (axisOf (toZ w64 line))) noFaceForces 0 (forces .face) alternative i))
 
 abbrev μ-loop : tie.MeasureT-loop
 μ-loop line faces forces alternative all₀ i₀ all i = faces - i
 
 module _ (axis : Axis) (forces : List FaceForces) (ks : List ℕ) where
-  nothing-yet : replicate 24 (pos 0) ≡ firstOf (pos 0) 24 (upTo (forceIn axis) noFaceForces 0 forces ks 0)
+  nothing-yet : replicate mostFaces (pos 0) ≡ firstOf (pos 0) mostFaces (upTo (forceIn axis) noFaceForces 0 forces ks 0)
   unfolding firstOf atChoice
-  nothing-yet = sym (firstOf-none (pos 0) 24)
+  nothing-yet = sym (firstOf-none (pos 0) mostFaces)
 
 -- the line as it is handed on
 abbrev lineOf : tie.Start Inv-loop μ-loop → ℤ
@@ -49,7 +50,7 @@ loop-again c =
       omega arith,
       (λ j. set (l .inv .1 j) (l .i)
           ((toZ-ofZ w64 (c .force-at .result) (record { sfits = c .force-at .ok }) ∙ c .force-at .ensures) j))
-          ∙ choice-next (forceIn (axisOf (lineOf s))) noFaceForces 0 (a .t2 .face) (a .t3) 24 (l .i) (omega arith),
+          ∙ choice-next (forceIn (axisOf (lineOf s))) noFaceForces 0 (a .t2 .face) (a .t3) mostFaces (l .i) (omega arith),
     )
 
 returns : tie.Need-returns Inv-loop μ-loop
@@ -60,7 +61,7 @@ returns c =
     let all : l .i ≡ a .faces = omega arith in
     let line = toZ-ofZ w64 (a .line) (s .fits .line) in
     l .inv .1
-    ∙ (λ j. firstOf (pos 0) 24 (upTo (forceIn (axisOf (line j))) noFaceForces 0 (a .t2 .face) (a .t3) (all j)))
+    ∙ (λ j. firstOf (pos 0) mostFaces (upTo (forceIn (axisOf (line j))) noFaceForces 0 (a .t2 .face) (a .t3) (all j)))
 
 pub at-choice-spec : {M : Type 1} → statement M
 at-choice-spec =
