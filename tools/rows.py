@@ -107,7 +107,7 @@ def fault(year, h, a, b, density, kind, x):
 
 def outside(year, h, a, b, density, kind, x, direction, place):
     """A refusal, which is a pair of numbers; or a list of values, and its rows: lower, upper and the fraction of the way."""
-    if year not in (1, 2, 3):
+    if year not in (1, 2, 3, 4):
         return (3, 0)
     n = fault(year, h, a, b, density, kind, x)
     if n:
@@ -187,7 +187,7 @@ for x in INCLINES:
             show(500, 1200, 1000, 6, x, direction, place)
 
 # square plans and one step to either side, in each year and in one before and after them: the year first
-for year in (0, 1, 2, 3, 4):
+for year in (0, 1, 2, 3, 4, 5):
     for h in HEIGHTS:
         for a in (999, 1000, 1001):
             for direction, place in PLACES:

@@ -10,7 +10,7 @@ const HEIGHTS: [i64; 10] = [100, 499, 500, 501, 1499, 1500, 1501, 5999, 6000, 60
 
 const SIDES: [i64; 9] = [999, 1000, 1001, 1499, 1500, 1501, 3999, 4000, 4001];
 
-const YEARS: [i64; 5] = [0, 1, 2, 3, 4];
+const YEARS: [i64; 6] = [0, 1, 2, 3, 4, 5];
 
 const WALL_WINDS: [i64; 10] = [0, 0, 0, 0, 90, 90, 90, 90, 0, 45];
 
@@ -282,13 +282,13 @@ fn square(n: usize) {
         kind: 0,
         x: 0,
     };
-    let year = YEARS[n / 300 % 5];
+    let year = YEARS[n / 300 % 6];
     io::write_all(1, b"year ");
     put(year);
     show_in(year, g, WALL_WINDS[n % 10], WALL_PLACES[n % 10]);
 }
 
-// 900 questions on walls, 1040 on gables, 320 on flat roofs, 756 on single slopes, 1500 on square plans by the year.
+// 900 questions on walls, 1040 on gables, 320 on flat roofs, 756 on single slopes, 1800 on square plans by the year.
 fn ask(n: usize) {
     if n < 900 {
         return wall(n);
@@ -307,7 +307,7 @@ fn ask(n: usize) {
 
 fn main() {
     let mut n: usize = 0;
-    while n < 4516 {
+    while n < 4816 {
         ask(n);
         n += 1;
     }

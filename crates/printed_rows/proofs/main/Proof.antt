@@ -5,10 +5,10 @@ use Rattle.printed_rows.proofs.main.Statement.{statement}
 use Rattle.printed_rows.proofs.main.Tie as tie
 
 abbrev Inv-loop : tie.InvT-loop
-Inv-loop n₀ n = n ≤ 4516
+Inv-loop n₀ n = n ≤ 4816
 
 abbrev μ-loop : tie.MeasureT-loop
-μ-loop n₀ n = 4516 - n
+μ-loop n₀ n = 4816 - n
 
 pub main-spec : {M : Type 1} → statement M
 main-spec =
