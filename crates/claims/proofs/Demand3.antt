@@ -15,6 +15,7 @@ use Rattle.worst.specs.declared.Extreme.{Extreme}
 use Rattle.worst.specs.declared.Reckoning.{Reckoning}
 use Rattle.worst.specs.Best.{NoFurther}
 use Rattle.worst.specs.Cases.{Permitted, Loads, Case, cases}
+use Rattle.worst.specs.Shown.{totalIn}
 use Rattle.worst.specs.Worst.{extreme, sixExtremes, shownIn, lineNumber, worstOf}
 use Rattle.worst.proofs.Members.{case-permitted, permitted-case}
 use Rattle.report.specs.Report.{reportText}
@@ -63,7 +64,7 @@ abbrev pub MoreShowsNoLess : Type 0
 MoreShowsNoLess = Always of.worst-cases.Post (λ κ a r s. Always of.worst-cases.Post (λ κ′ b q t.
     (c d : Carried) → judged (a .0) ≡ Accepted c → judged (b .0) ≡ Accepted d → More c d
     → (axis : Axis) (side : Side)
-    → NoFurther side (shownIn (r .six) axis side .total) (shownIn (q .six) axis side .total)))
+    → NoFurther side (totalIn (shownIn (r .six) axis side)) (totalIn (shownIn (q .six) axis side))))
 
 -- "If only speeds change and none is lowered, a greatest that was zero or more does not fall, and a least that was
 -- zero or less does not rise." "From year 2 on .. only for jobs whose faces all stand at one height and whose face
@@ -71,8 +72,8 @@ MoreShowsNoLess = Always of.worst-cases.Post (λ κ a r s. Always of.worst-cases
 abbrev pub FasterShowsNoLess : Type 0
 FasterShowsNoLess = Always of.worst-cases.Post (λ κ a r s. Always of.worst-cases.Post (λ κ′ b q t.
     (c d : Carried) → judged (a .0) ≡ Accepted c → judged (b .0) ≡ Accepted d → Faster c d → OneSpeed c
-    → (axis : Axis) (side : Side) → NoFurther side (pos 0) (shownIn (r .six) axis side .total)
-    → NoFurther side (shownIn (r .six) axis side .total) (shownIn (q .six) axis side .total)))
+    → (axis : Axis) (side : Side) → NoFurther side (pos 0) (totalIn (shownIn (r .six) axis side))
+    → NoFurther side (totalIn (shownIn (r .six) axis side)) (totalIn (shownIn (q .six) axis side))))
 
 -- ---- the proofs
 
@@ -81,9 +82,9 @@ module _ (j : Job) {r : Reckoning} (p : r ≡ worstOf j) (c : Carried) (a : judg
   six-of : r .six ≡ sixExtremes c
   six-of = ap (λ (q : Reckoning). q .six) p ∙ six-is j c a
 
-  total-of : (axis : Axis) (side : Side) → shownIn (r .six) axis side .total ≡ extreme axis side c .total
+  total-of : (axis : Axis) (side : Side) → totalIn (shownIn (r .six) axis side) ≡ totalIn (extreme axis side c)
   total-of axis side =
-      ap (λ six. shownIn six axis side .total) six-of ∙ ap (λ (e : Extreme). e .total) (one-is c axis side)
+      ap (λ six. totalIn (shownIn six axis side)) six-of ∙ ap totalIn (one-is c axis side)
 
 pub shows-worst : ShowsWorst
 shows-worst κ a r s p c e =
@@ -104,7 +105,7 @@ reports-worst =
           let shows = shown.six-shown c (sheet-in-order (now (a .0)) c e) axis side in (
             shownIn six axis side,
             shows,
-            p ∙ ap (λ x. hostTotal x (a .1 .0)) e ∙ ap (hostLine six) n ∙ line-is six axis side,
+            p ∙ ap (λ x. hostTotal x (a .1 .0)) e ∙ ap (hostLine (c .year) six) n ∙ line-is (c .year) six axis side,
           );
     }
 

@@ -6,6 +6,7 @@ use native.Mathlib.Omega.{arith}
 use lib.Dec.{eqb, ltb}
 use lib.IntN.{ℤ, pos, natAbs}
 use borrow.Author.Tests.{le-ltb, ltb-true, ltb-false, eqb-true, eqb-false}
+use Rattle.building.specs.Year.{faceLimit}
 use Rattle.whole.proofs.Tests.{by-test}
 use Rattle.verdict.specs.declared.Verdict.{Verdict}
 use Rattle.verdict.specs.Verdict.{accepted, refusal, _orThen_, Refuses}
@@ -53,13 +54,16 @@ module _ (j : Job) where
   past-there : (k : ℤ) → ((There j k → ⊥) → ⊥) → (w : Verdict) → (noSuchFace k j orThen w) ≡ w
   past-there k h w = then-later (noSuchFace k j) w (there k h)
 
-  is-full : 24 ≤ j .faces .count → full j ≡ refusal 2 0
-  is-full h = rw (le-ltb (j .faces .count) 24 h)
+  abbrev limit : ℕ
+  limit = faceLimit (j .year)
 
-  past-full : (24 ≤ j .faces .count → ⊥) → (w : Verdict) → (full j orThen w) ≡ w
+  is-full : limit ≤ j .faces .count → full j ≡ refusal 2 0
+  is-full h = rw (le-ltb (j .faces .count) limit h)
+
+  past-full : (limit ≤ j .faces .count → ⊥) → (w : Verdict) → (full j orThen w) ≡ w
   past-full h w =
       then-later (full j) w
-      (by-test (ltb (j .faces .count) 24) (λ t. rw t) (λ t. absurd (h (ltb-false (j .faces .count) 24 t))))
+      (by-test (ltb (j .faces .count) limit) (λ t. rw t) (λ t. absurd (h (ltb-false (j .faces .count) limit t))))
 
   is-only : j .faces .count ≤ 1 → onlyFace j ≡ refusal 2 0
   is-only h = rw (le-ltb 1 (j .faces .count) h)
@@ -128,7 +132,7 @@ module _ (j : Job) where
   behind : (e : Edit) → Fine → Refuses (editVerdict e j) → EditFault j e (editVerdict e j)
   unfolding editVerdict
   behind (Add f) g r =
-      by-count (j .faces .count) 24 (λ h. as-fault (Add f) (full-or-only g (λ x. x) h))
+      by-count (j .faces .count) (faceLimit (j .year)) (λ h. as-fault (Add f) (full-or-only g (λ x. x) h))
       (λ h. by-fault f
       (λ z. absurd (r (ap (λ v. v .number) (past-held g _ ∙ past-full h _ ∙ then-later (newFace _ f j) accepted z))))
       (λ s. as-fault (Add f) (new-face (j .faces .count + 1) (faceFault j f) g (λ x. x) h (refl, refl) s)))

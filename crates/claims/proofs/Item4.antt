@@ -7,6 +7,7 @@ use native.Mathlib.Omega.{arith}
 use lib.IntN.{pos, natAbs}
 use lib.ListN.{length, take, drop}
 use lib.Seq.{take-append-seam}
+use Rattle.building.specs.Year.{faceLimit}
 use Rattle.verdict.specs.declared.Verdict.{Verdict}
 use Rattle.verdict.specs.Verdict.{accepted, refusal, Refuses}
 use Rattle.job.specs.declared.Job.{Job}
@@ -79,7 +80,7 @@ pub record EditsGetFirstFault : Type 0 where
 -- would be refused with the same number and line
 pub record NewFaceAsInSheet : Type 0 where
   pub add : Always of.aral-add.Post (λ κ a r s. let j = a .0 .job in
-      Faultless (linesOf (carried j)) → j .faces .count < 24 → (faceFault j (a .1 .0) ≡ 0 → ⊥)
+      Faultless (linesOf (carried j)) → j .faces .count < faceLimit (j .year) → (faceFault j (a .1 .0) ≡ 0 → ⊥)
       → judged (jobWith (editFaces (Add (a .1 .0)) j) j) ≡ Refused (r .verdict))
   pub replace : Always of.aral-replace.Post (λ κ a r s. let j = a .0 .job in
       Faultless (linesOf (carried j)) → There j (a .1 .0) → (faceFault j (a .1 .1 .0) ≡ 0 → ⊥)
@@ -174,7 +175,7 @@ new-face-as-in-sheet =
           let f = a .1 .0 in
           let k = j .faces .count + 1 in
           let o = job-in-order j (carried j) (fault.job-faultless j g) in
-          let free : 24 ≤ j .faces .count → ⊥ = λ x. absurd (omega arith) in
+          let free : faceLimit (j .year) ≤ j .faces .count → ⊥ = λ x. absurd (omega arith) in
           let at : EditFault j (Add f) (refusal (faceFault j f) (faceLine (carried j) k)) =
           new-face k (faceFault j f) g (λ x. x) free (refl, refl) (omega arith) in
           add-refused j o f room z ∙ ap Refused (sym (new-verdict (Add f) (a .0) p at));

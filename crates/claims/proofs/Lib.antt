@@ -18,6 +18,7 @@ pub mod Item10
 pub mod Item11
 pub mod Item12
 pub mod Item13
+pub mod Item14
 pub mod Printed
 pub mod RowsWorked
 pub mod Sample

@@ -9,6 +9,11 @@ use Prim.Native.Nat.{ℕ, _≤_, _<_}
 use lib.IntN.{pos, natAbs}
 use lib.ListN.{getD}
 use lib.Signed.{_<ℤ_, leZ-yes}
+use Rattle.whole.specs.Newton.{newton}
+use Rattle.whole.proofs.Newton.{remainder-small}
+use Rattle.pair.specs.Total.{pairOf}
+use Rattle.pair.proofs.Units.{pairOf-units}
+use borrow.Author.Tests.{lt-ltb}
 use Rattle.whole.specs.Lists.{Every}
 use Rattle.whole.proofs.Order.{≤ℤ-trans}
 use Rattle.whole.proofs.Size.{size-rises, size-grows}
@@ -20,7 +25,7 @@ use Rattle.building.specs.declared.Building.{Building}
 use Rattle.building.specs.Year.{hasHeights}
 use Rattle.entry.specs.declared.Wind.{Wind}
 use Rattle.entry.specs.declared.Face.{Face}
-use Rattle.job.specs.Carried.{Carried, noFace}
+use Rattle.job.specs.Carried.{Carried, noFace, mostFaces}
 use Rattle.job.specs.InOrder.{InOrder, WindInOrder}
 use Rattle.job.specs.Walk.{Reading, Accepted}
 use Rattle.job.proofs.Years.{later-heights}
@@ -36,7 +41,7 @@ use Rattle.worst.specs.Cases.{Case, cases, caseTotal}
 use Rattle.worst.specs.declared.speeds.Factor.{Factor}
 use Rattle.worst.specs.Speed.{unchanged, factorAt, speedAt}
 use Rattle.worst.specs.Forces.{factorOf, faceSpeed, loads}
-use Rattle.worst.specs.Shown.{padded, shown}
+use Rattle.worst.specs.Shown.{padded, shown, totalIn}
 use Rattle.worst.specs.Worst.{given, extreme, sixExtremes}
 use Rattle.worst.proofs.AtHeight.{speed-stays}
 use Rattle.worst.proofs.Meaning.{isBest-unique}
@@ -62,6 +67,7 @@ module _ (c : Carried) (axis : Axis) (side : Side) where
       record {
         case = f .case;
         best = f .best;
+        remainder = subst (λ x. x .total .remainder < newton) (sym (f .named)) (remainder-small _);
         wind = ap (λ x. x .wind) (f .named);
         internal = ap (λ x. x .internal) (f .named);
         faces = ap (λ x. x .faces) (f .named);
@@ -72,14 +78,17 @@ module _ (c : Carried) (axis : Axis) (side : Side) where
   shows-unique {e} {e′} h k =
       let l = loads axis (given c) in
       let u =
-      isBest-unique side (caseTotal l) (cases l) (e .total) (e′ .total) (h .case) (k .case) (h .best) (k .best) in
+      isBest-unique side (caseTotal l) (cases l) (totalIn e) (totalIn e′) (h .case) (k .case) (h .best) (k .best) in
       let same : h .case ≡ k .case = u .1 in
       let wind = h .wind ∙ ap (λ x. x .wind) same ∙ sym (k .wind) in
       let internal = h .internal ∙ ap (λ x. x .internal) same ∙ sym (k .internal) in
-      let alternative = h .alternative ∙ ap (λ (x : Case ℕ ℕ ℕ). padded 24 (x .chosen)) same ∙ sym (k .alternative) in
+      let proper : (x : Extreme) → x .total .remainder < newton → pairOf (totalIn x) ≡ x .total =
+      λ x t. pairOf-units (x .total) (lt-ltb (x .total .remainder) newton t) in
+      let total = sym (proper e (h .remainder)) ∙ ap pairOf (u .0) ∙ proper e′ (k .remainder) in
+      let alternative = h .alternative ∙ ap (λ (x : Case ℕ ℕ ℕ). padded mostFaces (x .chosen)) same ∙ sym (k .alternative) in
       λ i.
       record {
-        total = u .0 i;
+        total = total i;
         wind = wind i;
         internal = internal i;
         faces = (h .faces ∙ sym (k .faces)) i;
@@ -193,13 +202,13 @@ raised k g (w ∷ ws) (v ∷ vs) o s r x m =
     (List·Memᴰ·cases-cons m)
 
 module _ {c d : Carried} (o : InOrder c) (p : InOrder d) (axis : Axis) (side : Side) where
-  pub more-no-less : More c d → NoFurther side (extreme axis side c .total) (extreme axis side d .total)
+  pub more-no-less : More c d → NoFurther side (totalIn (extreme axis side c)) (totalIn (extreme axis side d))
   more-no-less m =
       extreme-more c d (m .building) (m .profile) (m .faces) o p (included (m .winds)) (included (m .internals)) axis
       side
 
-  pub faster-no-less : faster.Faster c d → OneSpeed c → NoFurther side (pos 0) (extreme axis side c .total)
-      → NoFurther side (extreme axis side c .total) (extreme axis side d .total)
+  pub faster-no-less : faster.Faster c d → OneSpeed c → NoFurther side (pos 0) (totalIn (extreme axis side c))
+      → NoFurther side (totalIn (extreme axis side c)) (totalIn (extreme axis side d))
   faster-no-less m speeds =
       let at = at-one-factor c o speeds in
       extreme-faster c d (m .building) (m .profile) (m .faces) o p (at .one)

@@ -41,7 +41,7 @@ use Rattle.worst.specs.declared.Axis.the-variants.{X}
 use Rattle.worst.specs.Best.{short, NoFurther, better, best}
 use Rattle.worst.specs.Cases.{each, choices, total, cases, caseTotal, worst}
 use Rattle.worst.specs.Speed.{factorAt, speedAt}
-use Rattle.worst.specs.Shown.{padded, shown}
+use Rattle.worst.specs.Shown.{padded, shown, totalIn}
 use Rattle.worst.specs.Worst.{extreme}
 use Rattle.claims.specs.Shown.{Faster, OneHeight, SomeSpeed}
 use Rattle.claims.proofs.Printed.{_and_}
@@ -51,8 +51,8 @@ pub record ShowsLess (axis : Axis) (side : Side) (sheet sheet′ : String) (c d 
   pub accepted : reading (bytes sheet) ≡ Accepted c
   pub accepted′ : reading (bytes sheet′) ≡ Accepted d
   pub faster : Faster c d
-  pub beyond-zero : NoFurther side (pos 0) (extreme axis side c .total)
-  pub less : short side (extreme axis side d .total) (extreme axis side c .total) ≡ true
+  pub beyond-zero : NoFurther side (pos 0) (totalIn (extreme axis side c))
+  pub less : short side (totalIn (extreme axis side d)) (totalIn (extreme axis side c)) ≡ true
 
 -- ---- the two jobs, with one wind at a speed
 
@@ -105,7 +105,7 @@ pub record Row : Type 0 where
 
 abbrev Holds : Row → Type 0
 Holds r =
-    (reading (bytes (r .sheet)) ≡ Accepted (r .carries)) × (extreme X (r .side) (r .carries) .total ≡ r .shows)
+    (reading (bytes (r .sheet)) ≡ Accepted (r .carries)) × (totalIn (extreme X (r .side) (r .carries)) ≡ r .shows)
 
 abbrev rows : List Row
 rows =
@@ -137,8 +137,8 @@ only-speed profile faces v w h =
     record { building = refl; profile = refl; faces = refl; internals = refl; winds = (refl, h, tt) }
 
 shows-less : (side : Side) {sheet sheet′ : String} {c d : Carried} {u v : ℤ}
-    → (reading (bytes sheet) ≡ Accepted c) × (extreme X side c .total ≡ u)
-    → (reading (bytes sheet′) ≡ Accepted d) × (extreme X side d .total ≡ v)
+    → (reading (bytes sheet) ≡ Accepted c) × (totalIn (extreme X side c) ≡ u)
+    → (reading (bytes sheet′) ≡ Accepted d) × (totalIn (extreme X side d) ≡ v)
     → Faster c d → NoFurther side (pos 0) u → short side v u ≡ true → ShowsLess X side sheet sheet′ c d
 shows-less side r q faster out less =
     record {

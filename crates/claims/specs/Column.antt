@@ -4,6 +4,7 @@ use mathlib.Core.List.{List, _++_}
 use Prim.Native.Nat.{ℕ, _<_}
 use lib.IntN.{ℤ, pos, natAbs, _-ℤ_, _*ℤ_}
 use lib.ListN.{length, getD, drop}
+use Rattle.worst.specs.Shown.{totalIn}
 use Rattle.whole.specs.Newton.{newton, newtons}
 use Rattle.job.specs.Carried.{Carried}
 use Rattle.worst.specs.declared.Side.{Side}
@@ -34,7 +35,7 @@ pub record Handout (c : Carried) (axis : Axis) (side : Side) (old new : List ℤ
   pub shared : IsColumn (forcesOf c axis (shows .case)) column
   pub only : (other : List ℤ) → IsColumn (forcesOf c axis (shows .case)) other → other ≡ column
   -- "the column must add to its total rounded down to whole newtons"
-  pub adds : addedUp column ≡ newtons (line .total)
+  pub adds : addedUp column ≡ newtons (totalIn line)
   -- "each entry is less than 1 N from its exact force"
   pub near : (i : ℕ) → i < length (c .faces)
       → natAbs (getD column i (pos 0) *ℤ pos newton -ℤ getD (forcesOf c axis (shows .case)) i (pos 0)) < newton

@@ -32,7 +32,7 @@ module _ (j : Job) where
 
   -- "a full worksheet on add, or taking out the only face"
   abbrev pub FullOrOnly : Edit → Type 0
-  FullOrOnly (Add f) = about F .most ≤ faces
+  FullOrOnly (Add f) = about F .most (j .year) ≤ faces
   FullOrOnly (Replace k f) = ⊥
   FullOrOnly (TakeOut k) = faces ≤ 1
 

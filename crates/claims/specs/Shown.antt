@@ -2,14 +2,15 @@
 use mathlib.Core.Path.{_≡_}
 use mathlib.Core.Logic.{_⊎_}
 use mathlib.Core.List.{List, [], _∷_, List·Memᴰ}
-use Prim.Native.Nat.{ℕ}
+use Prim.Native.Nat.{ℕ, _<_}
 use lib.IntN.{ℤ, pos}
 use lib.Signed.{_≤ℤ_, _<ℤ_}
 use lib.ListN.{length}
 use Rattle.whole.specs.Lists.{Every}
+use Rattle.whole.specs.Newton.{newton}
 use Rattle.page.specs.declared.Writing.{Writing}
 use Rattle.entry.specs.declared.Wind.{Wind}
-use Rattle.job.specs.Carried.{Carried}
+use Rattle.job.specs.Carried.{Carried, mostFaces}
 use Rattle.worst.specs.declared.Side.{Side}
 use Rattle.worst.specs.declared.Axis.{Axis}
 use Rattle.worst.specs.declared.Axis.the-variants.{X}
@@ -18,7 +19,7 @@ use Rattle.worst.specs.declared.Six.{Six}
 use Rattle.worst.specs.Best.{IsBest}
 use Rattle.worst.specs.Cases.{Case, cases, caseTotal}
 use Rattle.worst.specs.Forces.{faceSpeed, loads}
-use Rattle.worst.specs.Shown.{padded}
+use Rattle.worst.specs.Shown.{padded, totalIn}
 use Rattle.worst.specs.Worst.{given, shownIn}
 use Rattle.report.specs.Lines.{sixText}
 use Rattle.claims.specs.Written.{Written}
@@ -26,14 +27,15 @@ use Rattle.claims.specs.Written.{Written}
 -- ---- one extreme
 
 -- `case` is the one whose numbers are shown; its total is shown, bounds that of every case, and is reached by no
--- earlier case
+-- earlier case. The total is one number, newtons with "a remainder of 0 to 19,999,999,999 units".
 pub record Shows (c : Carried) (axis : Axis) (side : Side) (e : Extreme) : Type 0 where
   pub case : Case ℕ ℕ ℕ
-  pub best : IsBest side (caseTotal (loads axis (given c))) (cases (loads axis (given c))) (e .total) case
+  pub best : IsBest side (caseTotal (loads axis (given c))) (cases (loads axis (given c))) (totalIn e) case
+  pub remainder : e .total .remainder < newton
   pub wind : e .wind ≡ case .wind
   pub internal : e .internal ≡ case .internal
   pub faces : e .faces ≡ length (c .faces)
-  pub alternative : e .alternative ≡ padded 24 (case .chosen)
+  pub alternative : e .alternative ≡ padded mostFaces (case .chosen)
 
 -- ---- all six
 
@@ -44,7 +46,7 @@ ShowsSix c six = (axis : Axis) (side : Side) → Shows c axis side (shownIn six 
 pub record Reported (c : Carried) (before after : List ℕ) (w : Writing) : Type 0 where
   pub six : Six
   pub shows : ShowsSix c six
-  pub written : Written (sixText six) before after w
+  pub written : Written (sixText (c .year) six) before after w
 
 -- ---- two jobs
 
