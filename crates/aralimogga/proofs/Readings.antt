@@ -8,18 +8,18 @@ use Rattle.verdict.specs.declared.Verdict.{Verdict}
 use Rattle.verdict.specs.Verdict.{Refuses}
 use Rattle.page.specs.declared.Writing.{Writing}
 use Rattle.job.specs.Carried.{Carried}
-use Rattle.job.specs.Walk.{Reading, Refused, judged}
+use Rattle.job.specs.Walk.{Reading, Accepted, Refused, verdict, judged}
 use Rattle.sheet.specs.declared.read.Read.{Read}
 use Rattle.sheet.specs.Sheet.{reading, answer, jobWriting, jobBuffer}
-use Rattle.sheet.proofs.Answered.{read-refused, read-accepted}
+use Rattle.sheet.proofs.Answered.{told-refused, told-accepted, read-refused, read-accepted}
 use Rattle.worst.specs.declared.Reckoning.{Reckoning}
-use Rattle.worst.specs.Worst.{reckoned, worstOf}
+use Rattle.worst.specs.Worst.{reckoned}
 use Rattle.answers.specs.declared.Text.{Text}
 use Rattle.answers.specs.Answers.{noHostText, hostText, noHostExtreme, hostLine, hostTotal}
 
-module _ (s : List ℕ) (r : Read) (e : r ≡ answer (reading s)) where
-  -- ---- a text about the job
+-- ---- a text about the job
 
+module _ (s : List ℕ) (r : Read) (e : r ≡ answer (reading s)) where
   -- by what is made of what was read, where a refusal stays as it is
   module _ (made : Reading → Reading) (own : (v : Verdict) → made (Refused v) ≡ Refused v) (text : Carried → List ℕ)
       (buf : List ℕ) where
@@ -38,16 +38,21 @@ module _ (s : List ℕ) (r : Read) (e : r ≡ answer (reading s)) where
           wrote .1 ∙ ap (λ (x : Reading). jobBuffer text x buf) j,
         )
 
-  -- ---- a line of its report
+-- ---- a line of its report
 
-  module _ (line : ℤ) where
-    pub total-refused : Refuses (r .verdict) → noHostExtreme (r .verdict) ≡ hostTotal (reading s) line
-    total-refused h = sym (ap (λ (x : Reading). hostTotal x line) (read-refused s r e h))
+reckoned-verdict : (r : Reading) → reckoned r .verdict ≡ verdict r
+reckoned-verdict (Accepted c) = refl
+reckoned-verdict (Refused v) = refl
 
-    pub total-accepted : r .verdict .number ≡ 0 → {w : Reckoning} → w ≡ worstOf (r .job)
-        → hostLine (w .six) line ≡ hostTotal (reading s) line
-    unfolding worstOf
-    total-accepted z worst =
-        let a = read-accepted s r e z in
-        ap (λ (v : Reckoning). hostLine (v .six) line) (worst ∙ ap reckoned (a .2))
-        ∙ sym (ap (λ (x : Reading). hostTotal x line) (a .1))
+module _ (s : List ℕ) (w : Reckoning) (e : w ≡ reckoned (reading s)) (line : ℤ) where
+  told : w .verdict ≡ verdict (reading s)
+  told = ap (λ (v : Reckoning). v .verdict) e ∙ reckoned-verdict (reading s)
+
+  pub total-refused : Refuses (w .verdict) → noHostExtreme (w .verdict) ≡ hostTotal (reading s) line
+  total-refused h = sym (ap (λ (x : Reading). hostTotal x line) (told-refused s (w .verdict) told h))
+
+  pub total-accepted : w .verdict .number ≡ 0 → hostLine (w .year) (w .six) line ≡ hostTotal (reading s) line
+  total-accepted z =
+      let a = told-accepted s (w .verdict) told z in
+      ap (λ (v : Reckoning). hostLine (v .year) (v .six) line) (e ∙ ap reckoned (a .1))
+      ∙ sym (ap (λ (x : Reading). hostTotal x line) (a .1))

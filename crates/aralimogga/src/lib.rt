@@ -5,6 +5,7 @@ use building::Dated;
 use entry::Face;
 use job::Setting;
 use mend::Mending;
+use pair::Pair;
 use panel::Point;
 use rose::Rose;
 use verdict::Verdict;
@@ -16,6 +17,7 @@ ghost use Rattle.page.specs.Writing.{writing, bufferAfter};
 ghost use Rattle.book.specs.Question.{outsideOf, netOf};
 ghost use Rattle.panel.specs.Bracket.{panelOf};
 ghost use Rattle.panel.specs.Chart.{pointOf};
+ghost use Rattle.panel.specs.Pairs.{panelOfNewtons, pointOfPairs};
 ghost use Rattle.job.specs.Walk.{verdict, judged};
 ghost use Rattle.sheet.specs.Sheet.{reading, sheetText, jobWriting, jobBuffer};
 ghost use Rattle.plain.specs.Plain.{plainly};
@@ -36,8 +38,7 @@ ghost use Rattle.answers.specs.Answers.{hostText, hostCoefficient, hostDouble, 
 pub extern "C" fn aral_read(sheet: &[u8]) -> Verdict
     ensures { λ r. ⌜ r ≡ verdict (reading (now (sheet .entry))) ⌝ }
 {
-    let r = sheet::read::read_sheet(sheet);
-    r.verdict
+    sheet::read::verdict_of(sheet)
 }
 
 // The sheet read, and written again.
@@ -59,11 +60,7 @@ pub extern "C" fn aral_report(sheet: &[u8], out: &mut [u8]) -> answers::Text
     ensures { λ r. ⌜ (r ≡ hostText (jobWriting reportText (reading (now (sheet .entry))) (now (out .entry))))
         × (now (out .exit) ≡ jobBuffer reportText (reading (now (sheet .entry))) (now (out .entry))) ⌝ }
 {
-    let r = sheet::read::read_sheet(sheet);
-    if r.verdict.number != 0 {
-        return answers::no_text(r.verdict);
-    }
-    answers::text_of(report::write_report(r.job, out))
+    answers::text_of(report::write_read(sheet, out))
 }
 
 // Its report by the plain engine, which walks every case.
@@ -94,12 +91,11 @@ pub extern "C" fn aral_mend(sheet: &[u8], out: &mut [u8], list: &mut [u64]) -> M
 pub extern "C" fn aral_total(sheet: &[u8], line: i64) -> answers::Extreme
     ensures { λ r. ⌜ r ≡ hostTotal (reading (now (sheet .entry))) line ⌝ }
 {
-    let given = sheet::read::read_sheet(sheet);
-    if given.verdict.number != 0 {
-        return answers::no_extreme(given.verdict);
+    let w = worst::worst_in(sheet);
+    if w.verdict.number != 0 {
+        return answers::no_extreme(w.verdict);
     }
-    let w = worst::worst_cases(given.job);
-    answers::line_of(w.six, line)
+    answers::line_of(w.year, w.six, line)
 }
 
 // ---- a worksheet
@@ -266,10 +262,26 @@ pub extern "C" fn aral_panel(total: i64) -> answers::Double
     answers::double_of(panel::panel_of(total))
 }
 
+// The doubles of a total that is newtons with a remainder.
+#[no_mangle]
+pub extern "C" fn aral_panel_newtons(newtons: i64, remainder: u64) -> answers::Double
+    ensures { λ r. ⌜ r ≡ hostDouble (panelOfNewtons newtons remainder) ⌝ }
+{
+    answers::double_of(panel::newtons::panel_of_newtons(newtons, remainder))
+}
+
 // The chart point of three totals.
 #[no_mangle]
 pub extern "C" fn aral_chart(x: i64, y: i64, z: i64) -> Point
     ensures { λ r. ⌜ r ≡ pointOf x y z ⌝ }
 {
     panel::chart(x, y, z)
+}
+
+// The chart point of three totals that are newtons with a remainder.
+#[no_mangle]
+pub extern "C" fn aral_chart_newtons(x: Pair, y: Pair, z: Pair) -> Point
+    ensures { λ r. ⌜ r ≡ pointOfPairs x y z ⌝ }
+{
+    panel::newtons::chart_of_pairs(x, y, z)
 }

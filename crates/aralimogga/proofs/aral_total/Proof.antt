@@ -1,7 +1,8 @@
 -- `aral_total`: the refusal of what was read, or a line of its report.
 use denote.Ref.{now}
-use mathlib.Core.Path.{_∙_, ap}
-use Rattle.whole.proofs.Size.{param}
+use mathlib.Core.Path.{_∙_}
+use lib.IntN.{ℤ}
+use Rattle.whole.proofs.Size.{said₂}
 use Rattle.answers.specs.Answers.{hostLine}
 use Rattle.aralimogga.proofs.Readings.{total-refused, total-accepted}
 use borrow.Author.Needs.{needs}
@@ -11,24 +12,23 @@ use Rattle.aralimogga.proofs.aral_total.Tie as tie
 returns : tie.Need-returns
 returns c =
     let t = c .before in
-    let r = t .before .before in
-    let a = r .before .before .args in
+    let w = t .before .before in
+    let a = w .before .before .args in
     c .no-extreme .ensures
-    ∙ total-refused (now (a .sheet)) (r .read-sheet .result) (r .read-sheet .ensures) (a .line) (t .if1 .taken)
+    ∙ total-refused (now (a .sheet)) (w .worst-in .result) (w .worst-in .ensures) (a .line) (t .if1 .taken)
 
 returns-2 : tie.Need-returns-2
 returns-2 c =
-    let w = c .before in
-    let t = w .before in
-    let r = t .before .before in
-    let s = r .before .before in
+    let k = c .before in
+    let t = k .before in
+    let w = t .before .before in
+    let s = w .before .before in
     let a = s .args in
-    c .line-of .ensures ∙ ap (hostLine (w .worst-cases .result .six)) (param (s .fits .line) .same)
-    ∙ total-accepted (now (a .sheet)) (r .read-sheet .result) (r .read-sheet .ensures) (a .line) (t .if1 .left)
-    (w .worst-cases .ensures)
+    let r = w .worst-in .result in
+    said₂ (λ (y z : ℤ). hostLine y (r .six) z) (r .year) (a .line) (c .line-of .ensures) (k .struct-told .given .1 .0 .1)
+    (s .fits .line .sfits)
+    ∙ total-accepted (now (a .sheet)) r (w .worst-in .ensures) (a .line) (t .if1 .left)
 
 pub aral-total-spec : {M : Type 1} → statement M
 aral-total-spec =
-    tie.close
-    (tie.spec (λ c κs. search needs) (λ c κs. search needs) returns (λ c κs. search needs) (λ c κs. search needs)
-    returns-2)
+    tie.close (tie.spec (λ c κs. search needs) (λ c κs. search needs) returns (λ c κs. search needs) returns-2)
