@@ -6,12 +6,12 @@ use native.Mathlib.Omega.{arith}
 use lib.Dec.{eqb, ltb}
 use lib.IntN.{ℤ, pos, natAbs}
 use borrow.Author.Tests.{le-ltb, ltb-true, ltb-false, eqb-true, eqb-false}
-use Rattle.building.specs.Year.{faceLimit}
 use Rattle.whole.proofs.Tests.{by-test}
 use Rattle.verdict.specs.declared.Verdict.{Verdict}
 use Rattle.verdict.specs.Verdict.{accepted, refusal, _orThen_, Refuses}
 use Rattle.verdict.proofs.After.{then-later, then-earlier}
 use Rattle.building.specs.Test.{beyond, within}
+use Rattle.building.specs.Year.{faceLimit}
 use Rattle.building.proofs.Ranges.{not-beyond, is-within}
 use Rattle.building.proofs.Accepted as range
 use Rattle.entry.specs.declared.Face.{Face}
@@ -54,16 +54,16 @@ module _ (j : Job) where
   past-there : (k : ℤ) → ((There j k → ⊥) → ⊥) → (w : Verdict) → (noSuchFace k j orThen w) ≡ w
   past-there k h w = then-later (noSuchFace k j) w (there k h)
 
-  abbrev limit : ℕ
-  limit = faceLimit (j .year)
+  abbrev most : ℕ
+  most = faceLimit (j .year)
 
-  is-full : limit ≤ j .faces .count → full j ≡ refusal 2 0
-  is-full h = rw (le-ltb (j .faces .count) limit h)
+  is-full : most ≤ j .faces .count → full j ≡ refusal 2 0
+  is-full h = rw (le-ltb (j .faces .count) most h)
 
-  past-full : (limit ≤ j .faces .count → ⊥) → (w : Verdict) → (full j orThen w) ≡ w
+  past-full : (most ≤ j .faces .count → ⊥) → (w : Verdict) → (full j orThen w) ≡ w
   past-full h w =
       then-later (full j) w
-      (by-test (ltb (j .faces .count) limit) (λ t. rw t) (λ t. absurd (h (ltb-false (j .faces .count) limit t))))
+      (by-test (ltb (j .faces .count) most) (λ t. rw t) (λ t. absurd (h (ltb-false (j .faces .count) most t))))
 
   is-only : j .faces .count ≤ 1 → onlyFace j ≡ refusal 2 0
   is-only h = rw (le-ltb 1 (j .faces .count) h)
@@ -132,7 +132,7 @@ module _ (j : Job) where
   behind : (e : Edit) → Fine → Refuses (editVerdict e j) → EditFault j e (editVerdict e j)
   unfolding editVerdict
   behind (Add f) g r =
-      by-count (j .faces .count) (faceLimit (j .year)) (λ h. as-fault (Add f) (full-or-only g (λ x. x) h))
+      by-count (j .faces .count) most (λ h. as-fault (Add f) (full-or-only g (λ x. x) h))
       (λ h. by-fault f
       (λ z. absurd (r (ap (λ v. v .number) (past-held g _ ∙ past-full h _ ∙ then-later (newFace _ f j) accepted z))))
       (λ s. as-fault (Add f) (new-face (j .faces .count + 1) (faceFault j f) g (λ x. x) h (refl, refl) s)))

@@ -22,6 +22,7 @@ use Rattle.sheet.specs.Sheet.{reading, sheetText, jobWriting, jobBuffer}
 use Rattle.report.specs.Report.{reportText}
 use Rattle.answers.specs.declared.Text.{Text}
 use Rattle.answers.specs.Answers.{hostText}
+use Rattle.building.specs.Year.{faceLimit}
 use Rattle.building.proofs.Accepted as range
 use Rattle.building.proofs.Ranges.{is-within}
 use Rattle.edits.specs.Edits.{Edit, Add, Replace, TakeOut, editFaces, jobWith}
@@ -167,6 +168,11 @@ new-verdict : (e : Edit) (w : Worksheet) {r : Edited} {v : Verdict} → r ≡ ed
     → r .verdict ≡ v
 new-verdict e w p f = first-of e w p .0 _ f
 
+-- what a job carries is of its year
+carried-room : (j : Job) → j .faces .count < faceLimit (j .year) → j .faces .count < faceLimit (carried j .year)
+unfolding carried
+carried-room j room = room
+
 pub new-face-as-in-sheet : NewFaceAsInSheet
 new-face-as-in-sheet =
     record {
@@ -178,7 +184,7 @@ new-face-as-in-sheet =
           let free : faceLimit (j .year) ≤ j .faces .count → ⊥ = λ x. absurd (omega arith) in
           let at : EditFault j (Add f) (refusal (faceFault j f) (faceLine (carried j) k)) =
           new-face k (faceFault j f) g (λ x. x) free (refl, refl) (omega arith) in
-          add-refused j o f room z ∙ ap Refused (sym (new-verdict (Add f) (a .0) p at));
+          add-refused j o f (carried-room j room) z ∙ ap Refused (sym (new-verdict (Add f) (a .0) p at));
       replace = λ κ a r s p g there z.
           let j = a .0 .job in
           let i = a .1 .0 in

@@ -9,8 +9,9 @@ use Rattle.job.specs.Walk.{Accepted, judged}
 use Rattle.job.proofs.RoundTrip.{judged-carried}
 use Rattle.page.specs.Writing.{writing, bufferAfter}
 use Rattle.sheet.specs.Sheet.{jobWriting, jobBuffer}
-use Rattle.worst.specs.Stored.{storedOf}
+use Rattle.worst.specs.Stored.{storedOf, sixBy}
 use Rattle.worst.proofs.JobSums.{own-six}
+use Rattle.worst.proofs.SumsWithin.{telling-own}
 use Rattle.report.specs.Lines.{sixText}
 use Rattle.report.specs.Report.{reportText, storedText}
 use Rattle.edits.specs.Edits.{Edit, Add, Replace, TakeOut}
@@ -75,5 +76,6 @@ shows-report w t buf =
     let is : judged j ≡ Accepted (carried j) = t .accepted ∙ ap Accepted mine in
     let o = job-in-order j (carried j) is in
     let text : storedText (w .sums) (carried j) ≡ reportText (carried j) =
-    ap (λ s. storedText s (carried j)) (t .sums ∙ ap storedOf mine) ∙ ap sixText (own-six j o) in
+    ap (λ s. storedText s (carried j)) (t .sums ∙ ap storedOf mine)
+    ∙ ap (sixText (carried j .year)) (ap (λ s. sixBy s (carried j)) (telling-own (carried j) o) ∙ own-six j o) in
     rw is (ap (λ l. writing l buf) text, ap (λ l. bufferAfter l buf) text)
