@@ -7,7 +7,6 @@ use native.Mathlib.Omega.{arith}
 use lib.IntN.{pos, natAbs}
 use lib.ListN.{length, take, drop}
 use lib.Seq.{take-append-seam}
-use Rattle.building.specs.Year.{faceLimit}
 use Rattle.verdict.specs.declared.Verdict.{Verdict}
 use Rattle.verdict.specs.Verdict.{accepted, refusal, Refuses}
 use Rattle.job.specs.declared.Job.{Job}
