@@ -10,9 +10,9 @@ between cases.
 import sys
 
 B, W, I, F = 'B 1\n500 1200 1000 1250 0 0\n', 'W 1\n0 400\n', 'I 1\n20\n', 'F 1\nA 0 1000 0 0\n'
-# of year 2, where the building stands on line 4, the profile's count on line 9 and this face on line 13; year 3 has its form
+# of year 2, where the building stands on line 4, the profile's count on line 9 and this face on line 13; years 3 and 4 have its form
 V, P, HIGH = 'V 1\n2\n', 'P 2\n0 800\n1200 1000\n', 'F 1\nA 0 600 1000 0 0\n'
-V3 = 'V 1\n3\n'
+V3, V4 = 'V 1\n3\n', 'V 1\n4\n'
 cases = []
 
 
@@ -31,6 +31,16 @@ def case(title, text, answer):
 def six(total):
     """one face of one alternative, with forces on x alone"""
     return ''.join(f'{axis} {word} {total if axis == "x" else 0} 1 1 1\n' for axis in 'xyz' for word in ('max', 'min'))
+
+
+def pair(total):
+    """newtons, rounded down, and the units that remain: 20,000,000,000 are a newton"""
+    return '%d %d' % divmod(total, 20_000_000_000)
+
+
+def six_pairs(total, faces=1):
+    """the same in year 4, of so many faces"""
+    return ''.join(f'{axis} {word} {pair(total if axis == "x" else 0)} 1 1{" 1" * faces}\n' for axis in 'xyz' for word in ('max', 'min'))
 
 
 # (0.700 - 0.200) in thousandths x 1250 x 400^2 x 1000
@@ -192,13 +202,43 @@ case('year 3: 3 before 4 (h 50, a below b)', high(V3, square(50, 999)), 'refused
 case('year 3: a square plan and x 1 without a roof: 5', high(V3, square(rest='0 1')), 'refused 5 4')
 case('year 2: a square plan and x 1 without a roof: 4', high(V, square(rest='0 1')), 'refused 4 4')
 case('year 1: a square plan', sheet(square()), 'refused 4 2')
-for year in ('1', '4', '-3', '30', '9999999'):
+for year in ('1', '5', '-3', '30', '9999999'):
     case(f'V line {year} before a square plan', high(f'V 1\n{year}\n', square()), 'refused 3 2')
 for line in ('03', '3 3', '3 ', '+3'):
     case(f'V line {line}', high(f'V 1\n{line}\n', square()), 'refused 1 2')
 case('year 3 without a profile', high(V3, square(), p=''), 'refused 1 9')
 case('year 3: no height', high(V3, square(), f=F), 'refused 1 13')
 case('year 3: a height one above the profile', high(V3, square(), f='F 1\nA 0 1201 1000 0 0\n'), 'refused 8 13')
+
+# Year 4: totals as newtons with a remainder, and up to 240 faces. Every total is a multiple of the density, so the nearest to
+# nothing is 1000 units, at speed 0.1 and net -0.001: a gable of 45.7 degrees has 0.300 + 0.400 x 7/150 = 0.319 in zone E.
+
+
+def faint(area):
+    return high(V4, 'B 1\n500 1200 1000 1000 1 457\n', 'W 1\n0 1\n', 'I 1\n32\n', 'P 1\n600 1000\n', f'F 1\nE 0 600 {area} 0 0\n')
+
+
+case('year 4: 4050 N and nothing beside', high(V4), six_pairs(500 * 1250 * 360 ** 2 * 1000))
+case('year 4: nothing at all, marked for the other direction', high(V4, f='F 1\nA 90 600 1000 0 0\n'), six_pairs(0))
+case('year 4: 1000 units', faint(-1), six_pairs(1000))
+case('year 4: 1000 units below nothing', faint(1), six_pairs(-1000))
+case('year 4: -5.67 N, which are -6 N and 0.33 N beside', high(V4, w='W 1\n90 400\n', f='F 1\nA - 600 1 0 0\n'), six_pairs(-700 * 1250 * 360 ** 2))
+case('year 4: a square plan of h 500, zone B under wind 0', high(V4, square(), f='F 1\nB 0 600 -1000 0 0\n'), six_pairs(400 * 1250 * 360 ** 2 * 1000))
+case('year 4: 25 faces', high(V4, f='F 25\n' + 'A 0 0 1 0 0\n' * 25), six_pairs(25 * 500 * 1250 * 320 ** 2, 25))
+# zone F of a flat roof: +0.200, then -0.200
+each = 26 * 200 * 1250 * 320 ** 2
+case('year 4: 26 faces of two alternatives', high(V4, 'B 1\n500 1200 1000 1250 2 0\n', i='I 1\n0\n', f='F 26\n' + 'F 0 0 1 0 0\n' * 26),
+     six_pairs(each, 26).replace(f'x min {pair(each)} 1 1{" 1" * 26}', f'x min {pair(-each)} 1 1{" 2" * 26}'))
+for year in (2, 3):
+    case(f'year {year}: 25 faces', high(f'V 1\n{year}\n', f='F 25\n' + 'A 0 0 1 0 0\n' * 2), 'refused 2 12')
+case('year 4: 241 faces', high(V4, f='F 241\n' + 'A 0 0 1 0 0\n' * 2), 'refused 2 12')
+case('year 4: 239 faces are missing', high(V4, f='F 240\n' + 'A 0 0 1 0 0\n'), 'refused 1 14')
+case('year 4: without a profile', high(V4, p=''), 'refused 1 9')
+# 0.700 and the internal -1.000 off
+total = 240 * 1700 * 1500 * 999 ** 2 * 99999
+assert total > 2 ** 63
+case('year 4: 240 faces, whose total fits 64 bits no longer',
+     high(V4, 'B 1\n500 1200 1000 1500 0 0\n', 'W 1\n0 999\n', 'I 1\n-100\n', 'P 1\n0 1000\n', 'F 240\n' + 'A 0 0 99999 0 0\n' * 240), six_pairs(total, 240))
 
 # Every line as long as it may be: 41 lines of 827 bytes in year 1. Parapet at x/h 0.10, zone F: +0.200, then -0.200; internal -1.000.
 before = 'B 1\n30000 30000 10000 1500 3 3000\n' + 'W 8\n' + '90 1000\n' * 8 + 'I 4\n' + '-100\n' * 4 + 'F 24\n'
@@ -264,7 +304,8 @@ year 1, a square plan: 4 2
 year 2, a square plan: 4 4
 year 3, a square plan, zone B: -200 rows 1 1 0 1
 year 3, a below b: 4 4
-year 4, before a square plan: 3 0
+year 4, a square plan, zone B: -200 rows 1 1 0 1
+year 5, before a square plan: 3 0
 point 11: rounded first, then the internal coefficient comes off: 602 rows 5 6 1 40
 point 12: the net of the wall local: -1400 rows 5 5 0 1
 point 7: internal 101: 3 0
@@ -284,9 +325,20 @@ year 2 with 17: 2 9
 year 2 with two at one height: 3 11
 year 3: 0 0
 year 3 with none: 2 9
-year 4: 3 2
+year 4: 0 0
+year 4 with none: 2 9
+year 5: 3 2
 year 10000000, of 8 digits: 1 2
+year 1, 25 faces: 2 7
+year 3, 25 faces: 2 11
+year 4, 25 faces: 0 0
+year 4, 240 faces: 0 0
+year 4, 241 faces: 2 11
 '''
+# then the report of a job with one face by stored sums: both numbers plain, the remainder not padded (point 28)
+for title, total in (('one unit below nothing', -1), ('one unit', 1), ('one unit below 1 N', 20_000_000_000 - 1), ('-1 N', -20_000_000_000)):
+    asked += f'year 4, {title}:\n' + ''.join(f'{axis} {word} {pair(total)} 1 1 1\n' for axis in 'xyz' for word in ('max', 'min'))
+asked += 'year 3, one unit below nothing:\n' + ''.join(f'{axis} {word} -1 1 1 1\n' for axis in 'xyz' for word in ('max', 'min'))
 folder = sys.argv[1]
 texts = '='.join(title + '\n' + text for title, text, _ in cases)
 assert len(texts) <= 65536, 'the program reads no more'

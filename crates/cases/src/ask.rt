@@ -1,4 +1,6 @@
 // Questions and records at the corners of paper 01, each with its answer.
+use crate::print::print;
+use crate::print::print_text;
 use book::Answer;
 use book::Cited;
 use book::Values;
@@ -10,25 +12,20 @@ use entry::Wind;
 use job::Faces;
 use job::Internals;
 use job::Job;
+use job::MOST_FACES;
 use job::Profile;
 use job::Winds;
-use page::Writing;
+use pair::Pair;
 use verdict::Verdict;
-
-fn print(s: &[u8]) {
-    io::write_all(libc::STDOUT_FILENO, s);
-}
+use worst::Span;
+use worst::Stored;
+use worst::StoredCell;
 
 fn print_number(z: i64) {
     let mut digits = [0u8; 20];
     let written = digits::write_decimal(z, &mut digits);
-    let Writing::Length(n) = written else {
-        return;
-    };
-    if n <= 20 {
-        print(b" ");
-        print(&digits[..n]);
-    }
+    print(b" ");
+    print_text(&digits, written);
 }
 
 fn print_value(v: i32) {
@@ -171,8 +168,12 @@ fn square_questions() {
         book::outside(square(3, 999), 0, b'B'),
     );
     print_answer(
-        b"year 4, before a square plan:",
+        b"year 4, a square plan, zone B:",
         book::outside(square(4, 1000), 0, b'B'),
+    );
+    print_answer(
+        b"year 5, before a square plan:",
+        book::outside(square(5, 1000), 0, b'B'),
     );
 }
 
@@ -243,7 +244,7 @@ fn dated(year: i64, steps: u32, winds: u32, faces: u32, zone: u8, mark: i64) -> 
     };
     let f = Faces {
         count: faces,
-        entry: [face; 24],
+        entry: [face; MOST_FACES],
     };
     Job {
         year,
@@ -263,6 +264,10 @@ fn of_year(year: i64, steps: u32) -> Job {
     dated(year, steps, 1, 1, b'A', 0)
 }
 
+fn of_faces(year: i64, faces: u32) -> Job {
+    dated(year, 1, 1, faces, b'A', 0)
+}
+
 fn print_verdict(title: &[u8], j: Job) {
     let v = job::judge::judge(j);
     print(title);
@@ -270,7 +275,7 @@ fn print_verdict(title: &[u8], j: Job) {
     print(b"\n");
 }
 
-pub(crate) fn records() {
+fn common_records() {
     print_verdict(b"a record in order:", record(1, 1, b'A', 0));
     print_verdict(
         b"a record marked for both:",
@@ -290,6 +295,9 @@ pub(crate) fn records() {
         b"point 9: mark 10000000, which no sheet carries:",
         record(1, 1, b'A', 10000000),
     );
+}
+
+fn dated_records() {
     print_verdict(b"point 19: year 0:", of_year(0, 1));
     print_verdict(b"point 30: year 1 with 17 steps:", of_year(1, 17));
     print_verdict(b"year 2 with one step:", of_year(2, 1));
@@ -299,5 +307,56 @@ pub(crate) fn records() {
     print_verdict(b"year 3:", of_year(3, 1));
     print_verdict(b"year 3 with none:", of_year(3, 0));
     print_verdict(b"year 4:", of_year(4, 1));
+    print_verdict(b"year 4 with none:", of_year(4, 0));
+    print_verdict(b"year 5:", of_year(5, 1));
     print_verdict(b"year 10000000, of 8 digits:", of_year(10000000, 1));
+}
+
+fn long_records() {
+    print_verdict(b"year 1, 25 faces:", of_faces(1, 25));
+    print_verdict(b"year 3, 25 faces:", of_faces(3, 25));
+    print_verdict(b"year 4, 25 faces:", of_faces(4, 25));
+    print_verdict(b"year 4, 240 faces:", of_faces(4, 240));
+    print_verdict(b"year 4, 241 faces:", of_faces(4, 241));
+}
+
+pub(crate) fn records() {
+    common_records();
+    dated_records();
+    long_records();
+}
+
+// The same total on each axis and each side.
+fn stored(total: Pair) -> Stored {
+    let both = Span {
+        greatest: total,
+        least: total,
+    };
+    let cell = StoredCell {
+        x: both,
+        y: both,
+        z: both,
+    };
+    Stored { cell: [cell; 32] }
+}
+
+// The report of a job of this year with one face, by stored sums of so many units.
+fn print_stored(title: &[u8], year: i64, units: i64) {
+    let mut output = [0u8; 3084];
+    let written = report::write_stored(
+        of_year(year, 1),
+        stored(pair::of_units(units)),
+        &mut output,
+    );
+    print(title);
+    print(b"\n");
+    print_text(&output, written);
+}
+
+pub(crate) fn stored_totals() {
+    print_stored(b"year 4, one unit below nothing:", 4, -1);
+    print_stored(b"year 4, one unit:", 4, 1);
+    print_stored(b"year 4, one unit below 1 N:", 4, 19_999_999_999);
+    print_stored(b"year 4, -1 N:", 4, -20_000_000_000);
+    print_stored(b"year 3, one unit below nothing:", 3, -1);
 }

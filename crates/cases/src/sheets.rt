@@ -1,5 +1,6 @@
 // Sheets from standard input: a title, the text, and `=` before the next title. A sheet holds no `=`.
-use page::Writing;
+use crate::print::print;
+use crate::print::print_text;
 ghost use Prim.Native.Nat.{_≤_};
 ghost use lib.ListN.{length};
 
@@ -19,21 +20,16 @@ fn find(s: &[u8], at: usize, b: u8) -> usize
 }
 
 fn answer(sheet: &[u8]) {
-    let mut output = [0u8; 1024];
+    let mut output = [0u8; 3084];
     let written = report::write_totals(sheet, &mut output);
-    let Writing::Length(n) = written else {
-        return;
-    };
-    if n <= 1024 {
-        io::write_all(libc::STDOUT_FILENO, &output[..n]);
-    }
+    print_text(&output, written);
 }
 
 // A title and its sheet: the title, and what comes out.
 fn show(case: &[u8]) {
     let e = find(case, 0, b'\n');
-    io::write_all(libc::STDOUT_FILENO, &case[..e]);
-    io::write_all(libc::STDOUT_FILENO, b"\n");
+    print(&case[..e]);
+    print(b"\n");
     if e < case.len() {
         let start = e + 1;
         answer(&case[start..]);
