@@ -2,11 +2,12 @@
 // worked out.
 mod ask;
 mod print;
+mod records;
 mod sheets;
 
 fn main() {
     sheets::run();
     ask::questions();
-    ask::records();
-    ask::stored_totals();
+    records::told();
+    records::stored_totals();
 }
