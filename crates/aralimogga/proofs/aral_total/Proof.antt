@@ -25,8 +25,8 @@ returns-2 c =
     let s = w .before .before in
     let a = s .args in
     let r = w .worst-in .result in
-    said₂ (λ (y z : ℤ). hostLine y (r .six) z) (r .year) (a .line) (c .line-of .ensures) (k .struct-told .given .1 .0 .1)
-    (s .fits .line .sfits)
+    let year = k .struct-told .given .1 .0 .1 in
+    said₂ (λ (y z : ℤ). hostLine y (r .six) z) (r .year) (a .line) (c .line-of .ensures) year (s .fits .line .sfits)
     ∙ total-accepted (now (a .sheet)) r (w .worst-in .ensures) (a .line) (t .if1 .left)
 
 pub aral-total-spec : {M : Type 1} → statement M
