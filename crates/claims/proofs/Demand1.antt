@@ -50,11 +50,11 @@ pub record BadGetsFirstFault : Type 0 where
   -- a job
   pub judge : GetsFault of.judge.Post (λ κ a. linesOf (carried (a .0))) (λ κ a v. v)
   pub worst-cases : GetsFault of.worst-cases.Post (λ κ a. linesOf (carried (a .0)))
-      (λ κ a v. record { verdict = v; six = noSix })
+      (λ κ a v. record { verdict = v; year = pos 0; six = noSix })
   pub write-sheet : GetsFault of.write-sheet.Post (λ κ a. linesOf (carried (a .0))) (λ κ a v. written.Refused v)
   pub write-report : GetsFault of.write-report.Post (λ κ a. linesOf (carried (a .0))) (λ κ a v. written.Refused v)
   pub worst-stored : GetsFault of.worst-stored.Post (λ κ a. linesOf (carried (a .0)))
-      (λ κ a v. record { verdict = v; six = noSix })
+      (λ κ a v. record { verdict = v; year = pos 0; six = noSix })
   pub write-stored : GetsFault of.write-stored.Post (λ κ a. linesOf (carried (a .0))) (λ κ a v. written.Refused v)
 
 -- Where there is no fault, it is accepted: number 0, line 0. What is then written and shown is said by demands 2 and
@@ -133,11 +133,11 @@ accepted-is-faultless =
       job = λ j. (fault.job-faultless j, fault.job-accepted j);
     }
 
-no-line : (six : Six) (l : ℤ) → ((n : ℕ) → 1 ≤ n → n ≤ 6 → l ≡ pos n → ⊥)
-    → hostLine six l ≡ noHostExtreme (refusal 3 0)
+no-line : (year : ℤ) (six : Six) (l : ℤ) → ((n : ℕ) → 1 ≤ n → n ≤ 6 → l ≡ pos n → ⊥)
+    → hostLine year six l ≡ noHostExtreme (refusal 3 0)
 unfolding reportLine
-no-line six (negsuc n) h = refl
-no-line six (pos n) h =
+no-line year six (negsuc n) h = refl
+no-line year six (pos n) h =
     let other : (k : ℕ) → 1 ≤ k → k ≤ 6 → eqb n k ≡ false = λ k p q. ne-eqb n k (λ e. h k p q (ap pos e)) in
     rw (other 1 (lit≤ tt) (lit≤ tt), other 2 (lit≤ tt) (lit≤ tt), other 3 (lit≤ tt) (lit≤ tt))
     (rw (other 4 (lit≤ tt) (lit≤ tt), other 5 (lit≤ tt) (lit≤ tt), other 6 (lit≤ tt) (lit≤ tt)))
@@ -145,4 +145,4 @@ no-line six (pos n) h =
 pub other-line-is-three : OtherLineIsThree
 other-line-is-three κ a r s p f h =
     let c = fault.sheet-faultless (now (a .0)) f in
-    p ∙ ap (λ x. hostTotal x (a .1 .0)) (c .1) ∙ no-line (sixExtremes (c .0)) (a .1 .0) h
+    p ∙ ap (λ x. hostTotal x (a .1 .0)) (c .1) ∙ no-line (c .0 .year) (sixExtremes (c .0)) (a .1 .0) h

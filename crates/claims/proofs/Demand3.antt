@@ -44,7 +44,7 @@ pub record ReportsWorst : Type 0 where
       → (w : Writing) × Reported c (now (a .1 .0)) (now (s .1 .0)) w × (r ≡ hostText w))
   pub aral-total : Always of.aral-total.Post (λ κ a r s. (c : Carried) → reading (now (a .0)) ≡ Accepted c
       → (axis : Axis) (side : Side) → a .1 .0 ≡ pos (lineNumber axis side)
-      → (e : Extreme) × Shows c axis side e × (r ≡ hostExtreme e))
+      → (e : Extreme) × Shows c axis side e × (r ≡ hostExtreme (c .year) e))
 
 -- What may be shown leaves no choice: a program that pretends, or invents the numbers of a case, shows something
 -- else.

@@ -182,6 +182,12 @@ step-of-determined κ a r r′ s s′ p q = same p q
 has-heights-determined : OneAnswer of.has-heights.Post
 has-heights-determined κ a r r′ s s′ p q = same p q
 
+has-long-sheds-determined : OneAnswer of.has-long-sheds.Post
+has-long-sheds-determined κ a r r′ s s′ p q = same p q
+
+face-limit-determined : OneAnswer of.face-limit.Post
+face-limit-determined κ a r r′ s s′ p q = same p q
+
 carried-face-determined : OneAnswer of.carried-face.Post
 carried-face-determined κ a r r′ s s′ p q = same p q
 
@@ -224,7 +230,10 @@ section-at-determined κ a r r′ s s′ p q = same p q
 
 limits-of-determined : OneAnswer of.limits-of.Post
 limits-of-determined κ a r r′ s s′ p q =
-    λ k. record { letter = same (p .0) (q .0) k; least = same (p .1) (q .1) k; most = same (p .2) (q .2) k }
+    λ k. record { least = same (p .0) (q .0) k; most = same (p .1) (q .1) k }
+
+section-letter-determined : OneAnswer of.section-letter.Post
+section-letter-determined κ a r r′ s s′ p q = same p q
 
 count-line-determined : OneAnswer of.count-line.Post
 count-line-determined κ a r r′ s s′ p q = same p q
@@ -255,6 +264,12 @@ line-fault-determined κ a r r′ s s′ p q = same p q
 entry-count-determined : OneAnswer of.entry-count.Post
 entry-count-determined κ a r r′ s s′ p q = same p q
 
+no-face-determined : OneAnswer of.no-face.Post
+no-face-determined κ a r r′ s s′ p q = same p q
+
+with-faces-determined : OneAnswer of.with-faces.Post
+with-faces-determined κ a r r′ s s′ p q = same p q
+
 new-face-fault-determined : OneAnswer of.new-face-fault.Post
 new-face-fault-determined κ a r r′ s s′ p q = same p q
 
@@ -265,6 +280,12 @@ judge-determined κ a r r′ s s′ p q = same p q
 
 read-sheet-determined : OneAnswer of.read-sheet.Post
 read-sheet-determined κ a r r′ s s′ p q = same p q
+
+read-into-determined : OneAnswerAndBuffer of.read-into.Post (λ κ s. now (s .1 .0))
+read-into-determined κ a r r′ s s′ p q = same-both p q
+
+verdict-of-determined : OneAnswer of.verdict-of.Post
+verdict-of-determined κ a r r′ s s′ p q = same p q
 
 -- ---- mend
 
@@ -293,6 +314,12 @@ write-sheet-determined κ a r r′ s s′ p q = same-both p q
 worst-cases-determined : OneAnswer of.worst-cases.Post
 worst-cases-determined κ a r r′ s s′ p q = same p q
 
+worst-in-determined : OneAnswer of.worst-in.Post
+worst-in-determined κ a r r′ s s′ p q = same p q
+
+all-within-determined : OneAnswer of.all-within.Post
+all-within-determined κ a r r′ s s′ p q = same p q
+
 sums-of-determined : OneAnswer of.sums-of.Post
 sums-of-determined κ a r r′ s s′ p q = same p q
 
@@ -311,6 +338,9 @@ plain-cases-determined κ a r r′ s s′ p q = same p q
 
 write-report-determined : OneAnswerAndBuffer of.write-report.Post (λ κ s. now (s .1 .0))
 write-report-determined κ a r r′ s s′ p q = same-both p q
+
+write-read-determined : OneAnswerAndBuffer of.write-read.Post (λ κ s. now (s .1 .0))
+write-read-determined κ a r r′ s s′ p q = same-both p q
 
 write-stored-determined : OneAnswerAndBuffer of.write-stored.Post (λ κ s. now (s .1 .1 .0))
 write-stored-determined κ a r r′ s s′ p q = same-both p q
@@ -456,6 +486,12 @@ aral-panel-determined κ a r r′ s s′ p q = same p q
 
 aral-chart-determined : OneAnswer of.aral-chart.Post
 aral-chart-determined κ a r r′ s s′ p q = same p q
+
+aral-panel-newtons-determined : OneAnswer of.aral-panel-newtons.Post
+aral-panel-newtons-determined κ a r r′ s s′ p q = same p q
+
+aral-chart-newtons-determined : OneAnswer of.aral-chart-newtons.Post
+aral-chart-newtons-determined κ a r r′ s s′ p q = same p q
 
 -- ---- unkept
 

@@ -50,9 +50,9 @@ FormOfYear3 = (c : Carried) → c .year ≡ pos 3
 
 pub totals-are-pairs : TotalsArePairs
 totals-are-pairs total = (
-      record { same = units-pairOf total; rest = remainder-small total },
-      λ p h. sym (pairOf-units p (lt-ltb (p .remainder) newton (h .rest))) ∙ ap pairOf (h .same),
-    )
+  record { same = units-pairOf total; rest = remainder-small total },
+  λ p h. sym (pairOf-units p (lt-ltb (p .remainder) newton (h .rest))) ∙ ap pairOf (h .same),
+)
 
 pub prints-by-year : PrintsByYear
 prints-by-year year p =

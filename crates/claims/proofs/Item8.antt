@@ -10,6 +10,7 @@ use native.Mathlib.Omega.{arith}
 use borrow.Author.Tests.{eq-eqb, eqb-true, le-leb, lt-leb}
 use lib.Dec.{leb}
 use lib.ListN.{length}
+use lib.IntN.{pos}
 use Rattle.whole.proofs.Tests.{or-true}
 use Rattle.verdict.specs.declared.Verdict.{Verdict}
 use Rattle.verdict.specs.Verdict.{accepted, refusal}
@@ -55,9 +56,9 @@ pub record TakesFew : Type 0 where
       → r .verdict ≡ accepted)
   -- "Refusals: more such faces 10, line 0, after the job's own": and there is no other result then
   pub own : GetsFault of.plain-cases.Post (λ κ a. linesOf (carried (a .0)))
-      (λ κ a v. record { verdict = v; six = noSix })
+      (λ κ a v. record { verdict = v; year = pos 0; six = noSix })
   pub more : Always of.plain-cases.Post (λ κ a r s. Faultless (linesOf (carried (a .0))) → 8 < withTwo (a .0)
-      → r ≡ record { verdict = refusal 10 0; six = noSix })
+      → r ≡ record { verdict = refusal 10 0; year = pos 0; six = noSix })
 
 -- a face is counted exactly if it "has two alternatives under at least one of" the winds
 pub record CountsTwo : Type 0 where

@@ -1,7 +1,7 @@
 -- Item 9 of paper 02: newton columns that add up.
 use mathlib.Core.Path.{_≡_, refl, sym, ap, subst, _∙_}
 use mathlib.Core.List.{List}
-use Prim.Native.Nat.{min, _≤_, _<_}
+use Prim.Native.Nat.{min, _≤_, _<_, _+_}
 use denote.Ref.{now}
 use native.Mathlib.Omega.{arith}
 use borrow.Author.Tests.{le-leb, lt-leb}
@@ -13,7 +13,8 @@ use Rattle.verdict.specs.Verdict.{accepted, refusal, Refuses}
 use Rattle.page.specs.Writing.{bufferAfter}
 use Rattle.field.specs.declared.Field.{Field}
 use Rattle.entry.specs.declared.Face.{Face}
-use Rattle.job.specs.Carried.{Carried}
+use Rattle.job.proofs.Room.{limit-roomed}
+use Rattle.job.specs.Carried.{Carried, mostFaces}
 use Rattle.job.specs.InOrder.{InOrder}
 use Rattle.job.specs.Lines.{linesOf}
 use Rattle.job.specs.Walk.{Accepted, Refused}
@@ -110,14 +111,14 @@ module _ (g : Setting) (faces : List Face) (c : Carried) (e : judgedWith g faces
       let a = judged-listed g faces ∙ e in
       let is = judged-carried j c a in
       let t : Taken j = record { order = subst InOrder is o; accepted = a ∙ ap Accepted is } in
-      let n : length (c .faces) ≡ min (length faces) 25 = ap (λ d. length (d .faces)) is ∙ faces-counted j t in
-      omega (arith, n, o .faces-counted .high)
+      let n : length (c .faces) ≡ min (length faces) (mostFaces + 1) = ap (λ d. length (d .faces)) is ∙ faces-counted j t in
+      omega (arith, n, o .faces-counted .high, limit-roomed (c .year))
 
   module _ (axis : Axis) (side : Side) (line : ℤ) (is : line ≡ pos (lineNumber axis side)) where
-    shown-is : hostTotal (judgedWith g faces) line ≡ hostExtreme (extreme axis side c)
+    shown-is : hostTotal (judgedWith g faces) line ≡ hostExtreme (c .year) (extreme axis side c)
     shown-is =
-        ap (λ r. hostTotal r line) e ∙ ap (hostLine (sixExtremes c)) is ∙ line-is (sixExtremes c) axis side
-        ∙ ap hostExtreme (one-is c axis side)
+        ap (λ r. hostTotal r line) e ∙ ap (hostLine (c .year) (sixExtremes c)) is
+        ∙ line-is (c .year) (sixExtremes c) axis side ∙ ap (hostExtreme (c .year)) (one-is c axis side)
 
     forces-are : forcesOn line (judgedWith g faces) ≡ fs c o axis side
     forces-are =
@@ -157,11 +158,11 @@ module _ (g : Setting) (faces : List Face) where
   unfolding judgedWith
   faultless f = fault.lines-faultless (linesOf (carriedWith g faces)) f
 
-no-line : (six : Six) (line : ℤ) → ((axis : Axis) (side : Side) → line ≡ pos (lineNumber axis side) → ⊥)
-    → hostLine six line .verdict ≡ refusal 3 0
-no-line six line n = go (line-told six line)
+no-line : (year : ℤ) (six : Six) (line : ℤ) → ((axis : Axis) (side : Side) → line ≡ pos (lineNumber axis side) → ⊥)
+    → hostLine year six line .verdict ≡ refusal 3 0
+no-line year six line n = go (line-told year six line)
   where
-    go : {e : host.Extreme} → Told six line e → e .verdict ≡ refusal 3 0
+    go : {e : host.Extreme} → Told year six line e → e .verdict ≡ refusal 3 0
     go (one axis side is) = absurd (n axis side is)
     go none = refl
 
@@ -175,7 +176,7 @@ refuses-in-order =
       line = λ κ a r s p f n.
           let e = faultless (a .0) (now (a .1 .0)) f in
           let three =
-          ap (λ x. hostTotal x (a .1 .1 .0) .verdict) (e .1) ∙ no-line (sixExtremes (e .0)) (a .1 .1 .0) n in
+          ap (λ x. hostTotal x (a .1 .1 .0) .verdict) (e .1) ∙ no-line (e .0 .year) (sixExtremes (e .0)) (a .1 .1 .0) n in
           p .0 ∙ sym (refused _ (a .1 .1 .0) (now (a .1 .1 .1 .0)) (refusal 3 0) (sym three) (λ z. omega
           (arith, z)) .0);
       room = λ κ a r s p f axis side is short.

@@ -161,6 +161,12 @@ step-of-asks κ a = tt
 has-heights-asks : AsksNothing of.has-heights.Asked
 has-heights-asks κ a = tt
 
+has-long-sheds-asks : AsksNothing of.has-long-sheds.Asked
+has-long-sheds-asks κ a = tt
+
+face-limit-asks : AsksNothing of.face-limit.Asked
+face-limit-asks κ a = tt
+
 carried-face-asks : AsksNothing of.carried-face.Asked
 carried-face-asks κ a = tt
 
@@ -204,6 +210,9 @@ section-at-asks κ a = tt
 limits-of-asks : AsksNothing of.limits-of.Asked
 limits-of-asks κ a = tt
 
+section-letter-asks : AsksNothing of.section-letter.Asked
+section-letter-asks κ a = tt
+
 count-line-asks : AsksNothing of.count-line.Asked
 count-line-asks κ a = tt
 
@@ -233,6 +242,12 @@ line-fault-asks κ a = tt
 entry-count-asks : AsksNothing of.entry-count.Asked
 entry-count-asks κ a = tt
 
+no-face-asks : AsksNothing of.no-face.Asked
+no-face-asks κ a = tt
+
+with-faces-asks : AsksNothing of.with-faces.Asked
+with-faces-asks κ a = tt
+
 new-face-fault-asks : AsksNothing of.new-face-fault.Asked
 new-face-fault-asks κ a = tt
 
@@ -243,6 +258,12 @@ judge-asks κ a = tt
 
 read-sheet-asks : AsksNothing of.read-sheet.Asked
 read-sheet-asks κ a = tt
+
+read-into-asks : AsksNothing of.read-into.Asked
+read-into-asks κ a = tt
+
+verdict-of-asks : AsksNothing of.verdict-of.Asked
+verdict-of-asks κ a = tt
 
 -- ---- mend
 
@@ -270,6 +291,12 @@ write-sheet-asks κ a = tt
 worst-cases-asks : AsksNothing of.worst-cases.Asked
 worst-cases-asks κ a = tt
 
+worst-in-asks : AsksNothing of.worst-in.Asked
+worst-in-asks κ a = tt
+
+all-within-asks : AsksNothing of.all-within.Asked
+all-within-asks κ a = tt
+
 sums-of-asks : AsksNothing of.sums-of.Asked
 sums-of-asks κ a = tt
 
@@ -288,6 +315,9 @@ plain-cases-asks κ a = tt
 
 write-report-asks : AsksNothing of.write-report.Asked
 write-report-asks κ a = tt
+
+write-read-asks : AsksNothing of.write-read.Asked
+write-read-asks κ a = tt
 
 write-stored-asks : AsksNothing of.write-stored.Asked
 write-stored-asks κ a = tt
@@ -432,6 +462,12 @@ aral-panel-asks κ a = tt
 
 aral-chart-asks : AsksNothing of.aral-chart.Asked
 aral-chart-asks κ a = tt
+
+aral-panel-newtons-asks : AsksNothing of.aral-panel-newtons.Asked
+aral-panel-newtons-asks κ a = tt
+
+aral-chart-newtons-asks : AsksNothing of.aral-chart-newtons.Asked
+aral-chart-newtons-asks κ a = tt
 
 -- ---- unkept
 

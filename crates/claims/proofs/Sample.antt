@@ -3,7 +3,7 @@
 use Prim.Native.String.{String, _++_ as _&_}
 use mathlib.Core.Path.{_≡_, refl}
 use Rattle.whole.proofs.Quoted.{bytes}
-use Rattle.whole.specs.Round.{halfUp, roundAway}
+use Rattle.whole.specs.Round.{halfUp, roundAway, roundDown, leftOver}
 use Rattle.whole.specs.Digits.{digitsWithin, digits, decimal, allDigits, valueAfter, value}
 use Rattle.field.specs.Field.{digitsInForm, unsigned, negative, numeral, fieldFrom}
 use Rattle.lines.specs.Lines.{split, fieldsOf, linesFrom, linesIn}
@@ -29,7 +29,7 @@ use Rattle.whole.specs.Lists.{numbers}
 use Rattle.worst.specs.Cases.{each, choices, total, cases, caseTotal, worst}
 use Rattle.worst.specs.Shown.{padded, shown}
 use Rattle.worst.specs.Worst.{sixExtremes}
-use Rattle.report.specs.Lines.{spaced, extremeText, axisText, sixText}
+use Rattle.report.specs.Lines.{spaced, totalText, extremeText, axisText, sixText}
 use Rattle.report.specs.Report.{reportText, totalsText}
 
 abbrev sheet : String
@@ -45,10 +45,10 @@ lines =
     & "z min -200000000000000 1 2 1 1 1\n"
 
 pub sample : totalsText (reading (bytes sheet)) ≡ bytes lines
-unfolding divisorUpTo commonDivisor halfUp roundAway digitsWithin digits decimal allDigits valueAfter value
+unfolding divisorUpTo commonDivisor roundDown leftOver halfUp roundAway digitsWithin digits decimal allDigits valueAfter value
     digitsInForm unsigned negative numeral fieldFrom split fieldsOf linesFrom linesIn wayIn onStraight wallRow blockOf
     outOfRoof roofOf roofWay givenFault buildingFault outOfForm outOfRange outOfWalls tooLong zoneOn localOn knows
     placeOn wallColumn gableColumn singleColumn flatColumn roofColumn twoSigns coefficientOf outsideOf askedOf beyond
     hasForm inForm lineFault walk readLines reading better best numbers each choices total cases caseTotal worst
-    padded shown sixExtremes spaced extremeText axisText sixText reportText factorAt speedAt
+    padded shown sixExtremes spaced totalText extremeText axisText sixText reportText factorAt speedAt
 sample = refl

@@ -134,8 +134,8 @@ six-unique c h k =
 pub reported-unique : (c : Carried) (before : List ℕ) {after after′ : List ℕ} {w w′ : Writing}
     → Reported c before after w → Reported c before after′ w′ → (w ≡ w′) × (after ≡ after′)
 reported-unique c before {after′ = after′} {w′ = w′} h k =
-    written-unique (sixText (h .six)) before (h .written)
-    (subst (λ (six : Six). Written (sixText six) before after′ w′) (six-unique c (k .shows) (h .shows)) (k .written))
+    written-unique (sixText (c .year) (h .six)) before (h .written)
+    (subst (λ (six : Six). Written (sixText (c .year) six) before after′ w′) (six-unique c (k .shows) (h .shows)) (k .written))
 
 -- ---- two jobs
 

@@ -9,7 +9,7 @@ use lib.IntN.{ℤ, pos, negℤ}
 use lib.Signed.{_≤ℤ_, leZ-yes, ltZ-yes}
 use Rattle.whole.specs.Lists.{Every, numbers}
 use Rattle.whole.proofs.Quoted.{bytes}
-use Rattle.whole.specs.Round.{halfUp, roundAway}
+use Rattle.whole.specs.Round.{halfUp, roundAway, roundDown, leftOver}
 use Rattle.whole.specs.Digits.{allDigits, valueAfter, value}
 use Rattle.whole.specs.Lowest.{divisorUpTo, commonDivisor}
 use Rattle.field.specs.Field.{digitsInForm, unsigned, negative, numeral, fieldFrom}
@@ -116,7 +116,7 @@ rows =
     ∷ []
 
 pub rows-hold : Every Holds rows
-unfolding divisorUpTo commonDivisor halfUp roundAway allDigits valueAfter value digitsInForm unsigned negative numeral
+unfolding divisorUpTo commonDivisor roundDown leftOver halfUp roundAway allDigits valueAfter value digitsInForm unsigned negative numeral
     fieldFrom split fieldsOf linesFrom linesIn wayIn onStraight wallRow blockOf outOfRoof roofOf roofWay givenFault
     buildingFault outOfForm outOfRange outOfWalls tooLong zoneOn localOn wallColumn gableColumn flatColumn
     coefficientOf outsideOf askedOf beyond hasForm inForm lineFault walk readLines reading better best numbers each

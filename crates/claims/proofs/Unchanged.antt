@@ -2,17 +2,19 @@
 -- buffer."
 use mathlib.Core.Path.{_≡_, refl, ap, subst, _∙_}
 use mathlib.Core.Bool.{Bool, true, false, cond}
-use mathlib.Core.List.{List, _++_}
-use Prim.Native.Nat.{ℕ}
+use mathlib.Core.List.{List, [], _∷_, _++_}
+use Prim.Native.Nat.{ℕ, zero, suc}
 use denote.Ref.{now}
 use lib.Dec.{leb, eqb}
-use lib.IntN.{ℤ}
-use lib.ListN.{length, take, drop}
-use Rattle.claims.specs.Contract.{RefusedUnchanged, IsRefused}
+use lib.IntN.{ℤ, pos}
+use lib.ListN.{length, take, drop, replicate}
+use Rattle.claims.specs.Contract.{RefusedUnchanged, RefusedCleared, IsRefused}
 use Rattle.claims.proofs.Contracts as of
 use Rattle.verdict.specs.declared.Verdict.{Verdict}
 use Rattle.verdict.specs.Verdict.{accepted, refusal, Refuses}
+use Rattle.whole.specs.Lists.{firstOf}
 use Rattle.whole.proofs.Tests.{by-test}
+use Rattle.entry.specs.Flat.{flat}
 use Rattle.page.specs.declared.Writing.{Writing}
 use Rattle.page.specs.declared.Writing.the-variants as written
 use Rattle.page.specs.Writing.{writing, bufferAfter}
@@ -22,6 +24,9 @@ use Rattle.whole.specs.Digits.{decimal}
 use Rattle.job.specs.Carried.{Carried}
 use Rattle.job.specs.Walk.{Reading, Accepted, Refused, judged}
 use Rattle.sheet.specs.Sheet.{reading, sheetText, jobWriting, jobBuffer}
+use Rattle.sheet.specs.declared.read.Head.{Head}
+use Rattle.sheet.specs.Head.{flatAfter}
+use Rattle.sheet.proofs.Answered.{head-verdict, told-refused}
 use Rattle.mend.specs.declared.Mending.{Mending}
 use Rattle.mend.specs.Mending.{roomFor, hasRoom, mendingOf, textAfter, listAfter}
 use Rattle.plain.specs.Plain.{plainly}
@@ -31,6 +36,12 @@ use Rattle.answers.specs.Answers.{hostText, hostTotal}
 use Rattle.job.specs.Setting.{recordWith}
 use Rattle.column.specs.Setting.{judgedWith}
 use Rattle.column.specs.Column.{forcesOn, columnVerdict, columnAfter}
+
+-- nothing but zeros
+flat-none : (n : ℕ) → firstOf (pos 0) n (flat []) ≡ replicate n (pos 0)
+unfolding flat firstOf
+flat-none zero = refl
+flat-none (suc n) = ap (λ l. pos 0 ∷ l) (flat-none n)
 
 -- ---- whatever text is put into a buffer, and whatever text about a job
 
@@ -123,9 +134,22 @@ write-sheet-unchanged : RefusedUnchanged of.write-sheet.Post (λ κ r. IsRefused
     (λ κ s. now (s .1 .0))
 write-sheet-unchanged κ a r s p h = job-kept sheetText (judged (a .0)) (now (a .1 .0)) p h
 
+-- the numbers of the faces are lent to the reader by the engine, never by a host
+read-into-cleared : RefusedCleared of.read-into.Post (λ κ r. Refuses (r .verdict)) (λ κ a. now (a .1 .0))
+    (λ κ s. now (s .1 .0))
+read-into-cleared κ a r s p h =
+    let v = ap (λ (x : Head). x .verdict) (p .0) ∙ head-verdict (reading (now (a .0))) in
+    p .1
+    ∙ ap (λ x. flatAfter x (now (a .1 .0))) (told-refused (now (a .0)) (r .verdict) v h)
+    ∙ flat-none (length (now (a .1 .0)))
+
 write-report-unchanged : RefusedUnchanged of.write-report.Post (λ κ r. IsRefused r) (λ κ a. now (a .1 .0))
     (λ κ s. now (s .1 .0))
 write-report-unchanged κ a r s p h = job-kept reportText (judged (a .0)) (now (a .1 .0)) p h
+
+write-read-unchanged : RefusedUnchanged of.write-read.Post (λ κ r. IsRefused r) (λ κ a. now (a .1 .0))
+    (λ κ s. now (s .1 .0))
+write-read-unchanged κ a r s p h = job-kept reportText (reading (now (a .0))) (now (a .1 .0)) p h
 
 write-plain-unchanged : RefusedUnchanged of.write-plain.Post (λ κ r. IsRefused r) (λ κ a. now (a .1 .0))
     (λ κ s. now (s .1 .0))

@@ -1,6 +1,9 @@
 -- What is asked of a contract: that it asks nothing of its caller, that it leaves no choice, that a refused call
 -- changes nothing, and what whatever it allows must be.
 use mathlib.Core.Path.{_≡_}
+use mathlib.Core.List.{List}
+use lib.IntN.{ℤ, pos}
+use lib.ListN.{length, replicate}
 use Rattle.page.specs.declared.Writing.{Writing}
 use Rattle.page.specs.declared.Writing.the-variants.{Length, Refused}
 
@@ -35,6 +38,11 @@ module _ {L : Type 0} {A R S : L → Type 0} (Post : (κ : L) → A κ → R κ 
   abbrev pub RefusedUnchanged : {B : Type 0} → ((κ : L) → R κ → Type 0) → ((κ : L) → A κ → B) → ((κ : L) → S κ → B)
       → Type 0
   RefusedUnchanged refused before after = Always (λ κ a r s. refused κ r → after κ s ≡ before κ a)
+
+  -- a list that is lent for the work alone, which a refused call leaves all zero
+  abbrev pub RefusedCleared : ((κ : L) → R κ → Type 0) → ((κ : L) → A κ → List ℤ) → ((κ : L) → S κ → List ℤ) → Type 0
+  RefusedCleared refused before after =
+      Always (λ κ a r s. refused κ r → after κ s ≡ replicate (length (before κ a)) (pos 0))
 
 abbrev pub IsRefused : Writing → Type 0
 IsRefused (Length n) = ⊥
