@@ -111,7 +111,8 @@ module _ (g : Setting) (faces : List Face) (c : Carried) (e : judgedWith g faces
       let a = judged-listed g faces ∙ e in
       let is = judged-carried j c a in
       let t : Taken j = record { order = subst InOrder is o; accepted = a ∙ ap Accepted is } in
-      let n : length (c .faces) ≡ min (length faces) (mostFaces + 1) = ap (λ d. length (d .faces)) is ∙ faces-counted j t in
+      let n : length (c .faces) ≡ min (length faces) (mostFaces + 1) =
+      ap (λ d. length (d .faces)) is ∙ faces-counted j t in
       omega (arith, n, o .faces-counted .high, limit-roomed (c .year))
 
   module _ (axis : Axis) (side : Side) (line : ℤ) (is : line ≡ pos (lineNumber axis side)) where
@@ -176,7 +177,8 @@ refuses-in-order =
       line = λ κ a r s p f n.
           let e = faultless (a .0) (now (a .1 .0)) f in
           let three =
-          ap (λ x. hostTotal x (a .1 .1 .0) .verdict) (e .1) ∙ no-line (e .0 .year) (sixExtremes (e .0)) (a .1 .1 .0) n in
+          ap (λ x. hostTotal x (a .1 .1 .0) .verdict) (e .1)
+          ∙ no-line (e .0 .year) (sixExtremes (e .0)) (a .1 .1 .0) n in
           p .0 ∙ sym (refused _ (a .1 .1 .0) (now (a .1 .1 .1 .0)) (refusal 3 0) (sym three) (λ z. omega
           (arith, z)) .0);
       room = λ κ a r s p f axis side is short.

@@ -45,7 +45,8 @@ lines =
     & "z min -200000000000000 1 2 1 1 1\n"
 
 pub sample : totalsText (reading (bytes sheet)) ≡ bytes lines
-unfolding divisorUpTo commonDivisor roundDown leftOver halfUp roundAway digitsWithin digits decimal allDigits valueAfter value
+unfolding divisorUpTo commonDivisor roundDown leftOver halfUp roundAway digitsWithin digits decimal allDigits
+    valueAfter value
     digitsInForm unsigned negative numeral fieldFrom split fieldsOf linesFrom linesIn wayIn onStraight wallRow blockOf
     outOfRoof roofOf roofWay givenFault buildingFault outOfForm outOfRange outOfWalls tooLong zoneOn localOn knows
     placeOn wallColumn gableColumn singleColumn flatColumn roofColumn twoSigns coefficientOf outsideOf askedOf beyond

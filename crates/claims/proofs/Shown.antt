@@ -85,7 +85,8 @@ module _ (c : Carried) (axis : Axis) (side : Side) where
       let proper : (x : Extreme) → x .total .remainder < newton → pairOf (totalIn x) ≡ x .total =
       λ x t. pairOf-units (x .total) (lt-ltb (x .total .remainder) newton t) in
       let total = sym (proper e (h .remainder)) ∙ ap pairOf (u .0) ∙ proper e′ (k .remainder) in
-      let alternative = h .alternative ∙ ap (λ (x : Case ℕ ℕ ℕ). padded mostFaces (x .chosen)) same ∙ sym (k .alternative) in
+      let alternative =
+      h .alternative ∙ ap (λ (x : Case ℕ ℕ ℕ). padded mostFaces (x .chosen)) same ∙ sym (k .alternative) in
       λ i.
       record {
         total = total i;
@@ -135,7 +136,8 @@ pub reported-unique : (c : Carried) (before : List ℕ) {after after′ : List �
     → Reported c before after w → Reported c before after′ w′ → (w ≡ w′) × (after ≡ after′)
 reported-unique c before {after′ = after′} {w′ = w′} h k =
     written-unique (sixText (c .year) (h .six)) before (h .written)
-    (subst (λ (six : Six). Written (sixText (c .year) six) before after′ w′) (six-unique c (k .shows) (h .shows)) (k .written))
+    (subst (λ (six : Six). Written (sixText (c .year) six) before after′ w′)
+    (six-unique c (k .shows) (h .shows)) (k .written))
 
 -- ---- two jobs
 

@@ -116,8 +116,9 @@ rows =
     ∷ []
 
 pub rows-hold : Every Holds rows
-unfolding divisorUpTo commonDivisor roundDown leftOver halfUp roundAway allDigits valueAfter value digitsInForm unsigned negative numeral
-    fieldFrom split fieldsOf linesFrom linesIn wayIn onStraight wallRow blockOf outOfRoof roofOf roofWay givenFault
+unfolding divisorUpTo commonDivisor roundDown leftOver halfUp roundAway allDigits valueAfter value digitsInForm unsigned
+    negative numeral fieldFrom split fieldsOf
+    linesFrom linesIn wayIn onStraight wallRow blockOf outOfRoof roofOf roofWay givenFault
     buildingFault outOfForm outOfRange outOfWalls tooLong zoneOn localOn wallColumn gableColumn flatColumn
     coefficientOf outsideOf askedOf beyond hasForm inForm lineFault walk readLines reading better best numbers each
     choices total cases caseTotal worst padded shown factorAt speedAt knows placeOn singleColumn roofColumn twoSigns

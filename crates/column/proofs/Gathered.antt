@@ -34,7 +34,8 @@ one-more l f = by-test (ltb (length l) mostFaces) (λ t. room (ltb-true _ _ t)) 
 
     none : mostFaces ≤ length l → withOne (listed l) f ≡ listed (l ++ (f ∷ []))
     none h =
-        let e : min (length (l ++ (f ∷ []))) (mostFaces + 1) ≡ mostFaces + 1 = omega (arith, length-append l (f ∷ [])) in
+        let e : min (length (l ++ (f ∷ []))) (mostFaces + 1) ≡ mostFaces + 1 =
+        omega (arith, length-append l (f ∷ [])) in
         let c : mostFaces ≤ min (length l) (mostFaces + 1) = omega arith in
         rw (le-ltb (min (length l) (mostFaces + 1)) mostFaces c, e, firstOf-enough noFace mostFaces l (f ∷ []) h)
 
@@ -67,8 +68,8 @@ module _ (fs : List Face) where
           ap (λ k. listed (firstOf noFace k fs)) e
           ∙ (λ i. record { count = n i; entry = firstOf-fewer noFace mostFaces (mostFaces + 1) fs (omega arith) i })
 
-  pub all : (s : Faces) (i : ℕ) → i ≤ min (length fs) (mostFaces + 1) → min (length fs) (mostFaces + 1) ≤ i → s ≡ listed (firstOf noFace i fs)
-      → s ≡ listed fs
+  pub all : (s : Faces) (i : ℕ) → i ≤ min (length fs) (mostFaces + 1) → min (length fs) (mostFaces + 1) ≤ i
+      → s ≡ listed (firstOf noFace i fs) → s ≡ listed fs
   all s i h k e =
       let d : i ≡ min (length fs) (mostFaces + 1) = omega arith in
       e ∙ ap (λ (j : ℕ). listed (firstOf noFace j fs)) d ∙ telling

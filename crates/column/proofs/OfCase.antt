@@ -68,7 +68,8 @@ module _ (c : Carried) (o : InOrder c) (axis : Axis) (side : Side) where
       (λ k.
       let x = named k in
       atChoice (force axis g (windAt g (x .wind)) (internalAt g (x .internal))) (g .faces) (x .alternative))
-      ∙ choice-past (force axis g u n) (g .faces) (case .chosen) (replicate (mostFaces - length (case .chosen)) 0) all-chosen
+      ∙ choice-past (force axis g u n) (g .faces) (case .chosen)
+      (replicate (mostFaces - length (case .chosen)) 0) all-chosen
 
   -- they add up to the total that is shown
   pub own-total : addedUp own ≡ totalIn e

@@ -123,7 +123,8 @@ module _ (j : Job) (t : Taken j) (axis : Axis) (side : Side) where
         (arith, all-chosen)) ∙ faces-counted j t)
         in
         ap (take count) (h ∙ ap (firstOf (pos 0) mostFaces) handed-own)
-        ∙ sym (firstOf-take (pos 0) count (firstOf (pos 0) mostFaces own) (omega (arith, few, firstOf-length (pos 0) mostFaces own)))
+        ∙ sym (firstOf-take (pos 0) count (firstOf (pos 0) mostFaces own)
+        (omega (arith, few, firstOf-length (pos 0) mostFaces own)))
         ∙ firstOf-fewer (pos 0) count mostFaces own few
         ∙ ap (λ m. firstOf (pos 0) m own) long
         ∙ firstOf-all (pos 0) own
@@ -133,8 +134,9 @@ module _ (j : Job) (t : Taken j) (axis : Axis) (side : Side) where
 
 module _ (j : Job) (t : Taken j) (line : ℤ) where
   -- of the forces of its cell one for each face
-  by-told : (x : host.Extreme) → Told (carried j .year) (sixExtremes (carried j)) line x → x .verdict .number ≡ 0 → (l : List ℤ)
-      → (forces : CellForces) → forces ≡ forcesIn (x .wind) (x .internal) (judged j)
+  by-told : (x : host.Extreme) → Told (carried j .year) (sixExtremes (carried j)) line x
+      → x .verdict .number ≡ 0 → (l : List ℤ) → (forces : CellForces)
+      → forces ≡ forcesIn (x .wind) (x .internal) (judged j)
       → l ≡ firstOf (pos 0) mostFaces
       (atChoice (forceIn (axisOf line)) (rows (j .faces .count) forces) (firstOf 0 (j .faces .count) (x .alternative)))
       → take (j .faces .count) l ≡ forcesShown (axisOf line) (given (carried j)) x
@@ -150,15 +152,16 @@ module _ (j : Job) (t : Taken j) (line : ℤ) where
       (λ forces is h. handed-shown j t axis side forces is l h)
   by-told x none z l = absurd (omega (arith, z))
 
-  pub line-forces : (x : host.Extreme) → x ≡ hostLine (carried j .year) (sixExtremes (carried j)) line → x .verdict .number ≡ 0
-      → (l : List ℤ)
-      → (forces : CellForces) → forces ≡ forcesIn (x .wind) (x .internal) (judged j)
+  pub line-forces : (x : host.Extreme) → x ≡ hostLine (carried j .year) (sixExtremes (carried j)) line
+      → x .verdict .number ≡ 0 → (l : List ℤ)
+      → (forces : CellForces)
+      → forces ≡ forcesIn (x .wind) (x .internal) (judged j)
       → l ≡ firstOf (pos 0) mostFaces
       (atChoice (forceIn (axisOf line)) (rows (j .faces .count) forces) (firstOf 0 (j .faces .count) (x .alternative)))
       → take (j .faces .count) l ≡ forcesOn line (judged j)
   line-forces x told z l forces is h =
-      by-told x (subst (Told (carried j .year) (sixExtremes (carried j)) line) (sym told) (line-told (carried j .year) (sixExtremes
-      (carried j)) line)) z l forces
+      by-told x (subst (Told (carried j .year) (sixExtremes (carried j)) line) (sym told)
+      (line-told (carried j .year) (sixExtremes (carried j)) line)) z l forces
       is h
       ∙ ap (forcesShown (axisOf line) (given (carried j))) told
       ∙ ap (forcesOn line) (sym (t .accepted))

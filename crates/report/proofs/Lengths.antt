@@ -190,7 +190,8 @@ module _ (c : Carried) (o : InOrder c) where
         let h = stored-shows axis s c o told in
         let n = mostNewtons (c .year) in
         let small =
-        side-small n _ (within-at n (told .cell) (telling-within c o t) (4 * (h .case .wind - 1) + (h .case .internal - 1)))
+        side-small n _
+        (within-at n (told .cell) (telling-within c o t) (4 * (h .case .wind - 1) + (h .case .internal - 1)))
         axis s in
         subst Prints (sym (h .named)) (shown-prints axis _ (h .case) (h .permitted) small)
 

@@ -61,8 +61,10 @@ module _ (n : ℕ) where
       by axis s (x .0) (y .0) (y .1)
     where
       of-span : (p : Span) → spanWithin n p ≡ true → (s : Side) → natAbs (spanSide s p) ≤ n * newton
-      of-span p e Greatest = within-small n (p .greatest) (and-true (withinNewtons n (p .greatest)) (withinNewtons n (p .least)) e .0)
-      of-span p e Least = within-small n (p .least) (and-true (withinNewtons n (p .greatest)) (withinNewtons n (p .least)) e .1)
+      of-span p e Greatest =
+          within-small n (p .greatest) (and-true (withinNewtons n (p .greatest)) (withinNewtons n (p .least)) e .0)
+      of-span p e Least =
+          within-small n (p .least) (and-true (withinNewtons n (p .greatest)) (withinNewtons n (p .least)) e .1)
 
       by : (axis : Axis) (s : Side) → spanWithin n (t .x) ≡ true → spanWithin n (t .y) ≡ true
           → spanWithin n (t .z) ≡ true → natAbs (spanSide s (spanOn axis t)) ≤ n * newton

@@ -94,7 +94,8 @@ share-case-requires : tie.Need-share-case-requires
 share-case-requires c κs =
     let d = c .before .before .before in (
       taken (w d) (passed d),
-      shown d ∙ ap (hostLine (carried (j (w d)) .year) (sixExtremes (carried (j (w d))))) (sym (toZ-ofZ w64 (line d) (s (w d) .fits .line))),
+      shown d ∙ ap (hostLine (carried (j (w d)) .year) (sixExtremes (carried (j (w d)))))
+          (sym (toZ-ofZ w64 (line d) (s (w d) .fits .line))),
       c .before .if2 .left,
     )
 

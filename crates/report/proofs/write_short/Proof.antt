@@ -32,7 +32,8 @@ returns c =
     let w = a .args .w in
     let pr = a .pre .0 in
     let most = six-most (w .year) (facesOf (w .six)) (w .six) (pr .all) in
-    emitted (rw (read t) at (p .put-six .ensures)) (omega (arith, most, a .pre .1)) (now (a .args .buf)) (e .emit .ensures)
+    emitted (rw (read t) at (p .put-six .ensures)) (omega (arith, most, a .pre .1))
+    (now (a .args .buf)) (e .emit .ensures)
 
 pub write-short-spec : {M : Type 1} → statement M
 write-short-spec =

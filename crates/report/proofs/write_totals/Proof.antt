@@ -45,7 +45,8 @@ returns-2 c =
     six-written reckoned reportText (λ v. refl) (λ d. refl) (λ d. refl) (reading (now (a .s)))
     (reading-sound (now (a .s))) b in
     let w = r .worst-in .ensures in
-    let e = reckoned-accepted (reading (now (a .s))) (reading-sound (now (a .s))) (r .worst-in .result) w (t .if1 .left) in (
+    let e = reckoned-accepted (reading (now (a .s))) (reading-sound (now (a .s)))
+    (r .worst-in .result) w (t .if1 .left) in (
       s .write-six .ensures .0 ∙ ap (λ (v : Reckoning). sixWriting v b) w ∙ is .0
           ∙ ap (λ (x : Reading). jobWriting reportText x b) (e .1)
           ∙ sym (ap (λ (x : Reading). writing (totalsText x) b) (e .1)),

@@ -114,8 +114,10 @@ module _ {M : Type 1} (𝓤 : URA M) (H : Heap 𝓤) (A : Atoms 𝓤) (mem : Mem
   none-said r = exE 𝓤 _ (λ ws. snd∗ 𝓤 (sem 𝓤 H A (lasts none.ended tt tt ws)) (fact 𝓤 (r ≡ noFaces)))
 
   telling-said : (m r : ℕ)
-      → ent 𝓤 (ensured 𝓤 H A telling.ended (telling.clauses 𝓤 H A mem run) tt (m, tt) tt r) (fact 𝓤 (r ≡ min m (mostFaces + 1)))
-  telling-said m r = exE 𝓤 _ (λ ws. snd∗ 𝓤 (sem 𝓤 H A (lasts telling.ended tt (m, tt) ws)) (fact 𝓤 (r ≡ min m (mostFaces + 1))))
+      → ent 𝓤 (ensured 𝓤 H A telling.ended (telling.clauses 𝓤 H A mem run) tt (m, tt) tt r)
+      (fact 𝓤 (r ≡ min m (mostFaces + 1)))
+  telling-said m r = exE 𝓤 _
+      (λ ws. snd∗ 𝓤 (sem 𝓤 H A (lasts telling.ended tt (m, tt) ws)) (fact 𝓤 (r ≡ min m (mostFaces + 1))))
 
   put-said : (s : Faces) (f : Face) (r : Faces)
       → ent 𝓤 (ensured 𝓤 H A put.ended (put.clauses 𝓤 H A mem run) tt (s, (f, tt)) tt r) (fact 𝓤 (r ≡ withOne s f))

@@ -50,7 +50,8 @@ loop-again c =
       omega arith,
       (λ j. set (l .inv .1 j) (l .i)
           ((toZ-ofZ w64 (c .force-at .result) (record { sfits = c .force-at .ok }) ∙ c .force-at .ensures) j))
-          ∙ choice-next (forceIn (axisOf (lineOf s))) noFaceForces 0 (a .t2 .face) (a .t3) mostFaces (l .i) (omega arith),
+          ∙ choice-next (forceIn (axisOf (lineOf s))) noFaceForces 0 (a .t2 .face) (a .t3) mostFaces (l .i)
+          (omega arith),
     )
 
 returns : tie.Need-returns Inv-loop μ-loop

@@ -44,8 +44,10 @@ returns c =
     let m = h .before in
     let a = m .before .before in
     λ j. record {
-      greatest = spanned a (m .less-times .result) (a .args .sums .greatest) (h .settled .ensures) (m .less-times .ensures .0) j;
-      least = spanned a (l .less-times2 .result) (a .args .sums .least) (c .settled2 .ensures) (l .less-times2 .ensures .0) j;
+      greatest = spanned a (m .less-times .result) (a .args .sums .greatest) (h .settled .ensures)
+          (m .less-times .ensures .0) j;
+      least = spanned a (l .less-times2 .result) (a .args .sums .least) (c .settled2 .ensures)
+          (l .less-times2 .ensures .0) j;
     }
 
 pub span-of-spec : {M : Type 1} → statement M

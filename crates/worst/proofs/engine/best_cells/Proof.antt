@@ -119,7 +119,8 @@ over-internals-requires c κs =
       omega arith,
       e .before .loop .inv .2,
       four-proper (job e .building) (profileOf (job e)) (job e .winds) (job e .internals) (job e .faces) (w e)
-          (counted e) (below e) (ready e .internals .0) (f .of-wind .result .cell) (are f (profileOf (job e)) (a e .pre .2)),
+          (counted e) (below e) (ready e .internals .0) (f .of-wind .result .cell)
+          (are f (profileOf (job e)) (a e .pre .2)),
     )
 
 loop-again : tie.Need-loop-again Inv-loop μ-loop
@@ -146,7 +147,8 @@ returns c =
     let j = jobBy (a .args .s) (a .args .faces) (now (a .args .flat)) in
     let left = c .loop-test .left in
     let all : l .w ≡ j .winds .count = omega (arith, l .inv .0) in (
-      λ axis side. l .inv .3 (profileOf j) (a .pre .2) (sumsAt (given (carried j))) (job-reckoned j (a .pre .1)) axis side
+      λ axis side. l .inv .3 (profileOf j) (a .pre .2) (sumsAt (given (carried j)))
+          (job-reckoned j (a .pre .1)) axis side
           ∙ ap (bestUpTo axis side (storedOf (carried j)) (j .internals .count)) all,
       l .inv .2,
       l .inv .1,

@@ -28,7 +28,8 @@ over-winds-requires : tie.Need-over-winds-requires
 over-winds-requires a κs = (ready a .winds, ready a .internals .0, a .pre .2)
 
 top : (c : tie.After-over-winds) (axis : Axis) (s : Side)
-    → IsTop axis s (c .before .args .stored) (job (c .before)) (ready (c .before)) (topAt axis s (c .over-winds .result))
+    → IsTop axis s (c .before .args .stored) (job (c .before)) (ready (c .before))
+    (topAt axis s (c .over-winds .result))
 top c axis s =
     let a = c .before in
     is-top axis s (a .args .stored) (job a) (ready a) (topAt axis s (c .over-winds .result))

@@ -84,7 +84,8 @@ returns-3 c =
     let h = r f .read-into .result in
     c .accepted .ensures
     ∙ ap₂ told
-    (returned w64 (h .setting .year) (t .struct-told .given .0 .1) .same ∙ ap (λ (k : Head). k .setting .year) (st f .head))
+    (returned w64 (h .setting .year) (t .struct-told .given .0 .1) .same
+    ∙ ap (λ (k : Head). k .setting .year) (st f .head))
     (s .six-of .ensures ∙ ap sixExtremes (st f .same (room f)))
     ∙ ap reckoned (sym (st f .reads))
 

@@ -161,5 +161,6 @@ fill-spec =
     (λ c. record { fits = omega (arith, few (d c)) }) parts-room
     (λ c. record { fits = omega (arith, few (d c)) }) wholes-room
     (λ c. record { fits = omega (arith, few (d c)) })
-    (λ c. let t = d c .loop-test .taken in omega arith) loop-again (λ c. c .before .loop .inv .2) (λ c. c .before .loop .inv .3)
+    (λ c. let t = d c .loop-test .taken in omega arith) loop-again
+    (λ c. c .before .loop .inv .2) (λ c. c .before .loop .inv .3)
     returns-2)
