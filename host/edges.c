@@ -111,7 +111,7 @@ static void every_digit(void)
 enum { LONGEST = 8 };
 static const struct { int year, kind, x, direction; size_t length; } longest_of[LONGEST] = {
     {1, 4, 1200, 90, 827}, {1, 6, 300, 180, 858}, {2, 4, 1200, 90, 1158}, {2, 6, 300, 180, 1189},
-    {3, 4, 1200, 90, 1158}, {3, 6, 300, 180, 1189}, {4, 4, 1200, 90, 8719}, {4, 6, 300, 180, ARAL_SHEET_MOST}};
+    {3, 4, 1200, 90, 1158}, {3, 6, 300, 180, 1189}, {4, 4, 1200, 90, 8719}, {4, 6, 300, 180, 8966}};
 
 static void longest(int which, text *t)
 {

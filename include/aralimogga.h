@@ -70,7 +70,7 @@ enum {
 /* The greatest lengths: in bytes of an acceptable sheet, a report and the digits of a number. The faces that a record
    has room for, and how many of them a job of a year may have. The most faces with two alternatives under at least one
    of the winds that aral_plain takes. And the stack of a call, in bytes. */
-#define ARAL_SHEET_MOST 8966
+#define ARAL_SHEET_MOST 8967
 #define ARAL_REPORT_MOST 3084
 #define ARAL_DIGITS_MOST 20
 #define ARAL_FACES_MOST 240

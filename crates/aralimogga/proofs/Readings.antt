@@ -8,12 +8,13 @@ use Rattle.verdict.specs.declared.Verdict.{Verdict}
 use Rattle.verdict.specs.Verdict.{Refuses}
 use Rattle.page.specs.declared.Writing.{Writing}
 use Rattle.job.specs.Carried.{Carried}
-use Rattle.job.specs.Walk.{Reading, Accepted, Refused, verdict, judged}
+use Rattle.job.specs.Walk.{Reading, Refused, verdict, judged}
 use Rattle.sheet.specs.declared.read.Read.{Read}
 use Rattle.sheet.specs.Sheet.{reading, answer, jobWriting, jobBuffer}
 use Rattle.sheet.proofs.Answered.{told-refused, told-accepted, read-refused, read-accepted}
 use Rattle.worst.specs.declared.Reckoning.{Reckoning}
 use Rattle.worst.specs.Worst.{reckoned}
+use Rattle.worst.proofs.Reckoned.{reckoned-verdict}
 use Rattle.answers.specs.declared.Text.{Text}
 use Rattle.answers.specs.Answers.{noHostText, hostText, noHostExtreme, hostLine, hostTotal}
 
@@ -39,10 +40,6 @@ module _ (s : List ℕ) (r : Read) (e : r ≡ answer (reading s)) where
         )
 
 -- ---- a line of its report
-
-reckoned-verdict : (r : Reading) → reckoned r .verdict ≡ verdict r
-reckoned-verdict (Accepted c) = refl
-reckoned-verdict (Refused v) = refl
 
 module _ (s : List ℕ) (w : Reckoning) (e : w ≡ reckoned (reading s)) (line : ℤ) where
   told : w .verdict ≡ verdict (reading s)

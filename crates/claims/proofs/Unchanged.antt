@@ -14,7 +14,7 @@ use Rattle.verdict.specs.declared.Verdict.{Verdict}
 use Rattle.verdict.specs.Verdict.{accepted, refusal, Refuses}
 use Rattle.whole.specs.Lists.{firstOf}
 use Rattle.whole.proofs.Tests.{by-test}
-use Rattle.entry.specs.Flat.{flat}
+use Rattle.entry.specs.Flat.{flatFaces}
 use Rattle.page.specs.declared.Writing.{Writing}
 use Rattle.page.specs.declared.Writing.the-variants as written
 use Rattle.page.specs.Writing.{writing, bufferAfter}
@@ -38,8 +38,8 @@ use Rattle.column.specs.Setting.{judgedWith}
 use Rattle.column.specs.Column.{forcesOn, columnVerdict, columnAfter}
 
 -- nothing but zeros
-flat-none : (n : ℕ) → firstOf (pos 0) n (flat []) ≡ replicate n (pos 0)
-unfolding flat firstOf
+flat-none : (n : ℕ) → firstOf (pos 0) n (flatFaces []) ≡ replicate n (pos 0)
+unfolding flatFaces firstOf
 flat-none zero = refl
 flat-none (suc n) = ap (λ l. pos 0 ∷ l) (flat-none n)
 

@@ -10,29 +10,30 @@ use Rattle.whole.specs.Lists.{firstOf, Every, numbers}
 use Rattle.whole.proofs.Lists.{firstOf-getD, firstOf-puts}
 use Rattle.whole.proofs.Numbers.{by-places, length-numbers, numbers-next}
 use Rattle.entry.specs.declared.Face.{Face}
-use Rattle.entry.specs.Flat.{perFace, numbersOf, flat, numberIn, faceIn, facesIn}
+use Rattle.entry.specs.Flat.{perFace, numbersOf, flatFaces, numberIn, faceIn, facesIn}
 
 -- ---- one face more
 
-pub flat-length : (fs : List Face) → length (flat fs) ≡ perFace * length fs
-unfolding flat
+pub flat-length : (fs : List Face) → length (flatFaces fs) ≡ perFace * length fs
+unfolding flatFaces
 flat-length [] = refl
-flat-length (f ∷ fs) = omega (arith, length-append (numbersOf f) (flat fs), flat-length fs)
+flat-length (f ∷ fs) = omega (arith, length-append (numbersOf f) (flatFaces fs), flat-length fs)
 
-flat-more : (fs : List Face) (f : Face) → flat (fs ++ (f ∷ [])) ≡ flat fs ++ numbersOf f
-unfolding flat
+flat-more : (fs : List Face) (f : Face) → flatFaces (fs ++ (f ∷ [])) ≡ flatFaces fs ++ numbersOf f
+unfolding flatFaces
 flat-more [] f = refl
 flat-more (g ∷ fs) f =
-    ap (λ (l : List ℤ). numbersOf g ++ l) (flat-more fs f) ∙ sym (append-assoc (numbersOf g) (flat fs) (numbersOf f))
+    ap (λ (l : List ℤ). numbersOf g ++ l) (flat-more fs f)
+    ∙ sym (append-assoc (numbersOf g) (flatFaces fs) (numbersOf f))
 
 -- its numbers stand behind the others, as far as there is room
 pub flat-put : (n : ℕ) (fs : List Face) (f : Face)
-    → firstOf (pos 0) n (flat (fs ++ (f ∷ [])))
-    ≡ sets (firstOf (pos 0) n (flat fs)) (perFace * length fs) (numbersOf f)
+    → firstOf (pos 0) n (flatFaces (fs ++ (f ∷ [])))
+    ≡ sets (firstOf (pos 0) n (flatFaces fs)) (perFace * length fs) (numbersOf f)
 flat-put n fs f =
     ap (firstOf (pos 0) n) (flat-more fs f)
-    ∙ firstOf-puts (pos 0) n (flat fs) (numbersOf f)
-    ∙ ap (λ (i : ℕ). sets (firstOf (pos 0) n (flat fs)) i (numbersOf f)) (flat-length fs)
+    ∙ firstOf-puts (pos 0) n (flatFaces fs) (numbersOf f)
+    ∙ ap (λ (i : ℕ). sets (firstOf (pos 0) n (flatFaces fs)) i (numbersOf f)) (flat-length fs)
 
 -- ---- faces read one by one
 
@@ -72,37 +73,37 @@ same-numbers l m i j e =
     }
 
 -- the first of them
-first-face : (f : Face) (fs : List Face) → f .zone < 256 → faceIn (flat (f ∷ fs)) 0 ≡ f
-unfolding flat
+first-face : (f : Face) (fs : List Face) → f .zone < 256 → faceIn (flatFaces (f ∷ fs)) 0 ≡ f
+unfolding flatFaces
 first-face f fs h =
     let e : f .zone % 256 ≡ f .zone = omega arith in
     λ i. record { zone = e i; mark = f .mark; height = f .height; x = f .x; y = f .y; z = f .z }
 
-later-face : (f : Face) (fs : List Face) (i : ℕ) → faceIn (flat (f ∷ fs)) (suc i) ≡ faceIn (flat fs) i
-unfolding flat
+later-face : (f : Face) (fs : List Face) (i : ℕ) → faceIn (flatFaces (f ∷ fs)) (suc i) ≡ faceIn (flatFaces fs) i
+unfolding flatFaces
 later-face f fs i =
-    same-numbers (flat (f ∷ fs)) (flat fs) (suc i) i
+    same-numbers (flatFaces (f ∷ fs)) (flatFaces fs) (suc i) i
     (λ k h.
     let e : perFace * suc i + k ≡ suc (suc (suc (suc (suc (suc (perFace * i + k)))))) = omega arith in
-    ap (λ (n : ℕ). getD (flat (f ∷ fs)) n (pos 0)) e)
+    ap (λ (n : ℕ). getD (flatFaces (f ∷ fs)) n (pos 0)) e)
 
 face-in : (d : Face) (fs : List Face) → Every (λ f. f .zone < 256) fs → (i : ℕ) → i < length fs
-    → faceIn (flat fs) i ≡ getD fs i d
+    → faceIn (flatFaces fs) i ≡ getD fs i d
 face-in d [] z i h = absurd (omega arith)
 face-in d (f ∷ fs) z zero h = first-face f fs (z .0)
 face-in d (f ∷ fs) z (suc i) h = later-face f fs i ∙ face-in d fs (z .1) i (omega arith)
 
 module _ (fs : List Face) (zones : Every (λ f. f .zone < 256) fs) (n : ℕ) (room : perFace * length fs ≤ n) where
-  pub face-back : (d : Face) (i : ℕ) → i < length fs → faceIn (firstOf (pos 0) n (flat fs)) i ≡ getD fs i d
+  pub face-back : (d : Face) (i : ℕ) → i < length fs → faceIn (firstOf (pos 0) n (flatFaces fs)) i ≡ getD fs i d
   face-back d i h =
-      same-numbers (firstOf (pos 0) n (flat fs)) (flat fs) i i
-      (λ k t. firstOf-getD (pos 0) n (perFace * i + k) (flat fs) (omega arith))
+      same-numbers (firstOf (pos 0) n (flatFaces fs)) (flatFaces fs) i i
+      (λ k t. firstOf-getD (pos 0) n (perFace * i + k) (flatFaces fs) (omega arith))
       ∙ face-in d fs zones i h
 
-  pub faces-back : facesIn (length fs) (firstOf (pos 0) n (flat fs)) ≡ fs
+  pub faces-back : facesIn (length fs) (firstOf (pos 0) n (flatFaces fs)) ≡ fs
   unfolding facesIn
   faces-back =
-      let l = firstOf (pos 0) n (flat fs) in
+      let l = firstOf (pos 0) n (flatFaces fs) in
       let d = faceIn [] 0 in
       sym (by-places d (faceIn l) fs 0
       (λ i h. let e : i ≡ 0 + i = omega arith in sym (face-back d i h) ∙ ap (faceIn l) e))

@@ -12,9 +12,9 @@ perFace = 6
 abbrev pub numbersOf : Face → List ℤ
 numbersOf f = pos (f .zone) ∷ f .mark ∷ f .height ∷ f .x ∷ f .y ∷ f .z ∷ []
 
-unfoldable pub flat : List Face → List ℤ
-flat [] = []
-flat (f ∷ fs) = numbersOf f ++ flat fs
+unfoldable pub flatFaces : List Face → List ℤ
+flatFaces [] = []
+flatFaces (f ∷ fs) = numbersOf f ++ flatFaces fs
 
 -- face i of such numbers, from 0, and the first n faces
 abbrev pub numberIn : List ℤ → ℕ → ℕ → ℤ

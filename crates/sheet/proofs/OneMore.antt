@@ -13,7 +13,7 @@ use Rattle.whole.proofs.Lists.{firstOf-put}
 use Rattle.field.specs.declared.Field.{Field}
 use Rattle.entry.specs.declared.Step.{Step}
 use Rattle.building.specs.Year.{hasHeights}
-use Rattle.entry.specs.Flat.{perFace, numbersOf, flat}
+use Rattle.entry.specs.Flat.{perFace, numbersOf, flatFaces}
 use Rattle.entry.specs.Says.{yearOf, buildingOf, windOf, internalOf, stepOf, faceOf}
 use Rattle.entry.proofs.Flat.{flat-put}
 use Rattle.rules.specs.declared.Before.{Before}
@@ -41,7 +41,7 @@ keptOf lent c =
     record {
       setting = settingIn (recorded c);
       faces = length (c .faces);
-      list = firstOf (pos 0) lent (flat (c .faces));
+      list = firstOf (pos 0) lent (flatFaces (c .faces));
     }
 
 -- the setting with the entry that a line says, stored behind the others of its section

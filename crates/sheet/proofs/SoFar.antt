@@ -15,7 +15,7 @@ use Rattle.lines.specs.declared.Line.{Line}
 use Rattle.lines.specs.Lines.{linesIn}
 use Rattle.lines.specs.Held.{held, lineAt}
 use Rattle.lines.proofs.Lines.{rows-some, rows-end}
-use Rattle.entry.specs.Flat.{flat}
+use Rattle.entry.specs.Flat.{flatFaces}
 use Rattle.entry.specs.Says.{size, at}
 use Rattle.rules.specs.declared.Before.{Before}
 use Rattle.rules.specs.declared.Section.{Section}
@@ -227,10 +227,10 @@ module _ {lent : ℕ} {s : List ℕ} {h : Bool} {sec : Section} {i : ℕ} {b : B
 -- ---- what is handed back, told of the reading z of the text and the length n of the lent list
 
 module _ {w z : Reading} (e : z ≡ w) {m n : ℕ} (same : m ≡ n) {after : List ℤ}
-    (list : after ≡ firstOf (pos 0) m (flat (facesRead w))) where
-  pub told-as : {r : Head} → r ≡ headOf w → (r ≡ headOf z) × (after ≡ firstOf (pos 0) n (flat (facesRead z)))
+    (list : after ≡ firstOf (pos 0) m (flatFaces (facesRead w))) where
+  pub told-as : {r : Head} → r ≡ headOf w → (r ≡ headOf z) × (after ≡ firstOf (pos 0) n (flatFaces (facesRead z)))
   told-as head =
-      (head ∙ ap headOf (sym e), list ∙ (λ i. firstOf (pos 0) (same i) (flat (facesRead (sym e i)))))
+      (head ∙ ap headOf (sym e), list ∙ (λ i. firstOf (pos 0) (same i) (flatFaces (facesRead (sym e i)))))
 
   pub as-long-as : length after ≡ n
-  as-long-as = ap length list ∙ firstOf-length (pos 0) m (flat (facesRead w)) ∙ same
+  as-long-as = ap length list ∙ firstOf-length (pos 0) m (flatFaces (facesRead w)) ∙ same

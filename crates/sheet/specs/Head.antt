@@ -5,7 +5,7 @@ use lib.ListN.{length}
 use Rattle.whole.specs.Lists.{firstOf}
 use Rattle.verdict.specs.Verdict.{accepted}
 use Rattle.entry.specs.declared.Face.{Face}
-use Rattle.entry.specs.Flat.{flat}
+use Rattle.entry.specs.Flat.{flatFaces}
 use Rattle.job.specs.Carried.{noJob, recorded}
 use Rattle.job.specs.Setting.{settingIn}
 use Rattle.job.specs.Walk.{Reading, Accepted, Refused}
@@ -22,4 +22,4 @@ facesRead (Refused v) = []
 
 -- the lent list then: the faces' numbers in order, as far as there is room, and zeros behind them
 abbrev pub flatAfter : Reading → List ℤ → List ℤ
-flatAfter r lent = firstOf (pos 0) (length lent) (flat (facesRead r))
+flatAfter r lent = firstOf (pos 0) (length lent) (flatFaces (facesRead r))

@@ -1,6 +1,6 @@
 -- The sums of a job in order: each is what the engine reckons of its cell, and together they tell the job's six
 -- extremes.
-use mathlib.Core.Path.{_≡_, refl, sym, ap, ap₂, _∙_}
+use mathlib.Core.Path.{_≡_, sym, ap, ap₂, _∙_}
 use mathlib.Core.Bool.{false}
 use mathlib.Core.List.{List}
 use Prim.Native.Nat.{ℕ, _+_, _-_, _*_, _≤_, _<_}
@@ -42,6 +42,16 @@ pub record CellsReckoned (b : Building) (profile : List Step) (ws : Winds) (is :
       → h (4 * w + i)
       ≡ cellWith (axesOf b profile (getD (ws .entry) w noWind) (facesOf fs)) (getD (is .entry) i (pos 0))
   pub past : (w i : ℕ) → i < 4 → is .count ≤ i → h (4 * w + i) ≡ noCell
+
+-- what a cell has is the best choice's, on each axis and side
+pub on-cell : (axis : Axis) (s : Side) (g : Given) (w i : ℕ)
+    → spanSide s (spanOn axis (cellOf g w i)) ≡ valueOf (bestChoice s (loads axis g) w i)
+on-cell X Greatest g w i = units-pairOf _
+on-cell X Least g w i = units-pairOf _
+on-cell Y Greatest g w i = units-pairOf _
+on-cell Y Least g w i = units-pairOf _
+on-cell Z Greatest g w i = units-pairOf _
+on-cell Z Least g w i = units-pairOf _
 
 module _ (j : Job) (o : InOrder (carried j)) where
   abbrev g : Given
@@ -98,18 +108,6 @@ module _ (j : Job) (o : InOrder (carried j)) where
   -- ---- they tell the six extremes
 
   module _ (axis : Axis) (s : Side) where
-    own-side : (w i : ℕ) → spanSide s (spanOn axis (cellOf g w i)) ≡ valueOf (bestChoice s (loads axis g) w i)
-    own-side w i = by axis s
-      where
-        by : (axis : Axis) (s : Side)
-            → spanSide s (spanOn axis (cellOf g w i)) ≡ valueOf (bestChoice s (loads axis g) w i)
-        by X Greatest = units-pairOf _
-        by X Least = units-pairOf _
-        by Y Greatest = units-pairOf _
-        by Y Least = units-pairOf _
-        by Z Greatest = units-pairOf _
-        by Z Least = units-pairOf _
-
     pub own-sum : (w i : ℕ) → WindNumber j w → InternalNumber j i
         → storedAt axis s (storedOf (carried j)) w i ≡ valueOf (bestChoice s (loads axis g) w i)
     unfolding storedOf
@@ -124,7 +122,7 @@ module _ (j : Job) (o : InOrder (carried j)) where
         ∙ sums-counted g (w - 1) (i - 1) (omega (arith, hi .low, hi .high, few-internals))
         (omega (arith, hw .low, hw .high)) (omega (arith, hi .low, hi .high))
         ∙ ap₂ (cellOf g) wind internal)
-        ∙ own-side w i
+        ∙ on-cell axis s g w i
 
     own-extreme : extremeBy axis s (storedOf (carried j)) (carried j) ≡ extreme axis s (carried j)
     own-extreme =

@@ -1,6 +1,6 @@
 -- What is kept of an earlier cell and a later one: the later only where there is no earlier one, or that falls short
 -- of it.
-use mathlib.Core.Path.{_≡_, refl, ap, _∙_}
+use mathlib.Core.Path.{_≡_, refl, _∙_}
 use mathlib.Core.Bool.{true, false}
 use Prim.Native.Nat.{ℕ, _<_}
 use native.Mathlib.Omega.{arith}

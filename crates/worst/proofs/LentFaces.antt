@@ -5,7 +5,7 @@ use mathlib.Core.List.{List, map}
 use Prim.Native.Nat.{ℕ, _+_, _≤_, _<_}
 use native.Mathlib.Omega.{arith}
 use lib.IntN.{ℤ}
-use lib.ListN.{length, getD, length-map}
+use lib.ListN.{length, getD}
 use Rattle.whole.specs.Lists.{firstOf, numbers}
 use Rattle.whole.proofs.Lists.{getD-map, firstOf-length, firstOf-getD, firstOf-all}
 use Rattle.whole.proofs.Numbers.{length-numbers, numbers-at, by-places}
@@ -13,6 +13,7 @@ use Rattle.building.specs.Year.{hasHeights}
 use Rattle.entry.specs.declared.Face.{Face}
 use Rattle.entry.specs.Flat.{faceIn, facesIn}
 use Rattle.entry.specs.Says.{carriedFace}
+use Rattle.entry.proofs.Flat.{faces-length}
 use Rattle.job.specs.declared.Faces.{Faces}
 use Rattle.job.specs.declared.Job.{Job}
 use Rattle.job.specs.declared.Setting.{Setting}
@@ -23,10 +24,6 @@ use Rattle.worst.specs.Lent.{jobBy, Numbered}
 -- ---- the first n that a list has
 
 module _ (n : ℕ) (l : List ℤ) where
-  pub faces-length : length (facesIn n l) ≡ n
-  unfolding facesIn
-  faces-length = length-map (numbers n 0) (faceIn l) ∙ length-numbers n 0
-
   pub face-at : (i : ℕ) → i < n → getD (facesIn n l) i noFace ≡ faceIn l i
   unfolding facesIn
   face-at i h =
@@ -36,7 +33,7 @@ module _ (n : ℕ) (l : List ℤ) where
 
   -- as a record they are all that it counts
   pub faces-all : firstOf noFace n (facesIn n l) ≡ facesIn n l
-  faces-all = ap (λ k. firstOf noFace k (facesIn n l)) (sym faces-length) ∙ firstOf-all noFace (facesIn n l)
+  faces-all = ap (λ k. firstOf noFace k (facesIn n l)) (sym (faces-length n l)) ∙ firstOf-all noFace (facesIn n l)
 
 -- ---- those of a record, laid there
 

@@ -15,7 +15,6 @@ use Rattle.entry.specs.declared.Wind.{Wind}
 use Rattle.entry.specs.declared.Face.{Face}
 use Rattle.job.specs.Carried.{Carried, withFaces, noWind}
 use Rattle.job.specs.InOrder.{InOrder}
-use Rattle.pair.proofs.Units.{units-pairOf}
 use Rattle.worst.specs.declared.Side.{Side}
 use Rattle.worst.specs.declared.Side.the-variants.{Greatest, Least}
 use Rattle.worst.specs.declared.Axis.{Axis}
@@ -25,13 +24,14 @@ use Rattle.whole.specs.Lists.{numbers}
 use Rattle.worst.specs.Cases.{Loads, total, choices}
 use Rattle.worst.specs.Forces.{Given, acts, outsides, force, windAt, internalAt, loads}
 use Rattle.worst.specs.Worst.{given}
-use Rattle.worst.specs.Stored.{bestChoice, valueOf, cellOf, noCell, counts, sumsAt, spanOn, spanSide}
+use Rattle.worst.specs.Stored.{bestChoice, valueOf, noCell, counts, sumsAt, spanOn, spanSide}
 use Rattle.worst.specs.Quick.{sum}
 use Rattle.worst.proofs.Meaning.{best-is, best-found}
 use Rattle.worst.proofs.Quick.{best-choice}
 use Rattle.worst.proofs.OneFace.{OneOrTwo, alone, pair}
 use Rattle.worst.proofs.Ranges.{InRange, total-small, force-small}
 use Rattle.worst.proofs.Accepted.{given-sound, given-in-range}
+use Rattle.worst.proofs.JobSums.{on-cell}
 
 sum-append : {A : Type 0} (value : A → ℤ) (l m : List A) → sum value (l ++ m) ≡ sum value l +ℤ sum value m
 unfolding sum
@@ -126,15 +126,6 @@ module _ (c : Carried) (axis : Axis) (s : Side) (w i : ℕ) where
 -- what is stored at a cell, on one axis and one side
 abbrev pub storedOn : Axis → Side → Carried → ℕ → ℤ
 storedOn axis s c k = spanSide s (spanOn axis (sumsAt (given c) k))
-
-pub on-cell : (axis : Axis) (s : Side) (g : Given) (w i : ℕ)
-    → spanSide s (spanOn axis (cellOf g w i)) ≡ valueOf (bestChoice s (loads axis g) w i)
-on-cell X Greatest g w i = units-pairOf _
-on-cell X Least g w i = units-pairOf _
-on-cell Y Greatest g w i = units-pairOf _
-on-cell Y Least g w i = units-pairOf _
-on-cell Z Greatest g w i = units-pairOf _
-on-cell Z Least g w i = units-pairOf _
 
 pub on-none : (axis : Axis) (s : Side) → spanSide s (spanOn axis noCell) ≡ pos 0
 on-none X Greatest = refl

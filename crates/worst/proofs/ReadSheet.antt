@@ -1,14 +1,14 @@
 -- A sheet that was read into a lent list: refused, or the job that it carries.
-use mathlib.Core.Path.{_≡_, sym, ap, ap₂, _∙_, subst}
+use mathlib.Core.Path.{_≡_, sym, ap, _∙_, subst}
 use mathlib.Core.List.{List}
-use Prim.Native.Nat.{ℕ, _*_, _≤_, _<_}
+use Prim.Native.Nat.{ℕ, _*_, _≤_}
 use native.Mathlib.Omega.{arith}
 use lib.IntN.{ℤ, pos}
 use lib.ListN.{length}
 use Rattle.whole.specs.Lists.{firstOf}
-use Rattle.whole.proofs.Lists.{firstOf-getD, firstOf-length}
+use Rattle.whole.proofs.Lists.{firstOf-getD}
 use Rattle.verdict.specs.Verdict.{Refuses}
-use Rattle.entry.specs.Flat.{perFace, flat}
+use Rattle.entry.specs.Flat.{perFace, flatFaces}
 use Rattle.entry.proofs.Flat.{face-back}
 use Rattle.job.specs.Carried.{Carried, carried, recorded, mostFaces, noFace}
 use Rattle.job.specs.InOrder.{InOrder}
@@ -20,8 +20,8 @@ use Rattle.sheet.specs.Head.{headOf, flatAfter}
 use Rattle.sheet.specs.Sheet.{reading}
 use Rattle.sheet.proofs.Answered.{head-verdict, told-refused, told-accepted}
 use Rattle.sheet.proofs.FacesBack.{reading-in-order, small-zones}
-use Rattle.worst.specs.Lent.{jobBy, Numbered}
-use Rattle.worst.specs.Worst.{reckoned, sixExtremes}
+use Rattle.worst.specs.Lent.{jobBy}
+use Rattle.worst.specs.Worst.{reckoned}
 use Rattle.worst.proofs.LentFaces.{Laid, lent-carried}
 
 module _ (s : List ℕ) (lent : List ℤ) (h : Head) (l : List ℤ) (e : h ≡ headOf (reading s))
@@ -64,11 +64,11 @@ module _ (s : List ℕ) (lent : List ℤ) (h : Head) (l : List ℤ) (e : h ≡ h
       head : h ≡ headOf (Accepted c)
       head = e ∙ ap headOf (a .1)
 
-      list : l ≡ firstOf (pos 0) (length lent) (flat (c .faces))
+      list : l ≡ firstOf (pos 0) (length lent) (flatFaces (c .faces))
       list = q ∙ ap (λ r. flatAfter r lent) (a .1)
 
       laid : perFace * length (c .faces) ≤ length lent
-          → Laid (recorded c .faces) (firstOf (pos 0) (length lent) (flat (c .faces)))
+          → Laid (recorded c .faces) (firstOf (pos 0) (length lent) (flatFaces (c .faces)))
       laid room i t =
           face-back (c .faces) (small-zones c o) (length lent) room noFace i t
           ∙ sym (firstOf-getD noFace mostFaces i (c .faces) (omega (arith, few-faces c o)))
@@ -77,5 +77,5 @@ module _ (s : List ℕ) (lent : List ℤ) (h : Head) (l : List ℤ) (e : h ≡ h
       same room =
           let n : h .faces ≡ length (c .faces) = ap (λ (k : Head). k .faces) head in
           (λ i. carried (jobBy (head i .setting) (head i .faces) (list i)))
-          ∙ lent-carried (recorded c) (firstOf (pos 0) (length lent) (flat (c .faces))) (laid (omega (arith, n)))
+          ∙ lent-carried (recorded c) (firstOf (pos 0) (length lent) (flatFaces (c .faces))) (laid (omega (arith, n)))
           ∙ in-order-recorded c o

@@ -1,11 +1,11 @@
 -- The sums of a job in order are such as a job of its year can have; and so are those that tell.
-use mathlib.Core.Path.{_≡_, refl, sym, ap, _∙_, subst}
-use mathlib.Core.Bool.{Bool, true, false, _&&_}
+use mathlib.Core.Path.{_≡_, refl}
+use mathlib.Core.Bool.{Bool, true, _&&_}
 use mathlib.Core.List.{List, [], _∷_, map}
 use Prim.Native.Nat.{ℕ, zero, suc, _+_, _*_, _/_, _%_, _≤_, _<_}
 use native.Mathlib.Omega.{arith}
-use lib.IntN.{ℤ, pos, natAbs}
-use lib.ListN.{length, getD}
+use lib.IntN.{natAbs}
+use lib.ListN.{getD}
 use Rattle.whole.specs.Lists.{numbers}
 use Rattle.whole.specs.Newton.{newton}
 use Rattle.whole.proofs.Newton.{remainder-small}
@@ -13,7 +13,6 @@ use Rattle.whole.proofs.Tests.{by-test, and-true}
 use Rattle.pair.specs.declared.Pair.{Pair}
 use Rattle.pair.specs.Total.{noPair, withinNewtons}
 use Rattle.pair.proofs.Sizes.{is-within, within-small}
-use Rattle.building.specs.Year.{faceLimit}
 use Rattle.job.specs.Carried.{Carried}
 use Rattle.job.specs.InOrder.{InOrder}
 use Rattle.worst.specs.declared.Side.{Side}

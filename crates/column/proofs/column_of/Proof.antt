@@ -1,5 +1,5 @@
 -- `column_of` meets its contract: the job's own refusal, then the line's, and else the case that the line shows.
-use mathlib.Core.Path.{_≡_, refl, sym, ap, _∙_, subst}
+use mathlib.Core.Path.{_≡_, sym, ap, _∙_, subst}
 use borrow.Author.Needs.{needs}
 use lib.IntN.{ℤ}
 use mir.Syntax.{w64}
@@ -9,11 +9,11 @@ use Rattle.verdict.specs.declared.Verdict.{Verdict}
 use Rattle.verdict.specs.Verdict.{Refuses}
 use Rattle.job.specs.declared.Job.{Job}
 use Rattle.job.specs.Carried.{carried}
-use Rattle.job.specs.Walk.{Reading, Accepted, Refused, verdict, judged}
+use Rattle.job.specs.Walk.{Reading, Accepted, verdict, judged}
 use Rattle.worst.specs.declared.Reckoning.{Reckoning}
 use Rattle.worst.specs.Worst.{sixExtremes, reckoned, worstOf}
 use Rattle.worst.specs.Rows.{Taken}
-use Rattle.worst.proofs.Reckoned.{taken-is}
+use Rattle.worst.proofs.Reckoned.{taken-is, reckoned-verdict}
 use Rattle.answers.specs.declared.Extreme.{Extreme}
 use Rattle.answers.specs.Answers.{hostLine, hostTotal}
 use Rattle.page.specs.Writing.{bufferAfter}
@@ -22,10 +22,6 @@ use Rattle.column.specs.Column.{forcesOn}
 use Rattle.column.proofs.Answered.{refused, shared, own-first}
 use Rattle.column.proofs.column_of.Statement.{statement}
 use Rattle.column.proofs.column_of.Tie as tie
-
-verdict-of : (r : Reading) → reckoned r .verdict ≡ verdict r
-verdict-of (Accepted c) = refl
-verdict-of (Refused v) = refl
 
 -- ---- the job is judged
 
@@ -44,7 +40,7 @@ module _ (c : tie.After-worst-cases) where
   found = c .worst-cases .ensures
 
   own : v ≡ verdict (judged j)
-  own = ap (λ (w : Reckoning). w .verdict) found ∙ verdict-of (judged j)
+  own = ap (λ (w : Reckoning). w .verdict) found ∙ reckoned-verdict (judged j)
 
   taken : v .number ≡ 0 → Taken j
   taken z = let t = taken-is j v own z in record { order = t .order; accepted = t .is }

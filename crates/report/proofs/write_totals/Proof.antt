@@ -3,7 +3,7 @@ use mathlib.Core.Path.{_≡_, refl, _∙_, sym, ap, subst}
 use denote.Ref.{now}
 use borrow.Author.Needs.{needs}
 use Rattle.page.specs.Writing.{writing, bufferAfter}
-use Rattle.job.specs.Walk.{Reading, Accepted, Refused}
+use Rattle.job.specs.Walk.{Reading}
 use Rattle.sheet.specs.Sheet.{reading, jobWriting, jobBuffer}
 use Rattle.worst.specs.declared.Reckoning.{Reckoning}
 use Rattle.worst.specs.Worst.{reckoned}

@@ -14,7 +14,7 @@ use Rattle.lines.specs.Held.{heldLine}
 use Rattle.page.specs.Writing.{Put}
 use Rattle.page.proofs.Put.{put-length}
 use Rattle.rules.specs.declared.Section.{Section}
-use Rattle.rules.specs.declared.Section.the-variants.{W, I, P, F}
+use Rattle.rules.specs.declared.Section.the-variants.{W, I, P}
 use Rattle.job.specs.declared.Job.{Job}
 use Rattle.job.specs.Carried.{noFace, carried, mostFaces}
 use Rattle.rules.specs.Sections.{about}

@@ -1,6 +1,6 @@
 -- `put_total` meets its contract: newtons, a space and the remainder; or the units, which fit 64 bits.
 use mathlib.Core.Path.{_≡_, sym, _∙_}
-use mathlib.Core.Bool.{Bool, true, false}
+use mathlib.Core.Bool.{Bool}
 use native.Mathlib.Omega.{arith}
 use borrow.Author.Needs.{needs}
 use mir.Syntax.{w64}

@@ -21,7 +21,7 @@ use Rattle.rules.specs.declared.Kind.the-variants.{Count, Entry}
 use Rattle.rules.specs.Sections.{sections, sectionAt, lineFault}
 use Rattle.building.specs.Year.{hasHeights}
 use Rattle.entry.specs.declared.Face.{Face}
-use Rattle.entry.specs.Flat.{flat, perFace, numbersOf}
+use Rattle.entry.specs.Flat.{flatFaces, perFace, numbersOf}
 use Rattle.entry.specs.Says.{size, faceOf}
 use Rattle.job.specs.declared.Winds.{Winds}
 use Rattle.job.specs.declared.Internals.{Internals}
@@ -76,7 +76,7 @@ as-long : (c : tie.After-clear Inv-loop2 μ-loop2 Inv-loop μ-loop) → length (
 as-long c = ap length (c .clear .ensures) ∙ firstOf-length (pos 0) (length (lent c)) []
 
 loop-holds : tie.Need-loop-holds Inv-loop2 μ-loop2 Inv-loop μ-loop
-unfolding recorded flat
+unfolding recorded flatFaces
 loop-holds c =
     let n = c .before .before .before .before .before in
     let h = n .before in

@@ -1,13 +1,13 @@
 -- `refused` meets its contract.
 use mathlib.Core.Path.{ap}
 use borrow.Author.Needs.{needs}
-use Rattle.entry.specs.Flat.{flat}
+use Rattle.entry.specs.Flat.{flatFaces}
 use Rattle.job.specs.declared.Setting.{Setting}
 use Rattle.sheet.proofs.read.refused.Statement.{statement}
 use Rattle.sheet.proofs.read.refused.Tie as tie
 
 returns : tie.Need-returns
-unfolding flat
+unfolding flatFaces
 returns c =
     let v = c .before .before .before .before .args .verdict in (
       ap (λ (j : Setting). record { verdict = v; setting = j; faces = 0 }) (c .no-setting .ensures),

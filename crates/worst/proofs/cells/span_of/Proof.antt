@@ -1,7 +1,7 @@
 -- `cells::span_of` meets its contract: each sum less the internal coefficient's part, as a pair.
 use mathlib.Core.Path.{_≡_, ap, _∙_}
 use Prim.Native.Nat.{_≤_}
-use lib.IntN.{ℤ, pos, natAbs, _-ℤ_, _*ℤ_}
+use lib.IntN.{ℤ, pos, _-ℤ_, _*ℤ_}
 use mir.Syntax.{w64}
 use Rattle.whole.proofs.Size.{Num, num, num≤, back, bound, fit, _⊗_}
 use Rattle.pair.specs.declared.Pair.{Pair}

@@ -1,7 +1,6 @@
 -- `engine::own_six` meets its contract: a job's own sums tell its six extremes.
 use mathlib.Core.Path.{sym, _∙_, subst}
 use native.Mathlib.Omega.{arith}
-use borrow.Author.Needs.{needs}
 use denote.Ref.{now}
 use Rattle.job.specs.declared.Job.{Job}
 use Rattle.job.specs.Carried.{carried}

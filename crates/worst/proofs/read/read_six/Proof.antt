@@ -7,7 +7,7 @@ use denote.Ref.{now}
 use mir.Syntax.{w64}
 use mathlib.Core.List.{List}
 use lib.IntN.{ℤ, pos}
-use lib.ListN.{length, replicate}
+use lib.ListN.{replicate}
 use Rattle.whole.proofs.Size.{returned}
 use Rattle.verdict.specs.Verdict.{accepted}
 use Rattle.job.specs.Carried.{recorded}

@@ -2,7 +2,6 @@
 use mathlib.Core.Path.{_≡_, refl, sym, ap, _∙_, subst}
 use native.Mathlib.Omega.{arith}
 use borrow.Author.Needs.{needs}
-use lib.ListN.{length}
 use Rattle.job.specs.Carried.{carried}
 use Rattle.job.specs.InOrder.{InOrder}
 use Rattle.worst.specs.Worst.{sixExtremes}

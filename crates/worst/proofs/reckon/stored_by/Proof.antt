@@ -10,7 +10,6 @@ use Rattle.job.specs.Carried.{carried}
 use Rattle.worst.specs.declared.Six.{Six}
 use Rattle.worst.specs.declared.Reckoning.{Reckoning}
 use Rattle.worst.specs.Within.{mostNewtons, allWithin}
-use Rattle.worst.specs.Worst.{sixExtremes}
 use Rattle.worst.specs.Stored.{storedOf, sixBy, reckonedBy}
 use Rattle.worst.proofs.JobSums.{own-six}
 use Rattle.worst.proofs.ProperSums.{within-proper}

@@ -1,5 +1,5 @@
 -- `sums::nothing` meets its contract: zeros.
-use mathlib.Core.Path.{_≡_, refl}
+use mathlib.Core.Path.{refl}
 use native.Mathlib.Omega.{arith}
 use Rattle.worst.specs.declared.amounts.Amount.{Amount}
 use Rattle.worst.specs.declared.sums.AxisSums.{AxisSums}

@@ -1,8 +1,8 @@
 -- `sums::with_weight` meets its contract: what the face reaches is added on each side, and its weight.
 use mathlib.Core.Path.{_≡_, ap, _∙_}
-use Prim.Native.Nat.{ℕ, _+_, _*_, _≤_}
+use Prim.Native.Nat.{_+_, _≤_}
 use native.Mathlib.Omega.{arith}
-use lib.IntN.{ℤ, natAbs, _+ℤ_}
+use lib.IntN.{ℤ, _+ℤ_}
 use mir.Syntax.{w64}
 use borrow.Author.Needs.{needs}
 use Rattle.whole.proofs.Size.{Num, num≤, back, bound, fit, natAbs-add, _⊕_}

@@ -1,6 +1,5 @@
 -- `tops::kept` meets its contract: one law for each return.
-use mathlib.Core.Path.{_≡_, sym, _∙_}
-use borrow.Author.Needs.{needs}
+use mathlib.Core.Path.{sym, _∙_}
 use Rattle.pair.specs.Total.{units}
 use Rattle.worst.specs.Engine.{cell}
 use Rattle.worst.proofs.Kept.{kept-first, kept-later, kept-earlier}

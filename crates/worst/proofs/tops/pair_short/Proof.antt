@@ -1,5 +1,5 @@
 -- `tops::pair_short` meets its contract: the order of proper pairs is that of their totals.
-use mathlib.Core.Path.{_≡_, _∙_}
+use mathlib.Core.Path.{_∙_}
 use borrow.Author.Needs.{needs}
 use Rattle.pair.proofs.Order.{lesser-units}
 use Rattle.worst.proofs.tops.pair_short.Statement.{statement}
