@@ -84,14 +84,14 @@ walked s value w i fs = over s (valued value w i) (choices alternativesIn fs)
 -- ---- what is kept
 
 -- winds are numbered from 1
-abbrev pub Numbered : Best (Case ℕ ℕ ℕ) → Type 0
-Numbered none = Unit
-Numbered (at v c) = 0 < c .wind
+abbrev pub WindNamed : Best (Case ℕ ℕ ℕ) → Type 0
+WindNamed none = Unit
+WindNamed (at v c) = 0 < c .wind
 
 -- an extreme that shows the best so far
 pub record Keeps (n : ℕ) (e : Extreme) (b : Best (Case ℕ ℕ ℕ)) : Type 0 where
   pub is : e ≡ shown n b
-  pub wind : Numbered b
+  pub wind : WindNamed b
 
 -- an earlier total as a pair falls short of a later one
 abbrev pub shortOf : Side → Pair → Pair → Bool

@@ -52,7 +52,7 @@ use Rattle.worst.proofs.SumsWithin.{within-at, side-small, telling-within}
 use Rattle.report.specs.Lines.{spaced, caseNumbers, totalText, extremeText, axisText, sixText, x, y, z}
 use Rattle.report.specs.Lines.{max, min}
 use Rattle.report.specs.Report.{reportText, refusedText}
-use Rattle.report.specs.Short.{Fair, Printable, Both, AllSix, facesOf, SixPrintable}
+use Rattle.report.specs.Short.{Fair, Printable, Both, AllSix, facesShown, SixPrintable}
 use Rattle.report.proofs.Lines.{spaced-none, line-parts, axis-parts, six-parts, long-total, short-total}
 use Rattle.report.proofs.Reports.{refused-parts}
 
@@ -178,7 +178,7 @@ module _ (c : Carried) (o : InOrder c) where
             (by-six Prints (λ axis s. extreme axis s c) own-prints);
       }
     where
-      faces-are : facesOf (sixExtremes c) ≡ length (c .faces)
+      faces-are : facesShown (sixExtremes c) ≡ length (c .faces)
       faces-are = ap (λ (e : Extreme). e .faces) (extreme-shows X Greatest c o .named)
 
   module _ (t : Stored) where
@@ -204,7 +204,7 @@ module _ (c : Carried) (o : InOrder c) where
               (by-six Prints (λ axis s. extremeBy axis s told c) told-prints);
         }
       where
-        faces-are : facesOf (sixBy told c) ≡ length (c .faces)
+        faces-are : facesShown (sixBy told c) ≡ length (c .faces)
         faces-are = ap (λ (e : Extreme). e .faces) (stored-shows X Greatest c o told .named)
 
 -- ---- six lines
@@ -277,4 +277,4 @@ pub report-most : (c : Carried) → InOrder c → length (reportText c) ≤ 3084
 unfolding reportText
 report-most c o =
     let p = report-prints c o in
-    omega (arith, six-most (c .year) (facesOf (sixExtremes c)) (sixExtremes c) (p .all), p .few)
+    omega (arith, six-most (c .year) (facesShown (sixExtremes c)) (sixExtremes c) (p .all), p .few)

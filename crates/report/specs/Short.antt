@@ -30,9 +30,9 @@ abbrev pub AllSix : (Extreme → Type 0) → Six → Type 0
 AllSix P six = Both P (six .x) × Both P (six .y) × Both P (six .z)
 
 -- how many faces the job has, by its first line
-abbrev pub facesOf : Six → ℕ
-facesOf six = six .x .greatest .faces
+abbrev pub facesShown : Six → ℕ
+facesShown six = six .x .greatest .faces
 
 pub record SixPrintable (w : Reckoning) : Type 0 where
-  pub few : facesOf (w .six) ≤ 240
-  pub all : AllSix (Printable (w .year) (facesOf (w .six))) (w .six)
+  pub few : facesShown (w .six) ≤ 240
+  pub all : AllSix (Printable (w .year) (facesShown (w .six))) (w .six)

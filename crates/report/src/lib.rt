@@ -10,7 +10,7 @@ ghost use Rattle.sheet.specs.Sheet.{reading, jobWriting, jobBuffer};
 ghost use Rattle.plain.specs.Plain.{plainly};
 ghost use Rattle.report.specs.Report.{reportText, storedText, totalsText, sixWriting, sixBuffer};
 ghost use Rattle.report.specs.Lines.{sixText};
-ghost use Rattle.report.specs.Short.{facesOf, SixPrintable};
+ghost use Rattle.report.specs.Short.{facesShown, SixPrintable};
 ghost use Prim.Native.Nat.{_≤_};
 
 mod refusal;
@@ -18,7 +18,7 @@ mod six;
 
 // Six lines of at most 24 faces, which are 492 bytes at most; and of at most 240 faces, which are 3084.
 fn write_short(w: Reckoning, buf: &mut [u8]) -> Writing
-    requires { ⌜ SixPrintable w × (facesOf (w .six) ≤ 24) ⌝ }
+    requires { ⌜ SixPrintable w × (facesShown (w .six) ≤ 24) ⌝ }
     ensures { λ r. ⌜ (r ≡ writing (sixText (w .year) (w .six)) (now (buf .entry)))
         × (now (buf .exit) ≡ bufferAfter (sixText (w .year) (w .six)) (now (buf .entry))) ⌝ }
 {

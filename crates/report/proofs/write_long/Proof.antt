@@ -7,7 +7,7 @@ use mir.Syntax.{w64}
 use mir.Val.{toZ, ofZ}
 use Rattle.whole.proofs.Size.{returned}
 use Rattle.page.proofs.Put.{emitted}
-use Rattle.report.specs.Short.{Fair, AllSix, facesOf}
+use Rattle.report.specs.Short.{Fair, AllSix, facesShown}
 use Rattle.report.proofs.Lengths.{six-most, fair-six}
 use Rattle.report.proofs.write_long.Statement.{statement}
 use Rattle.report.proofs.write_long.Tie as tie
@@ -21,7 +21,7 @@ put-six-requires c κs =
     let a = c .before .before .before in
     let pr = a .pre in
     subst (λ y. AllSix (λ x. Fair y (x .total)) (a .args .w .six)) (sym (read c))
-    (fair-six (a .args .w .year) (facesOf (a .args .w .six)) (a .args .w .six) (pr .all))
+    (fair-six (a .args .w .year) (facesShown (a .args .w .six)) (a .args .w .six) (pr .all))
 
 returns : tie.Need-returns
 returns c =
@@ -31,7 +31,7 @@ returns c =
     let a = t .before .before .before in
     let w = a .args .w in
     let pr = a .pre in
-    let most = six-most (w .year) (facesOf (w .six)) (w .six) (pr .all) in
+    let most = six-most (w .year) (facesShown (w .six)) (w .six) (pr .all) in
     emitted (rw (read t) at (p .put-six .ensures)) (omega (arith, most, pr .few))
     (now (a .args .buf)) (e .emit .ensures)
 
