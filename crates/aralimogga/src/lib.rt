@@ -8,6 +8,7 @@ use mend::Mending;
 use pair::Pair;
 use panel::Point;
 use rose::Rose;
+use slip::Slip;
 use verdict::Verdict;
 use worksheet::Edited;
 use worksheet::Worksheet;
@@ -20,6 +21,7 @@ ghost use Rattle.panel.specs.Chart.{pointOf};
 ghost use Rattle.panel.specs.Pairs.{panelOfNewtons, pointOfPairs};
 ghost use Rattle.job.specs.Walk.{verdict, judged};
 ghost use Rattle.sheet.specs.Sheet.{reading, sheetText, jobWriting, jobBuffer};
+ghost use Rattle.slip.specs.Slip.{slipOf};
 ghost use Rattle.plain.specs.Plain.{plainly};
 ghost use Rattle.mend.specs.Mending.{mendingOf, textAfter, listAfter};
 ghost use Rattle.rose.specs.Rose.{noLines};
@@ -39,6 +41,14 @@ pub extern "C" fn aral_read(sheet: &[u8]) -> Verdict
     ensures { λ r. ⌜ r ≡ verdict (reading (now (sheet .entry))) ⌝ }
 {
     sheet::read::verdict_of(sheet)
+}
+
+// Where its first fault lies, and what may stand there.
+#[no_mangle]
+pub extern "C" fn aral_where(sheet: &[u8]) -> Slip
+    ensures { λ r. ⌜ r ≡ slipOf (now (sheet .entry)) ⌝ }
+{
+    slip::slip_of(sheet)
 }
 
 // The sheet read, and written again.

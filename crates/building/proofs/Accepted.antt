@@ -1,5 +1,5 @@
 -- A building in order: each number within its range, and within the tables' limits. And what each fault says.
-use mathlib.Core.Path.{_≡_, refl}
+use mathlib.Core.Path.{_≡_, refl, sym, _∙_}
 use mathlib.Core.Bool.{Bool, true, false, cond, not, true≢false}
 use Prim.Native.Nat.{ℕ, suc, _*_, _≤_}
 use native.Mathlib.Omega.{arith}
@@ -17,6 +17,7 @@ use Rattle.building.specs.Order.{Ranged, SizesInOrder}
 use Rattle.building.specs.Building.{begun, outOfForm, outOfRange, outOfWalls, outOfRoof, sizes, buildingFault}
 use Rattle.building.specs.Building.{givenFault}
 use Rattle.building.proofs.Roofs.{across-range}
+use Rattle.building.proofs.Tested.{fault-tests}
 
 -- ---- each number in its range
 
@@ -124,9 +125,8 @@ passed false n m e = (refl, e)
 
 module _ (year : ℤ) (g : Building) (good : buildingFault year g ≡ 0) where
   pub passes : (outOfRange g ≡ false) × (outOfWalls year (sizes g) ≡ false) × (outOfRoof (sizes g) ≡ false)
-  unfolding buildingFault
   passes =
-      let r₁ = passed (outOfRange g) 2 _ good in
+      let r₁ = passed (outOfRange g) 2 _ (sym (fault-tests year g) ∙ good) in
       let r₂ = passed (outOfWalls year (sizes g)) 3 _ (r₁ .1) in
       let r₃ = passed (outOfRoof (sizes g)) 4 0 (r₂ .1) in
       (r₁ .0, r₂ .0, r₃ .0)
@@ -174,8 +174,7 @@ pub data Why (year : ℤ) (g : Building) : ℕ → Type 0 where
   outside-the-roof's-range : Fields g → outOfWalls year (sizes g) ≡ false → outOfRoof (sizes g) ≡ true → Why year g 5
 
 pub why : (year : ℤ) (g : Building) → Why year g (buildingFault year g)
-unfolding buildingFault
-why year g = go (outOfRange g) (outOfWalls year (sizes g)) (outOfRoof (sizes g)) refl refl refl
+why year g = rw (fault-tests year g) (go (outOfRange g) (outOfWalls year (sizes g)) (outOfRoof (sizes g)) refl refl refl)
   where
     go : (t u v : Bool) → outOfRange g ≡ t → outOfWalls year (sizes g) ≡ u → outOfRoof (sizes g) ≡ v
         → Why year g (cond t 3 (cond u 4 (cond v 5 0)))

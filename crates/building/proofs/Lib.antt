@@ -4,6 +4,7 @@ pub mod Machine
 pub mod Ranges
 pub mod Ratios
 pub mod Roofs
+pub mod Tested
 pub mod Accepted
 pub mod Places
 pub mod Judged

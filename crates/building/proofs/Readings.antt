@@ -14,6 +14,7 @@ use Rattle.building.specs.declared.Sizes.{Sizes}
 use Rattle.building.specs.Ratio.{_÷_, upTo}
 use Rattle.building.specs.Year.{lastYear, hasSquares}
 use Rattle.building.specs.Building.{begun, outOfForm, outOfRange, outOfWalls, buildingFault, givenFault}
+use Rattle.building.proofs.Tested.{fault-tests}
 use Rattle.building.proofs.Accepted.{fields, begun-from, passes}
 
 -- ---- in order by the last
@@ -29,10 +30,9 @@ walls-last year s e =
     rw (r₁ .0, begun-last year (s .a) (s .b) (not-false _ (r₂ .0)), r₂ .1)
 
 pub in-order-last : (year : ℤ) (g : Building) → buildingFault year g ≡ 0 → buildingFault (pos lastYear) g ≡ 0
-unfolding buildingFault
 in-order-last year g e =
     let p = passes year g e in
-    rw (p .0, walls-last year _ (p .1), p .2)
+    rw (fault-tests (pos lastYear) g, p .0, walls-last year _ (p .1), p .2)
 
 -- ---- apart only at a equal to b
 
@@ -50,9 +50,10 @@ sizes-apart : (g : Building) → outOfRange g ≡ false → (g .a ≡ g .b → �
 sizes-apart g e h q = let f = fields g e in h (sym (f .a .plain) ∙ ap pos q ∙ f .b .plain)
 
 pub fault-apart : (y z : ℤ) (g : Building) → (g .a ≡ g .b → ⊥) → buildingFault y g ≡ buildingFault z g
-unfolding buildingFault outOfWalls
+unfolding outOfWalls
 fault-apart y z g h =
-    by-test (outOfRange g) (λ e. rw e) (λ e. rw (e, begun-apart y z _ _ (sizes-apart g e h)))
+    rw (fault-tests y g, fault-tests z g)
+    (by-test (outOfRange g) (λ e. rw e) (λ e. rw (e, begun-apart y z _ _ (sizes-apart g e h))))
 
 pub given-apart : (y z : ℤ) (g : Building) → (g .a ≡ g .b → ⊥) → givenFault y g ≡ givenFault z g
 unfolding givenFault

@@ -28,17 +28,29 @@ pub(crate) fn out_of_form(g: Building) -> bool
     )
 }
 
-// Each number of the line with its least and its greatest.
+// The ranges of the line's numbers.
+pub(crate) const LEAST_LENGTH: i64 = 100;
+
+pub(crate) const MOST_LENGTH: i64 = 30000;
+
+pub(crate) const LEAST_DENSITY: i64 = 1000;
+
+pub(crate) const MOST_DENSITY: i64 = 1500;
+
+pub(crate) const LAST_KIND: i64 = 6;
+
+pub(crate) const MOST_X: i64 = 30000;
+
 pub(crate) fn out_of_range(g: Building) -> bool
     ensures { λ r. ⌜ r ≡ outOfRange g ⌝ }
 {
     any(
-        beyond(100, 30000, g.h),
-        beyond(100, 30000, g.a),
-        beyond(100, 30000, g.b),
-        beyond(1000, 1500, g.density),
-        beyond(0, 6, g.kind),
-        beyond(0, 30000, g.x),
+        beyond(LEAST_LENGTH, MOST_LENGTH, g.h),
+        beyond(LEAST_LENGTH, MOST_LENGTH, g.a),
+        beyond(LEAST_LENGTH, MOST_LENGTH, g.b),
+        beyond(LEAST_DENSITY, MOST_DENSITY, g.density),
+        beyond(0, LAST_KIND, g.kind),
+        beyond(0, MOST_X, g.x),
     )
 }
 
@@ -49,14 +61,14 @@ const GREATEST: [u64; 7] = [0, 600, 0, 100, 200, 900, 300];
 
 const BY_HEIGHT: [bool; 7] = [false, false, false, true, true, false, false];
 
-fn least(kind: usize) -> u64
+pub(crate) fn least(kind: usize) -> u64
     requires { ⌜ kind ≤ lastKind ⌝ }
     ensures { λ r. ⌜ r ≡ roofOf kind .least ⌝ }
 {
     LEAST[kind]
 }
 
-fn greatest(kind: usize) -> u64
+pub(crate) fn greatest(kind: usize) -> u64
     requires { ⌜ kind ≤ lastKind ⌝ }
     ensures { λ r. ⌜ r ≡ roofOf kind .greatest ⌝ }
 {
@@ -71,7 +83,7 @@ fn by_height(kind: usize) -> bool
 }
 
 // x, or 1000 x where it is compared with h.
-fn along(kind: u64, x: u64) -> u64
+pub(crate) fn along(kind: u64, x: u64) -> u64
     requires { ⌜ (kind ≤ lastKind) × (x ≤ 30000) ⌝ }
     ensures { λ r. ⌜ r ≡ alongOf kind x ⌝ }
 {

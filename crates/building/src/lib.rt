@@ -12,6 +12,7 @@ mod faults;
 pub mod kinds;
 pub mod limits;
 pub mod ratio;
+pub mod spots;
 mod tests;
 pub mod year;
 
@@ -43,6 +44,14 @@ pub struct Sizes {
     pub kind: u64,
     pub along: u64,
     pub across: u64,
+}
+
+// A field of a line by its number, from 1, and what may stand there where a range says it, 0 and 0 where none does.
+// Field 0 is the line as a whole.
+pub struct Spot {
+    pub field: u32,
+    pub least: i64,
+    pub greatest: i64,
 }
 
 // A question in order is one about these sizes; or its refusal.

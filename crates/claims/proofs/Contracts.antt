@@ -34,6 +34,9 @@ pub use Rattle.building.proofs.kinds.knows.Reads as knows
 pub use Rattle.building.proofs.kinds.single.Reads as single
 pub use Rattle.building.proofs.kinds.on_walls.Reads as on-walls
 pub use Rattle.building.proofs.kinds.wall_place.Reads as wall-place
+pub use Rattle.building.proofs.spots.ranged.Reads as ranged
+pub use Rattle.building.proofs.spots.field_spot.Reads as building-field-spot
+pub use Rattle.building.proofs.spots.building_spot.Reads as building-spot
 pub use Rattle.building.proofs.limits.beyond.Reads as beyond
 pub use Rattle.building.proofs.limits.too_long.Reads as too-long
 pub use Rattle.building.proofs.asked.Reads as asked
@@ -71,6 +74,11 @@ pub use Rattle.rules.proofs.entries.wind_fault.Reads as wind-fault
 pub use Rattle.rules.proofs.entries.internal_fault.Reads as internal-fault
 pub use Rattle.rules.proofs.entries.face_fault.Reads as face-fault
 pub use Rattle.rules.proofs.faults.line_fault.Reads as line-fault
+pub use Rattle.rules.proofs.form_of.count_of.Reads as count-of
+pub use Rattle.rules.proofs.form_of.formed_at.Reads as formed-at
+pub use Rattle.rules.proofs.form_of.in_form.Reads as in-form
+pub use Rattle.rules.proofs.spots.line_spot.Reads as line-spot
+pub use Rattle.rules.proofs.spots.field_spot.Reads as field-spot
 pub use Rattle.job.proofs.entry_count.Reads as entry-count
 pub use Rattle.job.proofs.no_face.Reads as no-face
 pub use Rattle.job.proofs.with_faces.Reads as with-faces
@@ -79,6 +87,7 @@ pub use Rattle.job.proofs.judge.new_face_fault.Reads as new-face-fault
 pub use Rattle.sheet.proofs.read.read_sheet.Reads as read-sheet
 pub use Rattle.sheet.proofs.read.read_into.Reads as read-into
 pub use Rattle.sheet.proofs.read.verdict_of.Reads as verdict-of
+pub use Rattle.slip.proofs.slip_of.Reads as slip-of
 pub use Rattle.mend.proofs.mend.Reads as mend
 pub use Rattle.rose.proofs.new.Reads as rose-new
 pub use Rattle.rose.proofs.take.Reads as rose-take
@@ -117,6 +126,7 @@ pub use Rattle.column.proofs.column_of.Reads as column-of
 pub use Rattle.column.proofs.column_in.Reads as column-in
 pub use Rattle.claims.proofs.LentFaces as gather
 pub use Rattle.aralimogga.proofs.aral_read.Reads as aral-read
+pub use Rattle.aralimogga.proofs.aral_where.Reads as aral-where
 pub use Rattle.aralimogga.proofs.aral_rewrite.Reads as aral-rewrite
 pub use Rattle.aralimogga.proofs.aral_report.Reads as aral-report
 pub use Rattle.aralimogga.proofs.aral_plain.Reads as aral-plain

@@ -1,7 +1,10 @@
 -- One line for each public function: its contract leaves no choice of the result, nor of what a lent buffer then
 -- holds.
 use mathlib.Core.Path.{_≡_, sym, _∙_}
-use mathlib.Core.List.{List}
+use mathlib.Core.Bool.{true}
+use mathlib.Core.List.{List, []}
+use lib.IntN.{pos}
+use Rattle.job.specs.Carried.{noBuilding}
 use Prim.Native.Nat.{ℕ}
 use denote.Ref.{now}
 use Rattle.claims.specs.Contract.{OneAnswer, OneAnswerAndBuffer}
@@ -139,6 +142,15 @@ on-walls-determined κ a r r′ s s′ p q = same p q
 wall-place-determined : OneAnswer of.wall-place.Post
 wall-place-determined κ a r r′ s s′ p q = same p q
 
+ranged-determined : OneAnswer of.ranged.Post
+ranged-determined κ a r r′ s s′ p q = same p q
+
+building-field-spot-determined : OneAnswer of.building-field-spot.Post
+building-field-spot-determined κ a r r′ s s′ p q = same (p (pos 0) noBuilding) (q (pos 0) noBuilding)
+
+building-spot-determined : OneAnswer of.building-spot.Post
+building-spot-determined κ a r r′ s s′ p q = same p q
+
 beyond-determined : OneAnswer of.beyond.Post
 beyond-determined κ a r r′ s s′ p q = same p q
 
@@ -259,6 +271,21 @@ face-fault-determined κ a r r′ s s′ p q = same p q
 line-fault-determined : OneAnswer of.line-fault.Post
 line-fault-determined κ a r r′ s s′ p q = same p q
 
+count-of-determined : OneAnswer of.count-of.Post
+count-of-determined κ a r r′ s s′ p q = same p q
+
+formed-at-determined : OneAnswer of.formed-at.Post
+formed-at-determined κ a r r′ s s′ p q = same (p true) (q true)
+
+in-form-determined : OneAnswer of.in-form.Post
+in-form-determined κ a r r′ s s′ p q = same p q
+
+line-spot-determined : OneAnswer of.line-spot.Post
+line-spot-determined κ a r r′ s s′ p q = same p q
+
+field-spot-determined : OneAnswer of.field-spot.Post
+field-spot-determined κ a r r′ s s′ p q = same (p []) (q [])
+
 -- ---- job
 
 entry-count-determined : OneAnswer of.entry-count.Post
@@ -286,6 +313,11 @@ read-into-determined κ a r r′ s s′ p q = same-both p q
 
 verdict-of-determined : OneAnswer of.verdict-of.Post
 verdict-of-determined κ a r r′ s s′ p q = same p q
+
+-- ---- slip
+
+slip-of-determined : OneAnswer of.slip-of.Post
+slip-of-determined κ a r r′ s s′ p q = same p q
 
 -- ---- mend
 
@@ -425,6 +457,9 @@ gather-determined κ a r r′ s s′ p q = same p q
 
 aral-read-determined : OneAnswer of.aral-read.Post
 aral-read-determined κ a r r′ s s′ p q = same p q
+
+aral-where-determined : OneAnswer of.aral-where.Post
+aral-where-determined κ a r r′ s s′ p q = same p q
 
 aral-rewrite-determined : OneAnswerAndBuffer of.aral-rewrite.Post (λ κ s. now (s .1 .0))
 aral-rewrite-determined κ a r r′ s s′ p q = same-both p q

@@ -12,6 +12,7 @@ use Rattle.verdict.specs.Verdict.{refusal}
 use Rattle.building.specs.declared.Building.{Building}
 use Rattle.building.specs.Year.{isYear, hasHeights, hasSquares, buildingLine}
 use Rattle.building.specs.Building.{outOfRange, outOfWalls, outOfRoof, sizes, buildingFault}
+use Rattle.building.proofs.Tested.{fault-tests}
 use Rattle.entry_written.specs.Fields.{buildingFields}
 use Rattle.job.specs.Carried.{Carried}
 use Rattle.job.specs.Lines.{entriesOf, sheetOf, linesOf}
@@ -144,15 +145,16 @@ module _ (g : Building) (ranged : outOfRange g ≡ false) (square : g .a ≡ g .
   at-least = le-leb side (natAbs (g .a)) (omega (arith, ap natAbs square))
 
   refused : (year : ℤ) → hasSquares year ≡ false → buildingFault year g ≡ 4
-  unfolding buildingFault outOfWalls
+  unfolding outOfWalls
   refused year y =
-      rw (ranged, y, not-over)
+      rw (fault-tests year g, ranged, y, not-over)
       (before-it (not (leb (1 * natAbs (g .h)) (6 * side))) (not (leb (1 * natAbs (g .a)) (4 * side))) _)
 
   taken : natAbs (g .h) ≤ 6 * side → outOfRoof (sizes g) ≡ false → buildingFault (pos 3) g ≡ 0
-  unfolding buildingFault outOfWalls
+  unfolding outOfWalls
   taken h roof =
       rw (
+        fault-tests (pos 3) g,
         ranged,
         le-leb (1 * natAbs (g .h)) (6 * side) (omega arith),
         at-least,

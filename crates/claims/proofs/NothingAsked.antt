@@ -118,6 +118,15 @@ on-walls-asks κ a = tt
 wall-place-asks : AsksNothing of.wall-place.Asked
 wall-place-asks κ a = tt
 
+ranged-asks : AsksNothing of.ranged.Asked
+ranged-asks κ a = tt
+
+building-field-spot-asks : AsksNothing of.building-field-spot.Asked
+building-field-spot-asks κ a = tt
+
+building-spot-asks : AsksNothing of.building-spot.Asked
+building-spot-asks κ a = tt
+
 beyond-asks : AsksNothing of.beyond.Asked
 beyond-asks κ a = tt
 
@@ -237,6 +246,21 @@ face-fault-asks κ a = tt
 line-fault-asks : AsksNothing of.line-fault.Asked
 line-fault-asks κ a = tt
 
+count-of-asks : AsksNothing of.count-of.Asked
+count-of-asks κ a = tt
+
+formed-at-asks : AsksNothing of.formed-at.Asked
+formed-at-asks κ a = tt
+
+in-form-asks : AsksNothing of.in-form.Asked
+in-form-asks κ a = tt
+
+line-spot-asks : AsksNothing of.line-spot.Asked
+line-spot-asks κ a = tt
+
+field-spot-asks : AsksNothing of.field-spot.Asked
+field-spot-asks κ a = tt
+
 -- ---- job
 
 entry-count-asks : AsksNothing of.entry-count.Asked
@@ -264,6 +288,11 @@ read-into-asks κ a = tt
 
 verdict-of-asks : AsksNothing of.verdict-of.Asked
 verdict-of-asks κ a = tt
+
+-- ---- slip
+
+slip-of-asks : AsksNothing of.slip-of.Asked
+slip-of-asks κ a = tt
 
 -- ---- mend
 
@@ -402,6 +431,9 @@ gather-asks κ a = tt
 
 aral-read-asks : AsksNothing of.aral-read.Asked
 aral-read-asks κ a = tt
+
+aral-where-asks : AsksNothing of.aral-where.Asked
+aral-where-asks κ a = tt
 
 aral-rewrite-asks : AsksNothing of.aral-rewrite.Asked
 aral-rewrite-asks κ a = tt

@@ -20,11 +20,11 @@ use Rattle.lines.specs.Held.{until, fieldLength}
 -- ---- the first b
 
 module _ (b : ℕ) (s : List ℕ) (i : ℕ) where
-  until-here : i < length s → getD s i 0 ≡ b → until b (drop i s) ≡ 0
+  pub until-here : i < length s → getD s i 0 ≡ b → until b (drop i s) ≡ 0
   unfolding until
   until-here h e = rw (drop-cons s i 0) (simp (eq-eqb _ _ e))
 
-  until-on : i < length s → (getD s i 0 ≡ b → ⊥) → until b (drop i s) ≡ suc (until b (drop (i + 1) s))
+  pub until-on : i < length s → (getD s i 0 ≡ b → ⊥) → until b (drop i s) ≡ suc (until b (drop (i + 1) s))
   unfolding until
   until-on h e = rw (add-one, drop-cons s i 0) (simp (ne-eqb _ _ e))
 

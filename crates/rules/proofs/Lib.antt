@@ -2,3 +2,4 @@
 pub mod Form
 pub mod Rising
 pub mod Line
+pub mod Spotted

@@ -1,7 +1,7 @@
 -- The form of a line: so many fields, and what each of them must be.
-use Prim.Native.Nat.{ℕ}
+use Prim.Native.Nat.{ℕ, suc}
 use mathlib.Core.List.{List, [], _∷_}
-use mathlib.Core.Bool.{Bool, true, false, not, _&&_, _||_}
+use mathlib.Core.Bool.{Bool, true, false, not, cond, _&&_, _||_}
 use lib.Dec.{eqb}
 use lib.ListN.{replicate}
 use Rattle.field.specs.declared.Field.{Field}
@@ -42,6 +42,12 @@ inForm [] [] = true
 inForm [] (f ∷ fs) = false
 inForm (w ∷ ws) [] = false
 inForm (w ∷ ws) (f ∷ fs) = hasForm w f && inForm ws fs
+
+-- the first field, from 1, that is not of its form, is one too many, or is missing
+unfoldable pub firstOut : List FieldForm → List Field → ℕ
+firstOut [] fs = 1
+firstOut (w ∷ ws) [] = 1
+firstOut (w ∷ ws) (f ∷ fs) = cond (hasForm w f) (suc (firstOut ws fs)) 1
 
 abbrev pub numberForms : ℕ → List FieldForm
 numberForms n = replicate n Number

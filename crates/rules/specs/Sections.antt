@@ -6,8 +6,8 @@ use lib.Dec.{eqb}
 use lib.IntN.{ℤ, pos}
 use lib.ListN.{getD}
 use Rattle.field.specs.declared.Field.{Field}
-use Rattle.building.specs.Test.{beyond}
-use Rattle.building.specs.Fault.{Fault, fault, first}
+use Rattle.building.specs.declared.Spot.{Spot}
+use Rattle.building.specs.Fault.{ranged, spot, Fault, fault, outside, first, firstSpot, spotOf}
 use Rattle.building.specs.Building.{faults}
 use Rattle.rules.specs.declared.Before.{Before}
 use Rattle.rules.specs.declared.FieldForm.{FieldForm}
@@ -18,7 +18,7 @@ use Rattle.rules.specs.declared.Kind.{Kind}
 use Rattle.rules.specs.declared.Kind.the-variants.{Count, Entry}
 use Rattle.building.specs.Year.{hasHeights, faceLimit}
 use Rattle.entry.specs.Says.{number, letter, at, yearOf, buildingOf, windOf, internalOf, stepOf, faceOf}
-use Rattle.rules.specs.Form.{inForm, numberForms}
+use Rattle.rules.specs.Form.{inForm, firstOut, numberForms}
 use Rattle.rules.specs.Faults.{yearFaults, windFaults, internalFaults, stepFaults, faceFaults}
 
 -- a section: its letter, and its least and, by the year, its greatest count
@@ -62,8 +62,8 @@ forms heights (Entry F) = form.Capital ∷ form.Mark ∷ numberForms (cond heigh
 -- a letter that is not the section's; a count outside its limits in that year
 abbrev pub countFaults : ℤ → Section → ℕ → ℤ → List Fault
 countFaults year s l n =
-    fault 1 (not (eqb l (about s .letter)))
-    ∷ fault 2 (beyond (pos (about s .least)) (pos (about s .most year)) n)
+    fault 1 (not (eqb l (about s .letter))) (spot 1)
+    ∷ outside 2 (ranged 2 (pos (about s .least)) (pos (about s .most year))) n
     ∷ []
 
 -- by what the lines before it say
@@ -83,3 +83,8 @@ formsBy b k = forms (hasHeights (b .year)) k
 -- the lowest fault of a line, 0 where there is none: one out of form has 1
 unfoldable pub lineFault : Kind → Before → List Field → ℕ
 lineFault k b fs = cond (inForm (formsBy b k) fs) (first (faultsOf k b fs)) 1
+
+-- where a line has it: in the first field that is not in form, or where the first fault that is found lies
+unfoldable pub lineSpot : Kind → Before → List Field → Spot
+lineSpot k b fs =
+    cond (inForm (formsBy b k) fs) (firstSpot (faultsOf k b fs)) (spotOf (firstOut (formsBy b k) fs) (faultsOf k b fs))

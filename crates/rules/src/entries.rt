@@ -16,6 +16,7 @@ use entry::Step;
 use entry::Wind;
 ghost use mathlib.Core.Path.{_≡_};
 ghost use mathlib.Core.Bool.{cond, _||_};
+ghost use Prim.Native.Nat.{ℕ};
 ghost use Rattle.building.specs.Fault.{first};
 ghost use Rattle.building.specs.Places as places;
 ghost use Rattle.building.specs.Test as test;
@@ -23,6 +24,24 @@ ghost use Rattle.entry.specs.Says.{both};
 ghost use Rattle.rules.specs.Faults.{yearFaults, windFaults, internalFaults, heightFault, stepFaults};
 ghost use Rattle.rules.specs.Faults.{unmarkedWall, areaFault, offProfile, faceFaults};
 ghost use Rattle.rules.specs.Sections.{countFaults};
+
+// The ranges of an entry's numbers: the year that a sheet says, a speed, an internal coefficient, a height, a factor
+// and an area.
+pub(crate) const FIRST_SAID: i64 = 2;
+
+pub(crate) const MOST_SPEED: i64 = 1000;
+
+pub(crate) const LEAST_INTERNAL: i64 = -100;
+
+pub(crate) const MOST_INTERNAL: i64 = 100;
+
+pub(crate) const MOST_HEIGHT: i64 = 30000;
+
+pub(crate) const MOST_FACTOR: i64 = 1000;
+
+pub(crate) const LEAST_AREA: i64 = -100000;
+
+pub(crate) const MOST_AREA: i64 = 100000;
 
 // Fault n where it is found, and else the next that is.
 fn fault(n: u32, found: bool, next: u32) -> u32
@@ -49,7 +68,7 @@ pub fn count_fault(year: i64, s: Section, letter: u8, n: i64) -> u32
 pub fn year_fault(year: i64) -> u32
     ensures { λ r. ⌜ r ≡ first (yearFaults year) ⌝ }
 {
-    fault(3, beyond(2, LAST_YEAR, year), 0)
+    fault(3, beyond(FIRST_SAID, LAST_YEAR, year), 0)
 }
 
 pub fn wind_fault(g: Building, w: Wind) -> u32
@@ -58,33 +77,33 @@ pub fn wind_fault(g: Building, w: Wind) -> u32
     fault(
         3,
         !knows(g.kind, w.direction),
-        fault(3, beyond(1, 1000, w.speed), 0),
+        fault(3, beyond(1, MOST_SPEED, w.speed), 0),
     )
 }
 
 pub fn internal_fault(i: i64) -> u32
     ensures { λ r. ⌜ r ≡ first (internalFaults i) ⌝ }
 {
-    fault(3, beyond(-100, 100, i), 0)
+    fault(3, beyond(LEAST_INTERNAL, MOST_INTERNAL, i), 0)
 }
 
 fn height_fault(z: i64, next: u32) -> u32
-    ensures { λ r. ⌜ r ≡ cond (heightFault z .found) 3 next ⌝ }
+    ensures { λ r. ⌜ ((field : ℕ) → r ≡ cond (heightFault field z .found) 3 next) ⌝ }
 {
-    fault(3, beyond(0, 30000, z), next)
+    fault(3, beyond(0, MOST_HEIGHT, z), next)
 }
 
 // A step behind one of this height.
 pub fn step_fault(highest: i64, s: Step) -> u32
     ensures { λ r. ⌜ r ≡ first (stepFaults highest s) ⌝ }
 {
-    let factor = fault(3, beyond(1, 1000, s.factor), 0);
+    let factor = fault(3, beyond(1, MOST_FACTOR, s.factor), 0);
     let rise = fault(3, !(highest < s.height), factor);
     height_fault(s.height, rise)
 }
 
 // A letter from A to H.
-fn is_zone(b: u8) -> bool
+pub(crate) fn is_zone(b: u8) -> bool
     ensures { λ r. ⌜ r ≡ test.among places.A places.H b ⌝ }
 {
     if b < b'A' {
@@ -94,7 +113,7 @@ fn is_zone(b: u8) -> bool
 }
 
 // For every direction, or for one that the roof knows.
-fn is_marked(g: Building, m: i64) -> bool
+pub(crate) fn is_marked(g: Building, m: i64) -> bool
     ensures { λ r. ⌜ r ≡ (test.is both m || places.knows (g .kind) m) ⌝ }
 {
     if m == BOTH {
@@ -104,7 +123,7 @@ fn is_marked(g: Building, m: i64) -> bool
 }
 
 // On a single slope, a wall that is not marked for a direction that the walls' table has.
-fn unmarked_wall(g: Building, f: Face) -> bool
+pub(crate) fn unmarked_wall(g: Building, f: Face) -> bool
     ensures { λ r. ⌜ r ≡ unmarkedWall (g .kind) f ⌝ }
 {
     if single(g.kind) {
@@ -116,12 +135,12 @@ fn unmarked_wall(g: Building, f: Face) -> bool
 }
 
 fn area_fault(z: i64, next: u32) -> u32
-    ensures { λ r. ⌜ r ≡ cond (areaFault z .found) 3 next ⌝ }
+    ensures { λ r. ⌜ ((field : ℕ) → r ≡ cond (areaFault field z .found) 3 next) ⌝ }
 {
-    fault(3, beyond(-100000, 100000, z), next)
+    fault(3, beyond(LEAST_AREA, MOST_AREA, z), next)
 }
 
-fn off_profile(b: Before, z: i64) -> bool
+pub(crate) fn off_profile(b: Before, z: i64) -> bool
     ensures { λ r. ⌜ r ≡ offProfile b z ⌝ }
 {
     if has_heights(b.year) {

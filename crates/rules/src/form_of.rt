@@ -71,7 +71,7 @@ fn has_form(w: FieldForm, f: Field) -> bool
 }
 
 // How many fields a line has.
-fn count_of(heights: bool, k: Kind) -> usize
+pub fn count_of(heights: bool, k: Kind) -> usize
     ensures { λ r. ⌜ r ≡ length (forms heights k) ⌝ }
 {
     match k {
@@ -125,7 +125,15 @@ fn form_at(k: Kind, i: usize) -> FieldForm
     }
 }
 
-pub(crate) fn in_form(heights: bool, k: Kind, x: Line) -> bool
+// Whether field i of a line is of the form that it must have.
+pub fn formed_at(k: Kind, i: usize, f: Field) -> bool
+    ensures { λ r. ⌜ ((heights : Bool) → r ≡ hasForm (getD (forms heights k) i FieldForm.Number) f) ⌝ }
+{
+    has_form(form_at(k, i), f)
+}
+
+// Whether a line is in form.
+pub fn in_form(heights: bool, k: Kind, x: Line) -> bool
     ensures { λ r. ⌜ r ≡ inForm (forms heights k) (held x) ⌝ }
 {
     let n = count_of(heights, k);

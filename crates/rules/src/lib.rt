@@ -3,8 +3,9 @@ use building::Building;
 
 pub mod entries;
 pub mod faults;
-mod form_of;
+pub mod form_of;
 pub mod shape;
+pub mod spots;
 
 // A section of the sheet, by its letter.
 pub enum Section {

@@ -24,7 +24,7 @@ use Rattle.job.proofs.Lines.{all-not-bad}
 use Rattle.sheet.proofs.Bytes.{BadAt, line-short}
 
 -- a line has from one to six fields
-fields : (h : Bool) (k : Kind) → (0 < length (forms h k)) × (length (forms h k) ≤ 6)
+pub fields : (h : Bool) (k : Kind) → (0 < length (forms h k)) × (length (forms h k) ≤ 6)
 fields h (Count s) = (omega arith, omega arith)
 fields h (Entry «V») = (omega arith, omega arith)
 fields h (Entry B) = (omega arith, omega arith)

@@ -6,8 +6,9 @@ use borrow.Author.Needs.{needs}
 use Rattle.whole.proofs.Size.{said}
 use Rattle.building.specs.declared.Sizes.{Sizes}
 use Rattle.building.specs.Order.{Ranged}
-use Rattle.building.specs.Building.{outOfRange, outOfWalls, outOfRoof, sizes, buildingFault}
+use Rattle.building.specs.Building.{outOfRange, outOfWalls, outOfRoof, sizes}
 use Rattle.building.proofs.Accepted.{fields, ranged}
+use Rattle.building.proofs.Tested.{fault-tests}
 use Rattle.building.proofs.building_fault.Statement.{statement}
 use Rattle.building.proofs.building_fault.Tie as tie
 
@@ -41,35 +42,42 @@ roof : (c : tie.After-out-of-roof)
 roof c = c .out-of-roof .ensures ∙ ap outOfRoof (sized (c .before .before .before .before))
 
 returns : tie.Need-returns
-unfolding buildingFault
-returns c = rw (sym (c .before .out-of-range .ensures) ∙ c .if1 .taken)
+returns c =
+    let d = c .before .before .args .d in
+    rw (fault-tests (d .year) (d .building), sym (c .before .out-of-range .ensures) ∙ c .if1 .taken)
 
 sizes-of-requires : tie.Need-sizes-of-requires
 sizes-of-requires c κs = in-range c
 
 returns-2 : tie.Need-returns-2
-unfolding buildingFault
-returns-2 c = rw (in-range (c .before .before .before .before), sym (walls (c .before)) ∙ c .if2 .taken)
+returns-2 c =
+    let e = c .before .before .before .before in
+    let d = e .before .before .args .d in
+    rw (fault-tests (d .year) (d .building), in-range e, sym (walls (c .before)) ∙ c .if2 .taken)
 
 out-of-roof-requires : tie.Need-out-of-roof-requires
 out-of-roof-requires c κs = small (c .before .before .before)
 
 returns-3 : tie.Need-returns-3
-unfolding buildingFault
 returns-3 c =
     let w = c .before .before in
+    let e = w .before .before .before .before in
+    let d = e .before .before .args .d in
     rw (
-      in-range (w .before .before .before .before),
+      fault-tests (d .year) (d .building),
+      in-range e,
       sym (walls (w .before)) ∙ w .if2 .left,
       sym (roof (c .before)) ∙ c .if3 .taken,
     )
 
 returns-4 : tie.Need-returns-4
-unfolding buildingFault
 returns-4 c =
     let w = c .before .before in
+    let e = w .before .before .before .before in
+    let d = e .before .before .args .d in
     rw (
-      in-range (w .before .before .before .before),
+      fault-tests (d .year) (d .building),
+      in-range e,
       sym (walls (w .before)) ∙ w .if2 .left,
       sym (roof (c .before)) ∙ c .if3 .left,
     )

@@ -9,7 +9,7 @@ use Rattle.rules.proofs.entries.area_fault.Statement.{statement}
 use Rattle.rules.proofs.entries.area_fault.Tie as tie
 
 returns : tie.Need-returns
-returns c =
+returns c field =
     let s = c .before .before in
     c .fault .ensures
     ∙ ap (λ (t : Bool). cond t 3 (s .args .next))

@@ -9,7 +9,7 @@ use Rattle.rules.proofs.entries.height_fault.Statement.{statement}
 use Rattle.rules.proofs.entries.height_fault.Tie as tie
 
 returns : tie.Need-returns
-returns c =
+returns c field =
     let s = c .before .before in
     found-or 3 (said (beyond (pos 0) (pos 30000)) (s .args .z) (c .before .beyond .ensures) (s .fits .z .sfits)) refl
     (c .fault .ensures)

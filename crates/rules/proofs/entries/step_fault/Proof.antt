@@ -19,13 +19,13 @@ returns c =
     let s = f .before .before .before in
     let q = f .before .before .struct-told .given in
     let z = s .args .s .height in
-    said-or heightFault 3 z (q .0 .1)
+    said-or (heightFault 1) 3 z (q .0 .1)
     (found-or 3 (ap not (ap₂ ltZ (returned w64 (s .args .highest) (s .fits .highest .sfits) .same)
     (returned w64 z (q .0 .1) .same)))
     (found-or 3 (said (beyond (pos 1) (pos 1000)) (s .args .s .factor) (f .before .beyond .ensures) (q .1 .0 .1)) refl
     (f .fault .ensures))
     (r .fault2 .ensures))
-    (c .height-fault .ensures)
+    (c .height-fault .ensures 1)
 
 pub step-fault-spec : {M : Type 1} → statement M
 step-fault-spec =

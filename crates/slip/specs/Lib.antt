@@ -1,0 +1,2 @@
+-- Where the first fault of a sheet lies.
+pub mod Slip
