@@ -1,6 +1,5 @@
 /* aral: the calculator on the command line, for people. It links libaralimogga.a and reckons nothing itself: where it
    shows each case, or a column, it adds up the faces' forces; of a rose it adds up cells. */
-#define _POSIX_C_SOURCE 200809L
 #include "aralimogga.h"
 #include "cases.h"
 #include "edit.h"
@@ -13,7 +12,6 @@
 #include "winds.h"
 #include "words.h"
 #include <errno.h>
-#include <fcntl.h>
 #include <inttypes.h>
 #include <stdio.h>
 #include <stdlib.h>
@@ -342,16 +340,8 @@ static int run_command(const char *name, int count, char **word)
     return MISUSED;
 }
 
-/* A closed standard stream stays one that can't be used, and is not the next file that is opened. */
-static void hold_streams(void)
-{
-    for (int stream = 0; stream < 3; stream++)
-        if (fcntl(stream, F_GETFD) < 0 && open("/dev/null", stream ? O_RDONLY : O_WRONLY) < 0) exit(MISUSED);
-}
-
 int main(int argc, char **argv)
 {
-    hold_streams();
     int status = answer_front(argc - 1, argv + 1);
     if (status < 0 && !strcmp(argv[1], "ask")) status = ask(argc - 2, argv + 2);
     else if (status < 0) status = run_command(argv[1], argc - 2, argv + 2);
