@@ -77,8 +77,9 @@ static const command commands[] = {
     {"rose", "--svg", 1, 1, "FILE",
      "  aral rose FILE     a wind rose as a table: the observations of FILE by sector and Beaufort number\n"
      "  aral rose --svg FILE      the same as a drawing, for a browser: aral rose --svg FILE >rose.svg\n",
-     "The FILE of `rose` has a line for each observation, written as those of a sheet: the direction that the wind\n"
-     "comes from, in whole degrees, 0 to 359, and its speed in tenths of m/s, 0 to 1000. It may have 1000000 lines.\n"},
+     "The FILE of `rose`, or - for standard input, has a line for each observation, written as those of a sheet: the\n"
+     "direction that the wind comes from, in whole degrees, 0 to 359, and its speed in tenths of m/s, 0 to 1000. It\n"
+     "may have 1000000 lines.\n"},
     {"ask", "", 0, 1000, "",
      "  aral ask WORDS     one coefficient and the printed rows that it comes from, as:\n"
      "                       aral ask h 500 a 1200 b 1000 kind 1 x 123 wind 0 zone E internal -30\n"

@@ -199,12 +199,12 @@ typedef struct {
     aral_profile profile;
 } aral_setting;
 
-/* For each wind and internal coefficient, both counted from 0, cell[4 * wind + internal] has on each axis the greatest
-   and the least total over every choice of the faces' alternatives, in every year as a pair. Cells past the counts are
-   no part of the sums. */
+/* For each wind and internal coefficient, both counted from 0, cell[ARAL_INTERNALS_MOST * wind + internal] has on each
+   axis the greatest and the least total over every choice of the faces' alternatives, in every year as a pair. Cells
+   past the counts are no part of the sums. */
 typedef struct { aral_pair greatest, least; } aral_span;
 typedef struct { aral_span x, y, z; } aral_sum_cell;
-typedef struct { aral_sum_cell cell[32]; } aral_sums;
+typedef struct { aral_sum_cell cell[ARAL_WINDS_MOST * ARAL_INTERNALS_MOST]; } aral_sums;
 
 /* A job that the host holds while its faces are edited, and its sums, kept from edit to edit. It may hold anything:
    each call judges the held job first, with the number and line that its sheet would get. So a number of more than
