@@ -35,7 +35,8 @@ static int load(const char *name)
     length = fread(sheet, 1, sizeof sheet, file);
     longer = length == sizeof sheet && getc(file) != EOF;
     int good = !ferror(file);
-    if (!good) fprintf(stderr, "aral: %s can't be read: %s\n", file == stdin ? "standard input" : name, strerror(errno));
+    if (file == stdin) name = "standard input";
+    if (!good) fprintf(stderr, "aral: %s can't be read: %s\n", name, strerror(errno));
     if (file != stdin) fclose(file);
     return good;
 }

@@ -25,8 +25,8 @@ static const char sheets[] =
     "One of year 4 opens with `V 1` and `4`, is written in the same way, and may have 240 faces; others have 24.\n";
 
 static const char statuses[] =
-    "The exit status is 0; 1 where the sheet, the question, an edit or the observations are refused; 2 where the words\n"
-    "are none of these, or something can't be read or written.\n";
+    "The exit status is 0; 1 where the sheet, the question, an edit or the observations are refused; 2 where the\n"
+    "words are none of these, or something can't be read or written.\n";
 
 static const char help_brief[] =
     "  aral help          this text\n"
@@ -48,8 +48,8 @@ static const command commands[] = {
      "line.\n"},
     {"check", "", 1, 1, "FILE",
      "  aral check FILE    whether the sheet is accepted, and if not, which line is wrong and what it may say;\n"
-     "                     of an accepted one also which of its winds change nothing, of another also whether mending\n"
-     "                     would help\n",
+     "                     of an accepted one also which of its winds change nothing, of another also whether\n"
+     "                     mending would help\n",
      ""},
     {"mend", "", 1, 1, "FILE",
      "  aral mend FILE     the sheet without slips of the keyboard; on standard error what was taken out, at which\n"
@@ -60,8 +60,8 @@ static const command commands[] = {
     {"plain", "--cases", 1, 1, "FILE",
      "  aral plain FILE    the same six lines by the plain engine, which walks every case, and how many there were\n"
      "  aral plain --cases FILE   each of these cases, with its totals on x, y and z\n",
-     "`plain` takes a sheet of which at most 8 faces have two alternatives: zone F of a flat roof, under a wind of its\n"
-     "mark.\n"},
+     "`plain` takes a sheet of which at most 8 faces have two alternatives: zone F of a flat roof, under a wind of\n"
+     "its mark.\n"},
     {"column", "", 2, 3, "FILE and LINE",
      "  aral column FILE LINE     whole newtons for each face that add up to the total of one line, for the handout;\n"
      "                            LINE is 1 to 6, or as the line begins: aral column FILE x max\n",
