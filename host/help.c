@@ -1,6 +1,7 @@
 /* What aral says of itself: its commands, the help of each, its version, and what is none of its words. It uses nothing
    of the library, so ./aral can ask it before that is built: FRONT makes it a program, which ends with 3 where the
    calculator is needed. */
+#define _POSIX_C_SOURCE 200809L
 #include "help.h"
 #include "aralimogga.h"
 #include "edit.h"
@@ -204,6 +205,23 @@ int answer_front(int count, char **word)
 }
 
 #ifdef FRONT
+#include <errno.h>
+#include <sys/stat.h>
+#include <unistd.h>
+
+/* A file that can't be read is told before the calculator is built for it. It is not opened: a pipe is read once. */
+static int judge_file(char **word)
+{
+    const command *c = command_of(word[0]);
+    struct stat about;
+    if (c->least == 0) return 3;
+    const char *name = word[*c->option && !strcmp(word[1], c->option) ? 2 : 1];
+    if (!strcmp(name, "-")) return 3;
+    int reason = access(name, R_OK) || stat(name, &about) ? errno : S_ISDIR(about.st_mode) ? EISDIR : 0;
+    if (reason) fprintf(stderr, "aral: %s can't be read: %s\n", name, strerror(reason));
+    return reason ? MISUSED : 3;
+}
+
 int main(int argc, char **argv)
 {
     int status = answer_front(argc - 1, argv + 1);
@@ -211,6 +229,6 @@ int main(int argc, char **argv)
         perror("aral: standard output can't be written");
         return MISUSED;
     }
-    return status < 0 ? 3 : status;
+    return status < 0 ? judge_file(argv + 1) : status;
 }
 #endif
