@@ -4,6 +4,7 @@
 #include "cases.h"
 #include "edit.h"
 #include "handout.h"
+#include "help.h"
 #include "mend.h"
 #include "rose.h"
 #include "rows.h"
@@ -15,54 +16,6 @@
 #include <stdio.h>
 #include <stdlib.h>
 #include <string.h>
-
-static const char help[] =
-    "aral: the forces of wind on a building, by the tables of ROM 0.4-95\n"
-    "\n"
-    "  aral totals FILE   the six worst totals: axis, max or min, total, wind, internal, each face's alternative\n"
-    "  aral check FILE    whether the sheet is accepted, and if not, which line is wrong and what it may say;\n"
-    "                     of an accepted one also which of its winds change nothing, of another also whether mending\n"
-    "                     would help\n"
-    "  aral mend FILE     the sheet without slips of the keyboard; on standard error what was taken out, at which\n"
-    "                     byte of which line, and what is refused all the same: aral mend FILE >NEW\n"
-    "  aral plain FILE    the same six lines by the plain engine, which walks every case, and how many there were\n"
-    "  aral plain --cases FILE   each of these cases, with its totals on x, y and z\n"
-    "  aral column FILE LINE     whole newtons for each face that add up to the total of one line, for the handout;\n"
-    "                            LINE is 1 to 6, or as the line begins: aral column FILE x max\n"
-    "  aral panel FILE    the six totals in newtons, and the doubles that a panel shows for them\n"
-    "  aral edit FILE     faces added, replaced and taken out line by line, with the six totals after each;\n"
-    "                     its `help` says how, and its lines may come through a pipe\n"
-    "  aral rose FILE     a wind rose as a table: the observations of FILE by sector and Beaufort number\n"
-    "  aral rose --svg FILE      the same as a drawing, for a browser: aral rose --svg FILE >rose.svg\n"
-    "  aral ask WORDS     one coefficient and the printed rows that it comes from, as:\n"
-    "                       aral ask h 500 a 1200 b 1000 kind 1 x 123 wind 0 zone E internal -30\n"
-    "                       aral ask year 3 h 500 a 1000 b 1000 wind 0 zone B\n"
-    "  aral help          this text\n"
-    "\n"
-    "FILE is a sheet, or - for standard input. A total is in units of 0.00000000005 N: 20000000000 of them are 1 N.\n"
-    "In `ask`: year is 1 to 4, and 1 where left out; h, a, b in cm (height, longer side, shorter side); kind and x\n"
-    "  are the roof's, 0 where left out:\n"
-    "  kind 0 none; 1 gable, x the slope in tenths of a degree; 2 flat, straight eaves; 3 parapet, x its height\n"
-    "  in cm; 4 curved eaves, x the radius in cm; 5 mansard, x its angle in tenths of a degree; 6 a single slope,\n"
-    "  x in tenths of a degree, 50 to 300;\n"
-    "wind is 0 or 90, with kind 6 also 45, 135 or 180; zone is A to H, or local is wall, L1 or L2; internal, in\n"
-    "hundredths, asks for the net too.\n"
-    "In a sheet of kind 6 winds and marks may be any of these five, and - marks a roof face for all five. A wall\n"
-    "face, A to D, is then marked 0 or 90, since the book has walls in no other wind; one for both takes two lines.\n"
-    "A sheet of year 2 opens with `V 1` and the line `2`. After I it has a section P, the wind's profile: heights in\n"
-    "cm, each with its part of the speed in thousandths; and each face has a height in cm after its mark.\n"
-    "One of year 3 opens with `V 1` and `3`, is written in the same way, and may have a square plan, a equal to b.\n"
-    "One of year 4 opens with `V 1` and `4`, is written in the same way, and may have 240 faces; others have 24. Its\n"
-    "totals are two numbers: whole newtons, rounded down, and what remains, 0 to 19999999999 units.\n"
-    "`mend` takes out carriage returns, spaces that follow a space or end a line, a plus before a number and zeros\n"
-    "that lead it, and ends the last line. It changes nothing else, and a sheet in form not at all.\n"
-    "The FILE of `rose` has a line for each observation, written as those of a sheet: the direction that the wind\n"
-    "comes from, in whole degrees, 0 to 359, and its speed in tenths of m/s, 0 to 1000. It may have 1000000 lines.\n"
-    "\n"
-    "The exit status is 0, or 1 where the sheet, the question or the observations are refused, or 2 where the command\n"
-    "is none of these.\n"
-    "That of `edit` is the worst of its lines: 1 where an edit was refused or a file could not be written, 2 where a\n"
-    "line was none of its own. That of `mend` is 1 where the mended sheet is refused or could not be written.\n";
 
 /* ---- Sheets ---- */
 
@@ -76,13 +29,14 @@ static int load(const char *name)
 {
     FILE *file = strcmp(name, "-") ? fopen(name, "rb") : stdin;
     if (!file) {
-        fprintf(stderr, "aral: %s can't be opened\n", name);
+        fprintf(stderr, "aral: %s can't be opened: %s\n", name, strerror(errno));
         return 0;
     }
     length = fread(sheet, 1, sizeof sheet, file);
     longer = length == sizeof sheet && getc(file) != EOF;
     int good = !ferror(file);
-    if (!good) fprintf(stderr, "aral: %s can't be read\n", name);
+    if (file == stdin) name = "standard input";
+    if (!good) fprintf(stderr, "aral: %s can't be read: %s\n", name, strerror(errno));
     if (file != stdin) fclose(file);
     return good;
 }
@@ -115,8 +69,13 @@ static int check(void)
 
 static int mend(void)
 {
-    if (!longer) return show_mended(sheet, length);
-    fprintf(stderr, "aral: what has more than %zu bytes is not mended\n", sizeof sheet);
+    if (longer) {
+        fprintf(stderr, "aral: what has more than %zu bytes is not mended\n", sizeof sheet);
+        return MISUSED;
+    }
+    int status = show_mended(sheet, length);
+    if (!ferror(stdout)) return status;
+    clearerr(stdout); /* it was said */
     return MISUSED;
 }
 
@@ -124,12 +83,13 @@ static int edit_sheet(void) { return edit(sheet, length); }
 
 static int plain(void) { return show_plain(sheet, length); }
 
-/* A total in newtons to three decimals, the rest cut off. */
+/* A total in newtons to three decimals, the rest cut off; what is then zero has no sign. */
 static void print_newtons(units total)
 {
     uint64_t milli = (uint64_t)((total < 0 ? -total : total) / (NEWTON / 1000));
+    const char *sign = total < 0 && milli > 0 ? "-" : "";
     char text[40];
-    snprintf(text, sizeof text, "%s%" PRIu64 ".%03d", total < 0 ? "-" : "", milli / 1000, (int)(milli % 1000));
+    snprintf(text, sizeof text, "%s%" PRIu64 ".%03d", sign, milli / 1000, (int)(milli % 1000));
     printf("%16s N", text);
 }
 
@@ -169,19 +129,14 @@ static int panel(void)
 
 /* ---- Words ---- */
 
-static int misused(const char *what, const char *word)
-{
-    fprintf(stderr, "aral: %s %s; `aral help` shows how\n", what, word);
-    return MISUSED;
-}
-
-/* Whether the word is a whole number, and which. */
+/* Whether the word is a whole number, digits with at most one minus before them, and which. */
 static int whole(const char *word, int64_t *number)
 {
-    char *end = "";
+    const char *digits = word + (*word == '-');
+    if (!*digits || digits[strspn(digits, "0123456789")]) return 0;
     errno = 0;
-    *number = strtoll(word, &end, 10);
-    return end > word && !*end && !errno;
+    *number = strtoll(word, NULL, 10);
+    return !errno;
 }
 
 /* ---- Columns ---- */
@@ -199,8 +154,8 @@ static int column(const char *file, int count, char **word)
 {
     char said[40];
     int64_t line;
-    snprintf(said, sizeof said, count == 1 ? "%s" : "%s %s", word[0], word[count - 1]);
-    if (!line_of(said, &line)) return misused("not a line 1 to 6, or `x max` to `z min`:", said);
+    snprintf(said, sizeof said, "%s%s%s", word[0], count == 1 ? "" : " ", count == 1 ? "" : word[1]);
+    if (!line_of(said, &line)) return misused("column", "not a line 1 to 6, or `x max` to `z min`:", said);
     return load(file) ? show_column(sheet, length, line) : MISUSED;
 }
 
@@ -215,26 +170,36 @@ static uint8_t place_of(const char *kind, const char *word)
     return !strcmp(word, "wall") ? 'w' : !strcmp(word, "L1") ? '1' : !strcmp(word, "L2") ? '2' : 0;
 }
 
+static int misasked(const char *what, const char *word) { return misused("ask", what, word); }
+
+/* Takes the place that is said, `zone E` or `local wall`; 0, or the status of a misuse. */
+static int take_place(char **word, question *q)
+{
+    if (q->place) return misasked("a question has one zone or local, and another is said:", word[1]);
+    q->place = place_of(word[0], word[1]);
+    return q->place ? 0 : misasked("not a zone A to H or a local wall, L1 or L2:", word[1]);
+}
+
 /* Takes the words two by two; 0, or the status of a misuse. */
 static int take_words(int count, char **word, question *q)
 {
     static const char *const name[] = {"year", "h", "a", "b", "kind", "x", "wind", "density", "internal"};
     for (int i = 0; i < count; i += 2) {
         int k = 0;
-        if (i + 1 == count) return misused("nothing stands after", word[i]);
+        if (i + 1 == count) return misasked("nothing stands after", word[i]);
         if (!strcmp(word[i], "zone") || !strcmp(word[i], "local")) {
-            q->place = place_of(word[i], word[i + 1]);
-            if (!q->place) return misused("not a zone A to H or a local wall, L1 or L2:", word[i + 1]);
+            if (take_place(word + i, q)) return MISUSED;
             continue;
         }
         while (k < NUMBERS && strcmp(word[i], name[k])) k++;
-        if (k == NUMBERS) return misused("not a word of a question:", word[i]);
-        if (!whole(word[i + 1], &q->number[k])) return misused("not a whole number:", word[i + 1]);
+        if (k == NUMBERS) return misasked("not a word of a question:", word[i]);
+        if (q->given[k]) return misasked("said twice:", word[i]);
+        if (!whole(word[i + 1], &q->number[k])) return misasked("not a whole number:", word[i + 1]);
         q->given[k] = 1;
     }
     for (int k = H; k <= WIND; k++)
-        if (!q->given[k] && k != KIND && k != X) return misused("the question does not say", name[k]);
-    return q->place ? 0 : misused("the question does not say", "which zone or local");
+        if (!q->given[k] && k != KIND && k != X) return misasked("the question does not say", name[k]);
+    return q->place ? 0 : misasked("the question does not say", "which zone or local");
 }
 
 static void print_thousandths(int32_t value)
@@ -354,24 +319,36 @@ static int ask(int count, char **word)
     return ACCEPTED;
 }
 
-int main(int argc, char **argv)
+/* ---- The commands ---- */
+
+static int on_sheet(const char *name, int (*run)(void)) { return load(name) ? run() : MISUSED; }
+
+static int each_case(void) { return show_cases(sheet, length); }
+
+/* Runs a command, whose words are as many as it takes. */
+static int run_command(const char *name, int count, char **word)
 {
     static const struct { const char *name; int (*run)(void); } command[] = {
         {"totals", totals}, {"check", check}, {"mend", mend}, {"plain", plain}, {"panel", panel}, {"edit", edit_sheet}};
-    if (argc == 2 && (!strcmp(argv[1], "help") || !strcmp(argv[1], "--help"))) {
-        fputs(help, stdout);
-        return ACCEPTED;
-    }
-    if (argc >= 2 && !strcmp(argv[1], "ask")) return ask(argc - 2, argv + 2);
-    if (argc == 3 && !strcmp(argv[1], "edit") && !strcmp(argv[2], "-"))
-        return misused("standard input has the lines of the dialogue, and the sheet can't be", "-");
-    int drawn = argc > 2 && !strcmp(argv[2], "--svg");
-    if (argc == 3 + drawn && !strcmp(argv[1], "rose")) return show_rose(argv[2 + drawn], drawn);
-    if ((argc == 4 || argc == 5) && !strcmp(argv[1], "column")) return column(argv[2], argc - 3, argv + 3);
-    int each = argc > 2 && !strcmp(argv[1], "plain") && !strcmp(argv[2], "--cases");
-    if (each && argc == 4) return load(argv[3]) ? show_cases(sheet, length) : MISUSED;
-    for (size_t i = 0; argc == 3 && !each && i < sizeof command / sizeof *command; i++)
-        if (!strcmp(argv[1], command[i].name)) return load(argv[2]) ? command[i].run() : MISUSED;
-    fputs(help, stderr);
+    int option = !strcmp(word[0], "--svg") || !strcmp(word[0], "--cases");
+    if (!strcmp(name, "rose")) return show_rose(word[option], option);
+    if (!strcmp(name, "column")) return column(word[0], count - 1, word + 1);
+    if (option) return on_sheet(word[1], each_case);
+    if (!strcmp(name, "edit") && !strcmp(word[0], "-"))
+        return misused(name, "standard input has the lines of the dialogue, and the sheet can't be", word[0]);
+    for (size_t i = 0; i < sizeof command / sizeof *command; i++)
+        if (!strcmp(name, command[i].name)) return on_sheet(word[0], command[i].run);
+    return MISUSED;
+}
+
+int main(int argc, char **argv)
+{
+    int status = answer_front(argc - 1, argv + 1);
+    if (status < 0 && !strcmp(argv[1], "ask")) status = ask(argc - 2, argv + 2);
+    else if (status < 0) status = run_command(argv[1], argc - 2, argv + 2);
+    int lost = ferror(stdout);
+    errno = 0;
+    if (!fflush(stdout) && !lost) return status;
+    fprintf(stderr, "aral: standard output can't be written: %s\n", errno ? strerror(errno) : "some of it is lost");
     return MISUSED;
 }

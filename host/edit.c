@@ -69,9 +69,10 @@ static int write_into(const char *name)
         printf("written into %s\n", name);
         return ACCEPTED;
     }
+    int reason = errno;
     fflush(stdout);
-    fprintf(stderr, "aral: %s can't be written\n", name);
-    return REFUSED;
+    fprintf(stderr, "aral: %s can't be written: %s\n", name, strerror(reason));
+    return MISUSED;
 }
 
 /* ---- A new face ---- */
@@ -201,6 +202,12 @@ static int carry_out(char *word)
     return not_understood("not a word of this dialogue:", word);
 }
 
+static int not_read(void)
+{
+    fprintf(stderr, "aral: standard input can't be read: %s\n", strerror(errno));
+    return MISUSED;
+}
+
 static int dialogue(void)
 {
     char line[LINE_ROOM];
@@ -209,7 +216,7 @@ static int dialogue(void)
     while (!ended) {
         if (asked) printf("edit> ");
         fflush(stdout);
-        if (!take_line(line, &whole)) return worst;
+        if (!take_line(line, &whole)) return ferror(stdin) ? not_read() : worst;
         char *word = line + strspn(line, " ");
         int came = ACCEPTED;
         if (!whole) came = not_understood("too long, the line that begins", line);
@@ -228,8 +235,5 @@ int edit(const uint8_t *sheet, size_t n)
     }
     held = opened.worksheet;
     show("");
-    int worst = dialogue();
-    if (!fflush(stdout) && !ferror(stdout)) return worst;
-    fprintf(stderr, "aral: the answers can't be written\n");
-    return worst > REFUSED ? worst : REFUSED;
+    return dialogue();
 }

@@ -4,6 +4,7 @@
 #include "rose.h"
 #include "edit.h"
 #include "words.h"
+#include <errno.h>
 #include <inttypes.h>
 #include <stdio.h>
 #include <string.h>
@@ -160,20 +161,17 @@ int show_rose(const char *name, int drawn)
     static begun b;
     FILE *file = strcmp(name, "-") ? fopen(name, "rb") : stdin;
     if (!file) {
-        fprintf(stderr, "aral: %s can't be opened\n", name);
+        fprintf(stderr, "aral: %s can't be opened: %s\n", name, strerror(errno));
         return MISUSED;
     }
     aral_rose taken = read_rose(file, &b), rose = aral_rose_end(taken);
-    int good = !ferror(file);
-    if (file != stdin) fclose(file);
-    if (!good) {
-        fprintf(stderr, "aral: %s can't be read\n", name);
+    if (ferror(file)) {
+        fprintf(stderr, "aral: %s can't be read: %s\n", file == stdin ? "standard input" : name, strerror(errno));
         return MISUSED;
     }
+    if (file != stdin) fclose(file);
     if (rose.number) return refuse(&rose, &b, taken.number != 0, drawn);
     if (drawn) draw_rose(&rose);
     else print_table(&rose);
-    if (!fflush(stdout) && !ferror(stdout)) return ACCEPTED;
-    fprintf(stderr, "aral: the rose can't be written\n");
-    return REFUSED;
+    return ACCEPTED;
 }

@@ -16,10 +16,11 @@ void tell_unnamed_winds(const uint8_t *sheet, size_t n)
     for (uint32_t wind = 1; wind <= winds; wind++)
         if (!named[wind]) unnamed[count++] = wind;
     if (count == 0) return;
-    printf(count == 1 ? "Wind " : "Winds ");
+    fputs(count == 1 ? "Wind " : "Winds ", stdout);
     print_list(unnamed, count);
-    printf(count == 1 ? " changes nothing: no line names it. Without it the six totals and their cases stay, except\n"
-                        "that later winds are numbered one lower.\n"
-                      : " change nothing: no line names them. Without one or all of them the six totals and their\n"
-                        "cases stay, except that later winds are numbered lower.\n");
+    fputs(count == 1 ? " changes nothing: no line names it. Without it the six totals and their cases stay, except\n"
+                       "that later winds are numbered one lower.\n"
+                     : " change nothing: no line names them. Without one or all of them the six totals and their\n"
+                       "cases stay, except that later winds are numbered lower.\n",
+          stdout);
 }

@@ -1,7 +1,16 @@
 /* The entry points of libaralimogga.a, a proved wind load calculator, for a host program in C.
    Each call answers one record by value. None keeps anything between calls, none allocates, none prints and none
-   fails otherwise than by the numbers below, so any thread may call any of them at any time. The library's objects are
-   x86-64 code on every machine.
+   fails otherwise than by the numbers below, so any thread may call any of them at any time.
+
+   The library's objects are x86-64 code for Linux on every machine, and need no other library than C's. On x86-64 a
+   program is compiled and linked as any other:
+       cc -Iinclude program.c libaralimogga.a
+   On Arm it is cross-compiled (Debian's gcc-x86-64-linux-gnu and libc6-dev-amd64-cross), linked statically, and run
+   under an emulator (qemu-user), which then needs no C library for x86-64:
+       x86_64-linux-gnu-gcc -Iinclude program.c libaralimogga.a -static -o program
+       qemu-x86_64 ./program
+   There -lm can't be linked with -static: Debian's cross libm.a is a linker script that names files of a native x86-64
+   machine. The library itself needs no libm.
 
    number  given when
    0       accepted; the line is 0 too
@@ -68,15 +77,26 @@ enum {
 };
 
 /* The greatest lengths: in bytes of an acceptable sheet, a report and the digits of a number. The faces that a record
-   has room for, and how many of them a job of a year may have. The most faces with two alternatives under at least one
-   of the winds that aral_plain takes. And the stack of a call, in bytes. */
+   has room for, and how many of them a job of a year may have; and its winds, internal coefficients and lines of the
+   profile. The most faces with two alternatives under at least one of the winds that aral_plain takes. And the stack of
+   a call, in bytes. */
 #define ARAL_SHEET_MOST 8967
 #define ARAL_REPORT_MOST 3084
 #define ARAL_DIGITS_MOST 20
 #define ARAL_FACES_MOST 240
 #define ARAL_FACES_OF(year) ((year) < 4 ? 24 : ARAL_FACES_MOST)
+#define ARAL_WINDS_MOST 8
+#define ARAL_INTERNALS_MOST 4
+#define ARAL_PROFILE_MOST 16
 #define ARAL_CHOICES_MOST 8
 #define ARAL_STACK_MOST 262144
+
+/* What always suffices to mend n bytes: of the text in bytes, and of the list in numbers. */
+#define ARAL_MENDED_MOST(n) ((n) + 1)
+#define ARAL_MEND_LIST_MOST(n) (3 * ((n) + 1))
+
+/* Units of a newton. */
+#define ARAL_NEWTON 20000000000
 
 /* A rose has so many sectors, in each of them so many Beaufort numbers, and takes so many observations. */
 #define ARAL_SECTORS 16
@@ -157,9 +177,9 @@ typedef struct { int64_t h, a, b, density, kind, x; } aral_building;
 typedef struct { int64_t direction, speed; } aral_wind;
 typedef struct { int64_t height, factor; } aral_step; /* a line of the profile */
 typedef struct { uint8_t zone; int64_t mark, height, x, y, z; } aral_face;
-typedef struct { uint32_t count; aral_wind entry[8]; } aral_winds;
-typedef struct { uint32_t count; int64_t entry[4]; } aral_internals;
-typedef struct { uint32_t count; aral_step entry[16]; } aral_profile;
+typedef struct { uint32_t count; aral_wind entry[ARAL_WINDS_MOST]; } aral_winds;
+typedef struct { uint32_t count; int64_t entry[ARAL_INTERNALS_MOST]; } aral_internals;
+typedef struct { uint32_t count; aral_step entry[ARAL_PROFILE_MOST]; } aral_profile;
 typedef struct { uint32_t count; aral_face entry[ARAL_FACES_MOST]; } aral_faces;
 typedef struct {
     int64_t year;
@@ -179,12 +199,12 @@ typedef struct {
     aral_profile profile;
 } aral_setting;
 
-/* For each wind and internal coefficient, both counted from 0, cell[4 * wind + internal] has on each axis the greatest
-   and the least total over every choice of the faces' alternatives, in every year as a pair. Cells past the counts are
-   no part of the sums. */
+/* For each wind and internal coefficient, both counted from 0, cell[ARAL_INTERNALS_MOST * wind + internal] has on each
+   axis the greatest and the least total over every choice of the faces' alternatives, in every year as a pair. Cells
+   past the counts are no part of the sums. */
 typedef struct { aral_pair greatest, least; } aral_span;
 typedef struct { aral_span x, y, z; } aral_sum_cell;
-typedef struct { aral_sum_cell cell[32]; } aral_sums;
+typedef struct { aral_sum_cell cell[ARAL_WINDS_MOST * ARAL_INTERNALS_MOST]; } aral_sums;
 
 /* A job that the host holds while its faces are edited, and its sums, kept from edit to edit. It may hold anything:
    each call judges the held job first, with the number and line that its sheet would get. So a number of more than
@@ -231,9 +251,9 @@ aral_text aral_rewrite(const uint8_t *sheet, size_t n, uint8_t *out, size_t room
    give back what was received. Mended text mended again, and a sheet whose every line is in form, stay as they
    are, with no change.
    Refuses only with 7, line 0, where the text is longer than `room` or the list than `list_room`, which counts numbers
-   and not changes; n + 1 and 3 * (n + 1) always suffice. Text and list stand at their buffers' starts and what is after
-   them stays as it was; a refused call changes no byte of either. A refusal of the mended text is no refusal of the
-   call: the text and the list stand beside it. */
+   and not changes; ARAL_MENDED_MOST(n) and ARAL_MEND_LIST_MOST(n) always suffice. Text and list stand at their buffers'
+   starts and what is after them stays as it was; a refused call changes no byte of either. A refusal of the mended text
+   is no refusal of the call: the text and the list stand beside it. */
 aral_mended aral_mend(const uint8_t *sheet, size_t n, uint8_t *out, size_t room, uint64_t *list, size_t list_room);
 
 /* Reads a sheet and writes the report of its worst cases: six lines, `x max`, `x min`, `y max`, `y min`, `z max`,
