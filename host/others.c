@@ -1,0 +1,305 @@
+/* Goes on past the first fault of a sheet. Each fault is mended on a copy, by what was probably meant or else by a
+   value that the library takes, and the library is asked for the next. What may come of such a value is not told. */
+#include "others.h"
+#include "allowed.h"
+#include "caret.h"
+#include "guess.h"
+#include "slip.h"
+#include "trial.h"
+#include "words.h"
+#include <inttypes.h>
+#include <stdio.h>
+#include <string.h>
+
+enum { LOOKED_AT = 1 << 16, STEPS = 2000, TOLD = 20 };
+
+/* The copy, and whether its end was cut off; how many lines the student's text has more up to here; what was told; and
+   what was made up: a value on this line of the copy, one of the building, one of the profile. */
+typedef struct {
+    trial t;
+    int cut;
+    int64_t shift;
+    uint32_t told, more;
+    uint32_t made_up_line;
+    int made_up_building, made_up_profile;
+    aral_place verdict;
+} look;
+
+/* ---- Telling ---- */
+
+static uint32_t own_line(const look *l, uint32_t line) { return (uint32_t)((int64_t)line + l->shift); }
+
+/* Begins an item, with its heading before the first; answers whether it is to be told. */
+static int begins(look *l, uint32_t line)
+{
+    if (l->told == TOLD) {
+        l->more++;
+        return 0;
+    }
+    if (l->told++ == 0) printf("\nThat is the verdict. Other lines that look wrong, once the first is mended:\n");
+    printf("  line %u", line);
+    return 1;
+}
+
+static void tell_word(const look *l, const aral_place *p)
+{
+    printf(": ");
+    print_bytes(l->t.byte + p->from, p->to - p->from);
+}
+
+static void tell_allowed(const look *l, const aral_place *p)
+{
+    tell_word(l, p);
+    if (is_zone(p) || is_direction(p) || is_mark(p))
+        printf(", and it may be %s\n", allowed_at(l->t.byte, l->t.n, p));
+    else if (p->least == p->greatest) printf(", and it must be %" PRId64 "\n", p->least);
+    else if (p->least < p->greatest) printf(", and it may be %" PRId64 " to %" PRId64 "\n", p->least, p->greatest);
+    else printf(", and nothing can stand there\n");
+}
+
+static void tell_slip(const look *l, const aral_place *p)
+{
+    const uint8_t *field = l->t.byte + p->from;
+    size_t n = p->to - p->from;
+    slip s = is_letter(p) || is_zone(p) ? slip_of_letter(field, n, 0) : slip_of_number(field, n);
+    tell_word(l, p);
+    printf(", %s\n", s.what);
+}
+
+static void tell_nothing(const look *l, const aral_place *p)
+{
+    size_t end = line_end(l->t.byte, l->t.n, p->from), start = line_start(l->t.byte, p->from);
+    if (start == end) printf(": it is empty\n");
+    else if (p->from < end || l->t.byte[end - 1] == ' ') printf(": a space too many\n");
+    else printf(": it is missing\n");
+}
+
+/* The field by its name, without its unit. */
+static void tell_field(look *l, const aral_place *p, int high)
+{
+    const char *name = field_name(p, high).name;
+    if (!begins(l, own_line(l, p->line))) return;
+    if (*name) printf(", %.*s", (int)strcspn(name, ","), name);
+    if (p->number != ARAL_FORM) tell_allowed(l, p);
+    else if (p->from == p->to) tell_nothing(l, p);
+    else if (!strncmp(name, "one field more", 14)) tell_word(l, p), printf("\n");
+    else tell_slip(l, p);
+}
+
+static void tell_guess(look *l, const guess *g)
+{
+    if (!begins(l, own_line(l, g->line))) return;
+    if (g->kind == OTHER_COUNT)
+        printf(", the count: %u %s follow%s\n", g->entries, entry_name(g->section, g->entries > 1),
+               g->entries > 1 ? "" : "s");
+    else if (g->kind == NO_COUNT_LINE) printf(": `%c %u` is left out before it\n", g->section, g->entries);
+    else if (g->kind == NO_SECTION) printf(": section %c is left out before it\n", g->section);
+    else if (g->kind == SWAPPED) printf(": the two sides are exchanged\n");
+    else printf(": a section V is left out before it\n");
+}
+
+static void tell_rest(look *l, const aral_place *p)
+{
+    uint32_t lines = 0;
+    for (size_t i = p->from; i < l->t.n; i = line_end(l->t.byte, l->t.n, i) + 1) lines++;
+    if (l->cut || !begins(l, own_line(l, p->line))) return;
+    printf(lines > 1 ? ": it and all after it stand after the last face\n" : ": it stands after the last face\n");
+}
+
+/* ---- What is left untold ---- */
+
+/* A fault that goes by a value which was made up. */
+static int is_made_up(const look *l, const aral_place *p)
+{
+    int by_building = p->number == ARAL_ZONE || (p->number == ARAL_RANGE && (is_direction(p) || is_mark(p)));
+    int by_profile = p->number == ARAL_HEIGHT || (p->number == ARAL_RANGE && p->section == 'P' && p->least > 0);
+    if ((p->number == ARAL_WALLS || p->number == ARAL_ROOF) && l->made_up_line == p->line) return 1;
+    return (by_building && l->made_up_building) || (by_profile && l->made_up_profile);
+}
+
+static int is_verdict(const look *l, const aral_place *p)
+{
+    return l->told == 0 && l->more == 0 && p->number == l->verdict.number && p->field == l->verdict.field
+        && own_line(l, p->line) == l->verdict.line;
+}
+
+static void make_up(look *l, const aral_place *p)
+{
+    l->made_up_line = p->line;
+    l->made_up_building |= p->section == 'B';
+    l->made_up_profile |= p->section == 'P';
+}
+
+/* ---- Mending ---- */
+
+/* Puts another text in place of a line where the library then reads past it. */
+static int put_line(look *l, const aral_place *p, const char *line)
+{
+    size_t start = line_start(l->t.byte, p->from), end = line_end(l->t.byte, l->t.n, p->from);
+    trial t = try_text(l->t.byte, l->t.n);
+    splice(&t, start, end - start, line, strlen(line));
+    aral_place q = where(&t);
+    if (!q.number || q.line > p->line) {
+        give_back_trial(&l->t);
+        l->t = t;
+        return 1;
+    }
+    give_back_trial(&t);
+    return 0;
+}
+
+/* The line with one space between its fields, where other signs parted them. */
+static int mend_spaces(look *l, const aral_place *p)
+{
+    char line[100];
+    size_t n = 0, end = line_end(l->t.byte, l->t.n, p->from);
+    for (size_t i = line_start(l->t.byte, p->from); i < end; i++) {
+        uint8_t byte = l->t.byte[i];
+        int parts = byte == ' ' || byte == ',' || byte == ';' || byte == '\t' || byte == '|' || byte == '\r';
+        if (n + 1 == sizeof line) return 0;
+        if (!parts) line[n++] = (char)byte;
+        else if (n > 0 && line[n - 1] != ' ') line[n++] = ' ';
+    }
+    if (n > 0 && line[n - 1] == ' ') n--;
+    line[n] = 0;
+    return put_line(l, p, line);
+}
+
+/* A count line that has a number somewhere, as `B1` or `W: 2 winds`. */
+static int mend_count_line(look *l, const aral_place *p)
+{
+    char line[16];
+    size_t i = line_start(l->t.byte, p->from), end = line_end(l->t.byte, l->t.n, p->from);
+    unsigned count = 0;
+    if (p->entry) return 0;
+    while (i < end && (l->t.byte[i] < '0' || l->t.byte[i] > '9')) i++;
+    for (; i < end && l->t.byte[i] >= '0' && l->t.byte[i] <= '9' && count < 100000; i++)
+        count = 10 * count + (unsigned)(l->t.byte[i] - '0');
+    snprintf(line, sizeof line, "%c %u", p->section, count);
+    return put_line(l, p, line);
+}
+
+/* Takes out an empty line or a remark where the library then reads on. */
+static int drop_line(look *l, const aral_place *p)
+{
+    size_t start = line_start(l->t.byte, p->from), end = line_end(l->t.byte, l->t.n, p->from);
+    uint8_t first = end > start ? l->t.byte[start] : '#';
+    if ((first != '#' && first != '/' && (first < 'a' || first > 'z')) || end == l->t.n) return 0;
+    trial t = try_text(l->t.byte, l->t.n);
+    splice(&t, start, end - start + 1, "", 0);
+    aral_place q = where(&t);
+    if (q.number && q.line <= p->line && q.section) {
+        give_back_trial(&t);
+        return 0;
+    }
+    give_back_trial(&l->t);
+    l->t = t;
+    l->shift++;
+    return 1;
+}
+
+/* The field by what was meant; or cut off, where it is too many; or by a value that the library takes there. */
+static int mend_field(look *l, const aral_place *p)
+{
+    const uint8_t *field = l->t.byte + p->from;
+    size_t n = p->to - p->from, end = line_end(l->t.byte, l->t.n, p->from);
+    slip s = is_letter(p) || is_zone(p) ? slip_of_letter(field, n, is_letter(p) ? (char)p->section : 0)
+                                        : slip_of_number(field, n);
+    if (!strncmp(field_name(p, 1).name, "one field more", 14)
+        || (p->number == ARAL_FORM && !p->least && !p->greatest && p->field > 2)) {
+        splice(&l->t, p->from - 1, end - p->from + 1, "", 0);
+        return 1;
+    }
+    if (p->number == ARAL_FORM && s.meant[0] && takes(l->t.byte, l->t.n, p, s.meant)) {
+        put_field(&l->t, p, s.meant);
+        return 1;
+    }
+    make_up(l, p);
+    if (p->least <= p->greatest && takes(l->t.byte, l->t.n, p, some_word(p))) {
+        put_field(&l->t, p, some_word(p));
+        return 1;
+    }
+    return put_line(l, p, example_of(p));
+}
+
+/* Mends the fault, and tells it where it is not the verdict. Answers whether there is more to be looked at. */
+static int mend(look *l, const aral_place *p, int told)
+{
+    aral_job job;
+    int high = p->section == 'F' && job_before(l->t.byte, p, &job) && job.profile.count > 0;
+    guess g = guess_meant(l->t.byte, l->t.n, p);
+    if (is_unended(l->t.n, p)) {
+        if (told && !l->cut && begins(l, own_line(l, p->line))) printf(": it has no line end\n");
+        splice(&l->t, l->t.n, 0, "\n", 1);
+        return !l->cut;
+    }
+    if (g.kind != NO_GUESS) {
+        if (told) tell_guess(l, &g);
+        apply_guess(&l->t, &g);
+        l->shift -= g.added;
+        return 1;
+    }
+    if (!p->section && told) tell_rest(l, p);
+    if (!p->field) {
+        if (p->section && told && !l->cut && begins(l, own_line(l, p->line)))
+            printf(": the sheet ends before it, and %s is called for\n", entry_name((char)p->section, 0));
+        return 0;
+    }
+    if (told) tell_field(l, p, high);
+    return drop_line(l, p) || mend_spaces(l, p) || mend_count_line(l, p) || mend_field(l, p);
+}
+
+/* ---- The file ---- */
+
+static void drop_byte(trial *t, size_t *at) { splice(t, (*at)--, 1, "", 0); }
+
+/* The signs of UTF-16 in one byte each: of those that have more, a question mark. */
+static void narrow(trial *t)
+{
+    size_t n = 0, first = t->n >= 2 && (t->byte[0] >= 0xfe) ? 2 : 0;
+    int low = t->n >= 2 && (t->byte[0] == 0xfe || (t->byte[0] == 0 && first == 0));
+    for (size_t i = first; i + 1 < t->n; i += 2)
+        t->byte[n++] = t->byte[i + (size_t)!low] ? '?' : t->byte[i + (size_t)low];
+    t->n = n;
+}
+
+/* What is wrong with the file as a whole is mended before the lines are looked at. */
+static void mend_file(trial *t)
+{
+    int slip = slip_of_file(t->byte, t->n);
+    if (slip == WHOLE_UTF16) narrow(t);
+    if (slip == WHOLE_MARK) splice(t, 0, 3, "", 0);
+    if (slip == WHOLE_CR)
+        for (size_t i = 0; i < t->n; i++)
+            if (t->byte[i] == '\r') t->byte[i] = '\n';
+    slip = slip_of_file(t->byte, t->n);
+    for (size_t i = 0; slip == WHOLE_RETURNS && i + 1 < t->n; i++)
+        if (t->byte[i] == '\r' && t->byte[i + 1] == '\n') drop_byte(t, &i);
+}
+
+/* ---- The look ---- */
+
+/* Whether the next fault lies behind this one. */
+static int lies_behind(const aral_place *q, uint32_t own, const aral_place *p, uint32_t before)
+{
+    if (own != before) return own > before;
+    return q->number > p->number || (q->number == p->number && q->field > p->field);
+}
+
+void tell_others(const uint8_t *sheet, size_t n)
+{
+    look l = {.t = try_text(sheet, n < LOOKED_AT ? n : LOOKED_AT), .cut = n > LOOKED_AT};
+    l.verdict = aral_where(sheet, n);
+    mend_file(&l.t);
+    aral_place p = where(&l.t);
+    for (int steps = 0; p.number && steps < STEPS; steps++) {
+        uint32_t before = own_line(&l, p.line);
+        int told = !is_verdict(&l, &p) && !is_made_up(&l, &p);
+        if (!mend(&l, &p, told)) break;
+        aral_place q = where(&l.t);
+        if (q.number && !lies_behind(&q, own_line(&l, q.line), &p, before)) break;
+        p = q;
+    }
+    if (l.more) printf("  and %u more\n", l.more);
+    give_back_trial(&l.t);
+}
