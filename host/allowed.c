@@ -22,6 +22,42 @@ int takes(const uint8_t *sheet, size_t n, const aral_place *p, const char *word)
     return !q.number || q.line != p->line || q.field != p->field;
 }
 
+/* The sheet up to the faulty line, and in its place one in form: of a face with the zone that stands there, where the
+   library takes it. */
+typedef struct { trial t; aral_place p; size_t start; const char *example; char zone[2]; } probe;
+
+/* Puts a word for a field of the example, and says where the fault of that line then lies; 0 where it has none. */
+static uint32_t fault_with(probe *b, uint32_t field, const char *word)
+{
+    char line[80];
+    size_t n = 0;
+    uint32_t i = 1;
+    for (const char *at = b->example; *at && n + 30 < sizeof line; i++) {
+        size_t length = strcspn(at, " ");
+        const char *put = i == field ? word : i == 1 && *b->zone ? b->zone : at;
+        n += (size_t)snprintf(line + n, sizeof line - n, "%s%.*s", i > 1 ? " " : "",
+                              put == at ? (int)length : 20, put);
+        at += length + (at[length] == ' ');
+    }
+    b->t.n = b->start;
+    splice(&b->t, b->start, 0, line, n);
+    splice(&b->t, b->start + n, 0, "\n", 1);
+    aral_place q = where(&b->t);
+    return q.number && q.line == b->p.line ? q.field : 0;
+}
+
+static probe begin_probe(const uint8_t *sheet, size_t n, const aral_place *p)
+{
+    aral_job job;
+    size_t start = line_start(sheet, p->from);
+    int high = p->section == 'F' && job_before(sheet, p, &job) && job.profile.count > 0;
+    probe b = {try_text(sheet, start), *p, start, example_of(p, high), ""};
+    if (!is_mark(p) || start >= n) return b;
+    b.zone[0] = (char)sheet[start];
+    if (fault_with(&b, 2, "0") == 1) b.zone[0] = 0;
+    return b;
+}
+
 /* ---- Lists ---- */
 
 typedef struct { char word[LISTED][8]; int count; } list;
@@ -57,15 +93,17 @@ const char *allowed_at(const uint8_t *sheet, size_t n, const aral_place *p)
 {
     list l = {.count = 0};
     char word[8];
+    probe b = begin_probe(sheet, n, p);
     for (int letter = 'A'; is_zone(p) && letter <= 'Z'; letter++) {
         snprintf(word, sizeof word, "%c", letter);
-        if (takes(sheet, n, p, word)) add_word(&l, word);
+        if (fault_with(&b, p->field, word) != p->field) add_word(&l, word);
     }
     for (int degrees = 0; (is_direction(p) || is_mark(p)) && degrees < DEGREES; degrees++) {
         snprintf(word, sizeof word, "%d", degrees);
-        if (takes(sheet, n, p, word)) add_word(&l, word);
+        if (fault_with(&b, p->field, word) != p->field) add_word(&l, word);
     }
-    if (is_mark(p) && takes(sheet, n, p, "-")) add_word(&l, "-");
+    if (is_mark(p) && fault_with(&b, p->field, "-") != p->field) add_word(&l, "-");
+    give_back_trial(&b.t);
     return told(&l);
 }
 

@@ -69,7 +69,11 @@ void show_line(const shown_line *l)
 
 void print_bytes(const uint8_t *byte, size_t n)
 {
+    size_t i = 0;
     printf("`");
-    for (size_t i = 0; i < n && i < TOLD; i++) printf("%s", shown(byte[i], 0));
-    printf("%s`", n > TOLD ? ".." : "");
+    for (size_t width = 0; i < n && width < TOLD; i++) {
+        width += strlen(shown(byte[i], 0));
+        printf("%s", shown(byte[i], 0));
+    }
+    printf("%s`", i < n ? ".." : "");
 }

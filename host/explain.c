@@ -11,7 +11,8 @@
 #include <stdlib.h>
 #include <string.h>
 
-/* The sheet and its fault; the line at fault; and the job of the sections before it, where `known`. */
+/* The sheet and its fault; the line at fault; the job of the sections before it, where `known`, and whether its faces
+   have heights; what is wrong with the file; and what was probably meant. */
 typedef struct {
     const uint8_t *sheet;
     size_t n;
@@ -19,6 +20,7 @@ typedef struct {
     size_t start, end;
     int known, high, file;
     aral_job job;
+    guess meant;
 } fault;
 
 static const fault *look_at(const uint8_t *sheet, size_t n)
@@ -32,6 +34,7 @@ static const fault *look_at(const uint8_t *sheet, size_t n)
     f.known = job_before(sheet, &f.p, &f.job);
     f.high = f.known && f.p.section == 'F' && f.job.profile.count > 0;
     f.file = slip_of_file(sheet, n);
+    f.meant = guess_meant(sheet, n, &f.p);
     return &f;
 }
 
@@ -75,26 +78,43 @@ static uint32_t line_of(const fault *f, char section, uint32_t entry)
 
 /* ---- The line ---- */
 
-static const char *label_of(const fault *f)
+/* What a field with nothing in it comes of. */
+enum { FILLED, MISSING, EMPTY_LINE, SPACE_BEFORE, SPACE_BETWEEN, SPACE_BEHIND };
+
+static int nothing_of(const fault *f)
 {
-    static char label[120];
-    const aral_place *p = &f->p;
-    if (is_missing(f->sheet, f->n, p)) {
-        if (p->entry == 0) snprintf(label, sizeof label, "section %c is called for here", p->section);
-        else snprintf(label, sizeof label, "%s %u is called for here", entry_name((char)p->section, 0), p->entry);
-        return label;
-    }
-    if (!p->section) return "after the last face, where the sheet must end";
-    if (is_unended(f->n, p)) return "the line has no line end";
-    return field_name(p, f->high).name;
+    if (!f->p.field || f->p.from < f->p.to) return FILLED;
+    if (f->start == f->end) return EMPTY_LINE;
+    if (f->p.from == f->start) return SPACE_BEFORE;
+    for (size_t i = (size_t)f->p.from; i < f->end; i++)
+        if (f->sheet[i] != ' ') return SPACE_BETWEEN;
+    return f->sheet[f->p.from - 1] == ' ' ? SPACE_BEHIND : MISSING;
 }
 
+static const char *label_of(const fault *f)
+{
+    static const char *const of_space[] = {
+        [SPACE_BEFORE] = "a space before the first field", [SPACE_BETWEEN] = "a second space",
+        [SPACE_BEHIND] = "a space at the line's end"};
+    static char label[120];
+    const aral_place *p = &f->p;
+    const char *name = field_name(p, f->high).name;
+    if (!p->section) return "after the last face, where the sheet must end";
+    if (is_unended(f->n, p)) return "the line has no line end";
+    if (nothing_of(f) >= SPACE_BEFORE) return of_space[nothing_of(f)];
+    if (p->field && nothing_of(f) != EMPTY_LINE) return *name ? name : "one field more than this line has";
+    snprintf(label, sizeof label, "%s is called for here", called_name((char)p->section, p->entry));
+    return label;
+}
+
+/* A space is marked itself, and not the nothing behind it. */
 static void show(const fault *f)
 {
     size_t from = (size_t)f->p.from - f->start, to = (size_t)f->p.to - f->start;
-    int missing = is_missing(f->sheet, f->n, &f->p), unended = is_unended(f->n, &f->p);
+    int missing = is_missing(f->sheet, f->n, &f->p), behind = nothing_of(f) == SPACE_BEHIND;
     shown_line l = {f->p.line, f->sheet + f->start, f->end - f->start, 0, !missing, f->end < f->n || missing,
-                    unended ? to : from, to, label_of(f)};
+                    is_unended(f->n, &f->p) ? to : from - (size_t)behind, to, label_of(f)};
+    if (behind) l.to = l.length;
     show_line(&l);
 }
 
@@ -126,51 +146,50 @@ static int is_of_file(const fault *f)
 
 /* ---- What may stand there ---- */
 
-static void print_allowed(const fault *f)
+/* `why` is what the range goes by, as ` for h 500`, or "". */
+static void print_allowed(const fault *f, const char *why)
 {
     const aral_place *p = &f->p;
-    if (is_letter(p)) printf("The letter %c is called for.\n", p->section);
-    else if (is_zone(p) || is_direction(p) || is_mark(p))
-        printf("It may be %s.\n", allowed_at(f->sheet, f->n, p));
-    else if (p->least > p->greatest) printf("Nothing can stand there: it would be %" PRId64 " or more.\n", p->least);
-    else if (p->least == p->greatest) printf("It must be %" PRId64 ".\n", p->least);
-    else printf("It may be %" PRId64 " to %" PRId64 ".\n", p->least, p->greatest);
+    const char *list = is_zone(p) || is_direction(p) || is_mark(p) ? allowed_at(f->sheet, f->n, p) : "";
+    if (*list) printf("It may be %s%s.\n", list, is_mark(p) && strchr(list, '-') ? ", which is for every wind" : "");
+    else if (is_letter(p) && p->line == 1 && p->section == 'B')
+        printf("The letter B is called for, or V in a sheet that names its year.\n");
+    else if (is_letter(p)) printf("The letter %c is called for.\n", p->section);
+    else if (p->least > p->greatest)
+        printf("Nothing can stand there%s: it would be %" PRId64 " or more.\n", why, p->least);
+    else if (p->least == p->greatest) printf("It must be %" PRId64 "%s.\n", p->least, why);
+    else printf("It may be %" PRId64 " to %" PRId64 "%s.\n", p->least, p->greatest, why);
 }
 
 /* ---- 1: the form ---- */
 
-/* Whether there is such a field in the line that is called for. */
-static int is_too_many(const fault *f) { return !strncmp(field_name(&f->p, f->high).name, "one field more", 14); }
-
-static int only_spaces_on(const fault *f)
-{
-    for (size_t i = (size_t)f->p.from; i < f->end; i++)
-        if (f->sheet[i] != ' ') return 0;
-    return 1;
-}
+static int is_too_many(const fault *f) { return f->p.field && !*field_name(&f->p, f->high).name; }
 
 static void tell_too_many(const fault *f)
 {
-    if (only_spaces_on(f)) {
-        printf("A space stands at the line's end. Nothing may stand behind the last field.\n");
-        return;
-    }
+    slip s = slip_of_number(field_of(f), length_of(f));
     printf("There stands ");
     print_bytes(field_of(f), length_of(f));
     printf(", and the line should end before it.\n");
+    if (!strcmp(s.what, "a remark")) printf("A sheet has no remarks.\n");
+    if (f->p.section == 'F' && f->p.entry && !f->high && f->p.to == f->end)
+        printf("A face has a height only in a sheet that opens with `V 1`.\n");
 }
 
 /* A field with nothing in it: missing at the line's end, or empty beside a space. */
 static void tell_nothing(const fault *f)
 {
-    const char *name = field_name(&f->p, f->high).name;
-    if (f->start == f->end) printf("The line is empty.\n");
-    else if (f->p.from == f->start) printf("A space stands before the first field.\n");
-    else if (only_spaces_on(f) && f->sheet[f->p.from - 1] == ' ') printf("A space stands at the line's end.\n");
-    else if (f->p.from < f->end) printf("Two spaces stand one after the other. Fields are parted by one.\n");
-    if (f->start < f->end && only_spaces_on(f)) printf("The line ends before %s.\n", name);
-    if (f->high && f->p.from == f->end && f->p.field == 6)
-        printf("In a sheet that opens with `V 1` each face has a height after its mark.\n");
+    switch (nothing_of(f)) {
+    case EMPTY_LINE: printf("The line is empty.\n"); break;
+    case SPACE_BEFORE: printf("No space may stand before the first field.\n"); break;
+    case SPACE_BETWEEN: printf("Fields are parted by one space.\n"); break;
+    case SPACE_BEHIND: printf("No space may stand behind the last field.\n"); break;
+    default:
+        printf("The line ends before %s: a field is left out.\n", field_name(&f->p, f->high).name);
+        if (f->high && f->p.entry && f->p.field == 6)
+            printf("In a sheet that opens with `V 1` each face has a height after its mark.\n");
+        print_allowed(f, "");
+    }
 }
 
 static void tell_slip(const fault *f)
@@ -179,12 +198,18 @@ static void tell_slip(const fault *f)
     char letter = is_letter(p) ? (char)p->section : 0;
     slip s = is_letter(p) || is_zone(p) ? slip_of_letter(field_of(f), length_of(f), letter)
                                         : slip_of_number(field_of(f), length_of(f));
+    const char *written = field_name(p, f->high).written;
+    int other = f->meant.kind == OTHER_LINE && f->meant.line == p->line;
+    if (other && !strcmp(s.what, "a decimal comma")) s.what = "a list with commas", s.advice = "";
     printf("There stands ");
     print_bytes(field_of(f), length_of(f));
-    printf(": %s. %s", s.what, s.advice);
-    const char *written = field_name(p, f->high).written;
-    if (*written && !strncmp(s.advice, "Numbers are whole", 17)) printf(" %s.", written);
+    printf(": %s.%s%s", s.what, *s.advice ? " " : "", s.advice);
+    if (*written && (!strcmp(s.advice, "Numbers are whole.") || strstr(s.what, "unit"))) printf(" Here %s.", written);
     printf("\n");
+    if (other || f->meant.kind == EXTRA_LINE) return;
+    if (is_letter(p) && length_of(f) == 1 && *field_of(f) == 'P' && f->meant.kind != LATER_SHEET)
+        printf("A profile is for sheets that open with `V 1` and a year.\n");
+    print_allowed(f, "");
 }
 
 /* A count line that opens with another letter, and has yet another fault further on. */
@@ -202,13 +227,13 @@ static void tell_form(const fault *f)
 {
     const aral_place *p = &f->p;
     tell_other_letter(f);
-    if (is_missing(f->sheet, f->n, p)) printf("The sheet ends where a line is still called for.\n");
+    if (f->n == 0) printf("The sheet is empty.\n");
+    else if (is_missing(f->sheet, f->n, p)) printf("The sheet ends where a line is still called for.\n");
     else if (!p->section) printf("Nothing may follow the last face, not even an empty line.\n");
     else if (is_unended(f->n, p)) printf("Press Enter after it: every line has an end, the last one too.\n");
+    else if (nothing_of(f) != FILLED) tell_nothing(f);
     else if (is_too_many(f)) tell_too_many(f);
-    else if (length_of(f) == 0) tell_nothing(f);
     else tell_slip(f);
-    if (p->field && !is_too_many(f)) print_allowed(f);
 }
 
 /* ---- 2 to 5: numbers ---- */
@@ -252,20 +277,23 @@ static void tell_direction(const fault *f)
 static void tell_range(const fault *f)
 {
     const aral_place *p = &f->p;
+    const char *written = field_name(p, f->high).written;
     print_there(f);
-    print_allowed(f);
+    print_allowed(f, "");
     if (is_direction(p) || is_mark(p)) tell_direction(f);
     if (p->section == 'P' && p->field == 1 && p->least > 0)
         printf("The line before has %" PRId64 ": a profile goes up, each height above the last.\n", p->least - 1);
-    if (p->section == 'V' && number_at(f, 1) == 1)
+    else if (*written) printf("In this unit %s.\n", written);
+    if (p->section == 'V' && p->entry && number_at(f, 1) == 1)
         printf("A sheet of year 1 has no section V: it opens with `B 1`.\n");
 }
 
 static void tell_walls(const fault *f)
 {
+    char why[60];
+    snprintf(why, sizeof why, " beside a shorter side b of %ld", number_at(f, 3));
     print_there(f);
-    printf(f->p.field == 1 ? "By the shorter side b, %ld: " : "Beside the shorter side b, %ld: ", number_at(f, 3));
-    print_allowed(f);
+    print_allowed(f, why);
     if (f->p.field == 2 && number_at(f, 2) == number_at(f, 3))
         printf("A square plan has no row in years 1 and 2. From year 3 on it has: a sheet then opens with `V 1` and\n"
                "the line `3`, and a question says `year 3`.\n");
@@ -274,13 +302,16 @@ static void tell_walls(const fault *f)
 static void tell_roof(const fault *f)
 {
     static const char *const rule[] = {
-        "no roof has no number", "a gable's x is its slope in tenths of a degree", "straight eaves have no number",
-        "a parapet's x is its height in cm, and goes by h", "curved eaves' x is their radius in cm, and goes by h",
-        "a mansard's x is its angle in tenths of a degree", "a single slope's x is in tenths of a degree"};
+        "is no roof, and has no number", "is a gable: x is its slope in tenths of a degree",
+        "has straight eaves, and no number", "has a parapet: x is its height in cm",
+        "has curved eaves: x is their radius in cm", "has a mansard: x is its angle in tenths of a degree",
+        "is a single slope: x is the slope in tenths of a degree"};
     long kind = number_at(f, 5);
+    char why[40] = "";
+    if (kind == 3 || kind == 4) snprintf(why, sizeof why, " for h %ld", number_at(f, 1));
     print_there(f);
-    if (kind >= 0 && kind < (long)(sizeof rule / sizeof *rule)) printf("For kind %ld, %s. ", kind, rule[kind]);
-    print_allowed(f);
+    if (kind >= 0 && kind < (long)(sizeof rule / sizeof *rule)) printf("Kind %ld %s. ", kind, rule[kind]);
+    print_allowed(f, why);
 }
 
 /* ---- 6 and 8: faces ---- */
@@ -288,7 +319,7 @@ static void tell_roof(const fault *f)
 static void tell_zone(const fault *f)
 {
     print_there(f);
-    print_allowed(f);
+    print_allowed(f, "");
     if (f->p.field == 1) printf("Zone %c is not on this building, which has ", *field_of(f));
     else printf("Zone %c is a wall, and this building has ", f->sheet[f->start]);
     print_building(f);
@@ -303,7 +334,7 @@ static void tell_height(const fault *f)
     uint32_t opens = f->p.line - f->p.entry, steps = f->job.profile.count;
     int64_t least = f->p.least, greatest = f->p.greatest;
     print_there(f);
-    print_allowed(f);
+    print_allowed(f, "");
     printf("The face stands %s the profile, which ", number_at(f, (int)f->p.field) < least ? "below" : "above");
     if (steps == 1) printf("has the one height %" PRId64 " (line %u).\n", least, opens - 1);
     else printf("goes from %" PRId64 " (line %u) to %" PRId64 " (line %u).\n", least, opens - steps, greatest,
@@ -324,8 +355,7 @@ static void tell_fault(const fault *f)
     default: tell_range(f); break;
     }
     if (f->p.number == ARAL_COUNT) tell_later_faces(f);
-    guess g = guess_meant(f->sheet, f->n, &f->p);
-    print_guess(f->sheet, f->n, &g);
+    if (nothing_of(f) < SPACE_BEFORE) print_guess(f->sheet, f->n, &f->meant);
 }
 
 /* What the section's count line says, where it was read. */
@@ -346,6 +376,8 @@ void explain(const uint8_t *sheet, size_t n, aral_answer refusal)
     if (f->p.number != refusal.number || f->p.line != refusal.line) return;
     show(f);
     tell_file(f);
-    if (!is_of_file(f)) tell_fault(f);
+    if (is_of_file(f)) return;
+    tell_fault(f);
+    if (f->meant.kind == OTHER_LINE && f->meant.word[0] == 'V') return; /* of another section than was called for */
     print_purpose(&f->p, f->high, counted(f));
 }

@@ -13,14 +13,15 @@
 
 enum { LOOKED_AT = 1 << 16, STEPS = 2000, TOLD = 20 };
 
-/* The copy, and whether its end was cut off; how many lines the student's text has more up to here; what was told; and
-   what was made up: a value on this line of the copy, one of the building, one of the profile. */
+/* The copy, and whether its end was cut off; how many lines the student's text has more up to here; what was told; the
+   line of the copy that has a field too many or too few; and what was made up: a value on this line of the copy, which
+   fields of it, one of the building, one of the profile. */
 typedef struct {
     trial t;
     int cut;
     int64_t shift;
     uint32_t told, more;
-    uint32_t made_up_line;
+    uint32_t spoilt_line, made_up_line, made_up_fields;
     int made_up_building, made_up_profile;
     aral_place verdict;
 } look;
@@ -66,11 +67,11 @@ static void tell_slip(const look *l, const aral_place *p)
     printf(", %s\n", s.what);
 }
 
-static void tell_nothing(const look *l, const aral_place *p)
+static void tell_nothing(const look *l, const aral_place *p, int high)
 {
     size_t end = line_end(l->t.byte, l->t.n, p->from), start = line_start(l->t.byte, p->from);
     if (start == end) printf(": it is empty\n");
-    else if (p->from < end || l->t.byte[end - 1] == ' ') printf(": a space too many\n");
+    else if (p->from < end || !*field_name(p, high).name) printf(": a space too many\n");
     else printf(": it is missing\n");
 }
 
@@ -79,23 +80,13 @@ static void tell_field(look *l, const aral_place *p, int high)
 {
     const char *name = field_name(p, high).name;
     if (!begins(l, own_line(l, p->line))) return;
+    if (line_start(l->t.byte, p->from) == line_end(l->t.byte, l->t.n, p->from)) name = "";
+    else if (!*name) name = "one field too many";
     if (*name) printf(", %.*s", (int)strcspn(name, ","), name);
     if (p->number != ARAL_FORM) tell_allowed(l, p);
-    else if (p->from == p->to) tell_nothing(l, p);
-    else if (!strncmp(name, "one field more", 14)) tell_word(l, p), printf("\n");
+    else if (p->from == p->to) tell_nothing(l, p, high);
+    else if (!*field_name(p, high).name) tell_word(l, p), printf("\n");
     else tell_slip(l, p);
-}
-
-static void tell_guess(look *l, const guess *g)
-{
-    if (!begins(l, own_line(l, g->line))) return;
-    if (g->kind == OTHER_COUNT)
-        printf(", the count: %u %s follow%s\n", g->entries, entry_name(g->section, g->entries > 1),
-               g->entries > 1 ? "" : "s");
-    else if (g->kind == NO_COUNT_LINE) printf(": `%c %u` is left out before it\n", g->section, g->entries);
-    else if (g->kind == NO_SECTION) printf(": section %c is left out before it\n", g->section);
-    else if (g->kind == SWAPPED) printf(": the two sides are exchanged\n");
-    else printf(": a section V is left out before it\n");
 }
 
 static void tell_rest(look *l, const aral_place *p)
@@ -108,26 +99,35 @@ static void tell_rest(look *l, const aral_place *p)
 
 /* ---- What is left untold ---- */
 
-/* A fault that goes by a value which was made up. */
+/* A fault that goes by a value which was made up, or of a line that was told as too short or too long. */
 static int is_made_up(const look *l, const aral_place *p)
 {
     int by_building = p->number == ARAL_ZONE || (p->number == ARAL_RANGE && (is_direction(p) || is_mark(p)));
     int by_profile = p->number == ARAL_HEIGHT || (p->number == ARAL_RANGE && p->section == 'P' && p->least > 0);
-    if ((p->number == ARAL_WALLS || p->number == ARAL_ROOF) && l->made_up_line == p->line) return 1;
+    int here = l->made_up_line == p->line;
+    if (l->spoilt_line == p->line || (here && (l->made_up_fields >> (p->field & 31) & 1))) return 1;
+    if (here && p->number >= ARAL_WALLS && p->number <= ARAL_ZONE) return 1;
+    if (here && p->number == ARAL_FORM && p->from == p->to) return 1;
     return (by_building && l->made_up_building) || (by_profile && l->made_up_profile);
 }
 
 static int is_verdict(const look *l, const aral_place *p)
 {
-    return l->told == 0 && l->more == 0 && p->number == l->verdict.number && p->field == l->verdict.field
+    return l->told == 0 && p->number == l->verdict.number && p->field == l->verdict.field
         && own_line(l, p->line) == l->verdict.line;
 }
 
 static void make_up(look *l, const aral_place *p)
 {
+    if (l->made_up_line != p->line) l->made_up_fields = 0;
     l->made_up_line = p->line;
-    l->made_up_building |= p->section == 'B';
-    l->made_up_profile |= p->section == 'P';
+    l->made_up_fields |= (uint32_t)1 << (p->field & 31);
+}
+
+static void make_up_section(look *l, char section)
+{
+    l->made_up_building |= section == 'B';
+    l->made_up_profile |= section == 'P';
 }
 
 /* ---- Mending ---- */
@@ -148,78 +148,85 @@ static int put_line(look *l, const aral_place *p, const char *line)
     return 0;
 }
 
-/* The line with one space between its fields, where other signs parted them. */
-static int mend_spaces(look *l, const aral_place *p)
+/* Whether the line looks like what is called for: it opens as the example does, with a letter or with a number, or the
+   like; a count line with its own letter. */
+static int looks_right(const look *l, const aral_place *p)
 {
-    char line[100];
-    size_t n = 0, end = line_end(l->t.byte, l->t.n, p->from);
-    for (size_t i = line_start(l->t.byte, p->from); i < end; i++) {
-        uint8_t byte = l->t.byte[i];
-        int parts = byte == ' ' || byte == ',' || byte == ';' || byte == '\t' || byte == '|' || byte == '\r';
-        if (n + 1 == sizeof line) return 0;
-        if (!parts) line[n++] = (char)byte;
-        else if (n > 0 && line[n - 1] != ' ') line[n++] = ' ';
-    }
-    if (n > 0 && line[n - 1] == ' ') n--;
-    line[n] = 0;
-    return put_line(l, p, line);
+    size_t start = line_start(l->t.byte, p->from);
+    uint8_t first = start < l->t.n ? l->t.byte[start] : '\n';
+    int letter = (first >= 'A' && first <= 'Z') || (first >= 'a' && first <= 'z');
+    if (p->entry == 0) return first == p->section || first == p->section + 'a' - 'A';
+    if (first == '\n') return 1;
+    return (p->section == 'F') == letter || (first == 'O' || first == 'l' || first == ' ');
 }
 
-/* A count line that has a number somewhere, as `B1` or `W: 2 winds`. */
-static int mend_count_line(look *l, const aral_place *p)
+/* Whether a value was put for what the student wrote that is surely what was meant. */
+static int mend_as_meant(look *l, const aral_place *p)
 {
-    char line[16];
-    size_t i = line_start(l->t.byte, p->from), end = line_end(l->t.byte, l->t.n, p->from);
-    unsigned count = 0;
-    if (p->entry) return 0;
-    while (i < end && (l->t.byte[i] < '0' || l->t.byte[i] > '9')) i++;
-    for (; i < end && l->t.byte[i] >= '0' && l->t.byte[i] <= '9' && count < 100000; i++)
-        count = 10 * count + (unsigned)(l->t.byte[i] - '0');
-    snprintf(line, sizeof line, "%c %u", p->section, count);
-    return put_line(l, p, line);
+    const uint8_t *field = l->t.byte + p->from;
+    size_t n = p->to - p->from;
+    if (p->number != ARAL_FORM || n == 0) return 0;
+    slip s = is_letter(p) || is_zone(p) ? slip_of_letter(field, n, is_letter(p) ? (char)p->section : 0)
+                                        : slip_of_number(field, n);
+    if (!s.meant[0] || !takes(l->t.byte, l->t.n, p, s.meant)) return 0;
+    put_field(&l->t, p, s.meant);
+    return 1;
 }
 
-/* Takes out an empty line or a remark where the library then reads on. */
-static int drop_line(look *l, const aral_place *p)
+/* An empty field beside a space, which is taken out. */
+static int mend_space(look *l, const aral_place *p, int high)
 {
     size_t start = line_start(l->t.byte, p->from), end = line_end(l->t.byte, l->t.n, p->from);
-    uint8_t first = end > start ? l->t.byte[start] : '#';
-    if ((first != '#' && first != '/' && (first < 'a' || first > 'z')) || end == l->t.n) return 0;
-    trial t = try_text(l->t.byte, l->t.n);
-    splice(&t, start, end - start + 1, "", 0);
-    aral_place q = where(&t);
-    if (q.number && q.line <= p->line && q.section) {
-        give_back_trial(&t);
-        return 0;
-    }
-    give_back_trial(&l->t);
-    l->t = t;
-    l->shift++;
+    if (p->from < p->to || start == end) return 0;
+    if (p->from == end && (l->t.byte[end - 1] != ' ' || *field_name(p, high).name)) return 0;
+    splice(&l->t, p->from - (p->from == end), 1, "", 0);
     return 1;
 }
 
 /* The field by what was meant; or cut off, where it is too many; or by a value that the library takes there. */
-static int mend_field(look *l, const aral_place *p)
+static int mend_field(look *l, const aral_place *p, int high)
 {
-    const uint8_t *field = l->t.byte + p->from;
-    size_t n = p->to - p->from, end = line_end(l->t.byte, l->t.n, p->from);
-    slip s = is_letter(p) || is_zone(p) ? slip_of_letter(field, n, is_letter(p) ? (char)p->section : 0)
-                                        : slip_of_number(field, n);
-    if (!strncmp(field_name(p, 1).name, "one field more", 14)
-        || (p->number == ARAL_FORM && !p->least && !p->greatest && p->field > 2)) {
+    size_t end = line_end(l->t.byte, l->t.n, p->from);
+    if (mend_space(l, p, high)) return 1;
+    make_up(l, p);
+    if (mend_as_meant(l, p)) return 1;
+    if (p->number == ARAL_COUNT || !looks_right(l, p)) return 0;
+    l->spoilt_line = p->from == end || !*field_name(p, high).name ? p->line : l->spoilt_line;
+    if (!*field_name(p, high).name) {
         splice(&l->t, p->from - 1, end - p->from + 1, "", 0);
         return 1;
     }
-    if (p->number == ARAL_FORM && s.meant[0] && takes(l->t.byte, l->t.n, p, s.meant)) {
-        put_field(&l->t, p, s.meant);
-        return 1;
-    }
-    make_up(l, p);
-    if (p->least <= p->greatest && takes(l->t.byte, l->t.n, p, some_word(p))) {
-        put_field(&l->t, p, some_word(p));
-        return 1;
-    }
-    return put_line(l, p, example_of(p));
+    make_up_section(l, (char)p->section);
+    if (p->least > p->greatest || !takes(l->t.byte, l->t.n, p, some_word(p)))
+        return put_line(l, p, example_of(p, high));
+    put_field(&l->t, p, some_word(p));
+    return 1;
+}
+
+/* The sheet's end comes too early, or too late: there is nothing more to be looked at. */
+static int stop_at_end(look *l, const aral_place *p, int told)
+{
+    if (!told) return 0;
+    if (!p->section) tell_rest(l, p);
+    else if (!l->cut && begins(l, own_line(l, p->line)))
+        printf(": the sheet ends before it, and %s is called for\n", called_name((char)p->section, p->entry));
+    return 0;
+}
+
+static int end_line(look *l, const aral_place *p, int told)
+{
+    if (told && !l->cut && begins(l, own_line(l, p->line))) printf(": it has no line end\n");
+    splice(&l->t, l->t.n, 0, "\n", 1);
+    return !l->cut;
+}
+
+static int go_by_guess(look *l, const guess *g, int told)
+{
+    if (told && begins(l, own_line(l, g->line))) print_guess_shortly(g);
+    apply_guess(&l->t, g);
+    l->shift -= g->added;
+    if (g->kind == NO_ENTRY || g->kind == NO_SECTION) make_up_section(l, g->section);
+    return 1;
 }
 
 /* Mends the fault, and tells it where it is not the verdict. Answers whether there is more to be looked at. */
@@ -228,25 +235,11 @@ static int mend(look *l, const aral_place *p, int told)
     aral_job job;
     int high = p->section == 'F' && job_before(l->t.byte, p, &job) && job.profile.count > 0;
     guess g = guess_meant(l->t.byte, l->t.n, p);
-    if (is_unended(l->t.n, p)) {
-        if (told && !l->cut && begins(l, own_line(l, p->line))) printf(": it has no line end\n");
-        splice(&l->t, l->t.n, 0, "\n", 1);
-        return !l->cut;
-    }
-    if (g.kind != NO_GUESS) {
-        if (told) tell_guess(l, &g);
-        apply_guess(&l->t, &g);
-        l->shift -= g.added;
-        return 1;
-    }
-    if (!p->section && told) tell_rest(l, p);
-    if (!p->field) {
-        if (p->section && told && !l->cut && begins(l, own_line(l, p->line)))
-            printf(": the sheet ends before it, and %s is called for\n", entry_name((char)p->section, 0));
-        return 0;
-    }
+    if (is_unended(l->t.n, p)) return end_line(l, p, told);
+    if (g.kind != NO_GUESS) return go_by_guess(l, &g, told);
+    if (!p->field) return stop_at_end(l, p, told);
     if (told) tell_field(l, p, high);
-    return drop_line(l, p) || mend_spaces(l, p) || mend_count_line(l, p) || mend_field(l, p);
+    return mend_field(l, p, high);
 }
 
 /* ---- The file ---- */
@@ -295,9 +288,10 @@ void tell_others(const uint8_t *sheet, size_t n)
     for (int steps = 0; p.number && steps < STEPS; steps++) {
         uint32_t before = own_line(&l, p.line);
         int told = !is_verdict(&l, &p) && !is_made_up(&l, &p);
+        size_t length = l.t.n;
         if (!mend(&l, &p, told)) break;
         aral_place q = where(&l.t);
-        if (q.number && !lies_behind(&q, own_line(&l, q.line), &p, before)) break;
+        if (q.number && l.t.n >= length && !lies_behind(&q, own_line(&l, q.line), &p, before)) break;
         p = q;
     }
     if (l.more) printf("  and %u more\n", l.more);

@@ -59,9 +59,19 @@ static const char *const spaces[] = {
     "\xc2\xa0", "\xe2\x80\xaf", "\xe2\x80\x82", "\xe2\x80\x83", "\xe2\x80\x87", "\xe2\x80\x89", "\xe2\x80\x8a",
     "\xe2\x80\x8b", "\xe3\x80\x80", "\xa0", NULL};
 
-static int has_dash(bytes f) { size_t at; return find(f, dashes, &at) != NULL; }
+/* Whether a sign of these stands among plain ones. */
+static int has_sign(bytes f, const char *const *signs)
+{
+    size_t at;
+    const char *sign = find(f, signs, &at);
+    for (size_t i = 0; sign && i < f.n; i++)
+        if ((i < at || i >= at + strlen(sign)) && (f.byte[i] < ' ' || f.byte[i] > '~')) return 0;
+    return sign != NULL;
+}
 
-static int has_space(bytes f) { size_t at; return find(f, spaces, &at) != NULL; }
+static int has_dash(bytes f) { return has_sign(f, dashes); }
+
+static int has_space(bytes f) { return has_sign(f, spaces); }
 
 /* ---- Slips of a number ---- */
 
@@ -94,12 +104,36 @@ static int has_comma(bytes f) { return has_fraction(f, ','); }
 
 static int has_point(bytes f) { return has_fraction(f, '.'); }
 
+static int is_comma_list(bytes f) { return has(f, ",") && count_of(f, is_digit) > 0; }
+
 static int is_list(bytes f) { return has(f, ",;|") && count_of(f, is_digit) > 0; }
+
+/* Where a number ends that may have a comma or a point. */
+static size_t end_of_number(bytes f)
+{
+    size_t at = minus_of(f);
+    while (at < f.n && (is_digit(f.byte[at]) || f.byte[at] == '.' || f.byte[at] == ',')) at++;
+    return at;
+}
 
 static int is_power(bytes f)
 {
+    size_t at = end_of_number(f);
+    if (leading_digits(f) == 0 || at + 1 >= f.n || !is_digit(f.byte[f.n - 1])) return 0;
+    return f.byte[at] == 'e' || f.byte[at] == 'E';
+}
+
+/* Digits, and behind them a point, a colon or the like. */
+static int has_stop(bytes f)
+{
+    return leading_digits(f) > 0 && minus_of(f) + leading_digits(f) + 1 == f.n && strchr(".:;!)", f.byte[f.n - 1]);
+}
+
+static int has_thousands(bytes f)
+{
     size_t at = minus_of(f) + leading_digits(f);
-    return at > minus_of(f) && at + 1 < f.n && (f.byte[at] == 'e' || f.byte[at] == 'E') && is_digit(f.byte[f.n - 1]);
+    if (leading_digits(f) == 0 || at + 3 >= f.n || !is_digit(f.byte[at + 1])) return 0;
+    return f.byte[at] == '\'' || f.byte[at] == '_';
 }
 
 /* A letter O among digits, or alone; small l and capital I for a 1. */
@@ -111,18 +145,14 @@ static int has_lookalike(bytes f)
     return looks > 0 && looks + digits + minus_of(f) == f.n && (digits > 0 || f.byte[f.n - 1] == 'O');
 }
 
-static int is_unit_byte(uint8_t byte)
-{
-    return is_small(byte) || is_capital(byte) || byte == '/' || byte == '%' || byte >= 0x80;
-}
+static int opens_unit(uint8_t byte) { return is_small(byte) || is_capital(byte) || byte == '%' || byte >= 0x80; }
 
 static int has_unit(bytes f)
 {
-    size_t at = minus_of(f);
-    while (at < f.n && (is_digit(f.byte[at]) || f.byte[at] == '.' || f.byte[at] == ',')) at++;
-    if (at == minus_of(f) || at == f.n) return 0;
+    size_t at = end_of_number(f);
+    if (leading_digits(f) == 0 || at == f.n || !opens_unit(f.byte[at])) return 0;
     for (size_t i = at; i < f.n; i++)
-        if (!is_unit_byte(f.byte[i]) && !is_digit(f.byte[i])) return 0;
+        if (!opens_unit(f.byte[i]) && !is_digit(f.byte[i]) && f.byte[i] != '/' && f.byte[i] != '^') return 0;
     return 1;
 }
 
@@ -137,6 +167,8 @@ static int has_fold(bytes f) { return f.n > 1 && f.byte[0] == '-' && has((bytes)
 static int is_dash(bytes f) { return f.n == 1 && f.byte[0] == '-'; }
 
 static int is_word(bytes f) { return f.n > 0 && count_of(f, is_small) + count_of(f, is_capital) == f.n; }
+
+static int is_one_letter(bytes f) { return f.n == 1 && is_word(f); }
 
 static int is_other(bytes f) { return f.n + 1 > 0; }
 
@@ -154,16 +186,20 @@ static const struct { int (*is)(bytes); const char *what, *advice; } number_slip
     {is_long, "too many digits", "A number has at most 7."},
     {has_comma, "a decimal comma", "Numbers are whole."},
     {has_point, "a decimal point", "Numbers are whole."},
-    {is_list, "a list with commas", "Fields are parted by one space and nothing else."},
+    {has_stop, "a sign behind the number", "Leave it out."},
+    {is_comma_list, "a list with commas", "Fields are parted by one space and nothing else."},
+    {is_list, "a list with other signs than spaces", "Fields are parted by one space and nothing else."},
     {is_power, "a power of ten", "Write the number out."},
     {has_lookalike, "a letter that looks like a digit", "O is not 0, and l is not 1."},
     {has_unit, "a unit behind the number", "Leave it out."},
     {has_name, "a name before the number", "Write the number alone."},
+    {has_thousands, "a mark between thousands", "Leave it out."},
     {has_quote, "a quotation mark", "Leave it out."},
     {is_remark, "a remark", "A sheet has none."},
     {has_fold, "two minus signs", ""},
-    {is_dash, "a dash", "It may stand for a face's mark alone."},
-    {is_word, "a word", "A number stands here."},
+    {is_dash, "a minus alone", "It stands directly before its number."},
+    {is_one_letter, "a letter", ""},
+    {is_word, "a word", ""},
     {is_other, "no number", ""},
 };
 
@@ -174,7 +210,8 @@ static void mean(bytes f, slip *s)
 {
     size_t n = 0, at = 0;
     const char *dash = find(f, dashes, &at);
-    if (has_comma(f) || has_point(f) || is_list(f) || is_power(f) || is_word(f) || has_fold(f)) return;
+    if (has_comma(f) || has_point(f) || is_power(f) || is_word(f) || has_fold(f)) return;
+    if (is_list(f) && !has_stop(f)) return;
     for (size_t i = 0; i < f.n && n < 9; i++) {
         uint8_t byte = f.byte[i];
         int minus = byte == '-' && n == 0;
@@ -208,7 +245,7 @@ static int is_glued(bytes f) { return f.n > 1 && is_capital(f.byte[0]) && is_dig
 
 static int has_colon(bytes f) { return f.n > 1 && is_capital(f.byte[0]) && has(f, ":=.)"); }
 
-static int is_small_letter(bytes f) { return f.n > 0 && is_small(f.byte[0]); }
+static int is_small_letter(bytes f) { return f.n == 1 && is_small(f.byte[0]); }
 
 static const struct { int (*is)(bytes); const char *what, *advice; } letter_slips[] = {
     {is_empty, "nothing", ""},
@@ -216,13 +253,16 @@ static const struct { int (*is)(bytes); const char *what, *advice; } letter_slip
     {has_return, "a carriage return", "Save the file with LF line ends, or let `aral mend` take it out."},
     {has_tab, "a tab", "Fields are parted by one space."},
     {has_space, "a space that is not the plain one", "Type it with the space bar."},
+    {is_comma_list, "a list with commas", "Fields are parted by one space and nothing else."},
+    {is_list, "a list with other signs than spaces", "Fields are parted by one space and nothing else."},
     {has_colon, "a letter with a sign behind it", "The letter stands alone, before one space."},
     {is_glued, "a letter and a number in one", "One space goes between them."},
     {has_quote, "a quotation mark", "Leave it out."},
     {is_remark, "a remark", "A sheet has none."},
     {all_digits, "a number", ""},
     {is_small_letter, "a small letter", "Letters are capital."},
-    {is_word, "a letter that is not called for", ""},
+    {is_one_letter, "another letter", ""},
+    {is_word, "a word", ""},
     {is_other, "no letter", ""},
 };
 
@@ -234,9 +274,9 @@ slip slip_of_letter(const uint8_t *field, size_t n, char letter)
     while (!letter_slips[i].is(f)) i++;
     s.what = letter_slips[i].what;
     s.advice = letter_slips[i].advice;
-    if (is_small_letter(f) && f.n > 1) s.what = "a word", s.advice = "";
-    if (letter) snprintf(s.meant, sizeof s.meant, "%c", letter);
-    else if (is_small_letter(f) && f.n == 1) snprintf(s.meant, sizeof s.meant, "%c", field[0] - 'a' + 'A');
+    if (letter && n > 0 && (field[0] == letter || field[0] == letter - 'A' + 'a'))
+        snprintf(s.meant, sizeof s.meant, "%c", letter);
+    if (!letter && is_small_letter(f)) snprintf(s.meant, sizeof s.meant, "%c", field[0] - 'a' + 'A');
     return s;
 }
 

@@ -92,7 +92,7 @@ const char *some_word(const aral_place *p)
 /* Adds a line where one is missing, or mends a field of what was added. */
 static void fill_in(trial *t, const aral_place *p)
 {
-    const char *line = example_of(p);
+    const char *line = example_of(p, 0);
     if (!is_missing(t->byte, t->n, p)) {
         if (p->field && p->number == ARAL_FORM && p->least == 0 && p->greatest == 0 && p->field > 2)
             splice(t, p->from - 1, line_end(t->byte, t->n, p->from) - p->from + 1, "", 0);

@@ -8,18 +8,19 @@
 #define LENGTH "5.2 m is written 520"
 #define AREA "10.5 m2 is written 1050"
 
-/* A section: its letter, what its count line opens and what its entries are called; then what an entry holds, with `%s`
-   for which of how many it is, and one in form; and its fields in their order. */
+/* A section: its letter, what it is called and its entries are called; which an entry is, after `is`, with `%s` for its
+   number; what it holds, and one in form; and its fields in their order. */
 typedef struct {
     char letter;
-    const char *opens, *one, *several, *entry, *example;
+    const char *called, *one, *several, *which, *holds, *example;
     field_words field[6];
 } section_words;
 
 static const section_words sections[] = {
-    {'V', "the year", "year", "years", "is the year that the sheet is written for", "3", {{"the year", ""}}},
-    {'B', "the building", "building", "buildings",
-     "is the building: height h, longer side a and shorter side b, air density, roof kind and roof number x",
+    {'V', "the year", "year", "years", "the year", "the one that the sheet is written for", "3",
+     {{"the year", ""}}},
+    {'B', "the building", "building", "buildings", "the building",
+     "height h, longer side a and shorter side b in cm,\nair density in g/m3, roof kind and roof number x",
      "500 1200 1000 1250 2 0",
      {{"the height h, in cm", LENGTH},
       {"the longer side a, in cm", LENGTH},
@@ -27,21 +28,20 @@ static const section_words sections[] = {
       {"the air density, in g/m3", "1.25 kg/m3 is written 1250"},
       {"the roof kind", ""},
       {"the roof number x, in tenths of a degree or in cm", "12.5 degrees is written 125"}}},
-    {'W', "the winds", "wind", "winds", "is wind %s: its direction and its speed", "0 400",
+    {'W', "the winds", "wind", "winds", "wind %s", "its direction and its speed", "0 400",
      {{"the wind's direction, in degrees", ""}, {"the wind's speed, in tenths of m/s", "40.5 m/s is written 405"}}},
-    {'I', "the internal coefficients", "internal coefficient", "internal coefficients", "is internal coefficient %s",
-     "-30", {{"the internal coefficient, in hundredths", "-0.3 is written -30"}}},
-    {'P', "the wind's profile", "line of the profile", "lines of the profile",
-     "is line %s of the profile: a height, above the one before it, and the part of the wind's speed that blows there",
-     "1200 950",
+    {'I', "the internal coefficients", "internal coefficient", "internal coefficients", "internal coefficient %s",
+     "in hundredths", "-30", {{"the internal coefficient, in hundredths", "-0.3 is written -30"}}},
+    {'P', "the wind's profile", "line of the profile", "lines of the profile", "line %s of the profile",
+     "a height, above the one before it, and the part\nof the wind's speed that blows there", "1200 950",
      {{"the height, in cm", LENGTH}, {"the factor of the speed, in thousandths", "0.95 is written 950"}}},
-    {'F', "the faces", "face", "faces", "is face %s: its zone, its mark and its areas on x, y and z", "A 0 1000 0 0",
+    {'F', "the faces", "face", "faces", "face %s", "its zone, its mark and its areas on x, y and z", "A 0 1000 0 0",
      {{"the zone", ""},
       {"the mark, a wind's direction or -", ""},
       {"the area on x, in dm2", AREA},
       {"the area on y, in dm2", AREA},
       {"the area on z, in dm2", AREA}}},
-    {'F', "the faces", "face", "faces", "is face %s: its zone, its mark, its height and its areas on x, y and z",
+    {'F', "the faces", "face", "faces", "face %s", "its zone, its mark, its height and its areas on x, y and z",
      "A 0 600 1000 0 0",
      {{"the zone", ""},
       {"the mark, a wind's direction or -", ""},
@@ -63,11 +63,11 @@ static const section_words *words_of(uint8_t letter, int high)
 field_words field_name(const aral_place *p, int high)
 {
     const section_words *s = words_of(p->section, high);
-    field_words nothing = {"one field more than this line has", ""};
-    if (!s || !p->field) return (field_words){"", ""};
+    field_words none = {"", ""};
+    if (!s || !p->field) return none;
     if (p->entry == 0 && p->field == 1) return (field_words){"the section's letter", ""};
     if (p->entry == 0 && p->field == 2) return (field_words){"the count", ""};
-    if (p->entry == 0 || p->field > 6 || !s->field[p->field - 1].name) return nothing;
+    if (p->entry == 0 || p->field > 6 || !s->field[p->field - 1].name) return none;
     return s->field[p->field - 1];
 }
 
@@ -81,13 +81,29 @@ int is_letter(const aral_place *p) { return p->section && p->entry == 0 && p->fi
 
 /* ---- Lines ---- */
 
+const char *section_name(char section)
+{
+    const section_words *s = words_of((uint8_t)section, 0);
+    return s ? s->called : "";
+}
+
 const char *entry_name(char section, int several)
 {
     const section_words *s = words_of((uint8_t)section, 0);
     return !s ? "line" : several ? s->several : s->one;
 }
 
-static const char *example(const aral_place *p, int high)
+const char *called_name(char section, uint32_t entry)
+{
+    static char name[60];
+    char number[16];
+    snprintf(number, sizeof number, "%u", entry);
+    if (entry == 0) snprintf(name, sizeof name, "section %c", section);
+    else snprintf(name, sizeof name, words_of((uint8_t)section, 0)->which, number);
+    return name;
+}
+
+const char *example_of(const aral_place *p, int high)
 {
     static char opening[] = "? 1";
     if (p->entry > 0) return words_of(p->section, high)->example;
@@ -95,23 +111,17 @@ static const char *example(const aral_place *p, int high)
     return opening;
 }
 
-const char *example_of(const aral_place *p) { return example(p, 0); }
-
 void print_purpose(const aral_place *p, int high, const char *count)
 {
     const section_words *s = words_of(p->section, high);
     char which[40];
+    if (!s) return;
     printf("Line %u ", p->line);
-    if (!s) {
-        printf("is after the last face, where the sheet must end.\n");
-        return;
-    }
     if (*count) snprintf(which, sizeof which, "%u of %.20s", p->entry, count);
     else snprintf(which, sizeof which, "%u", p->entry);
-    if (p->entry == 0) printf("opens section %c, %s: the letter %c, a space and how many lines follow", s->letter,
-                              s->opens, s->letter);
-    else printf(s->entry, which);
-    printf(", as `%s`.\n", example(p, high));
+    if (p->entry == 0) printf("opens section %c, %s", s->letter, s->called);
+    else printf("is "), printf(s->which, which);
+    printf(", as `%s`: %s.\n", example_of(p, high), p->entry ? s->holds : "its letter, a space and how many follow");
 }
 
 /* ---- Refusals ---- */

@@ -16,7 +16,8 @@ const char *title_of(uint32_t number);
 
 /* ---- Names ---- */
 
-/* A field of a line: what it is called, with its unit, and how a value of daily life is written there, or "". */
+/* A field of a line: what it is called, with its unit, and how a value of daily life is written there, or "". Of one
+   that the line has not the name is "". */
 typedef struct { const char *name, *written; } field_words;
 field_words field_name(const aral_place *p, int high);
 
@@ -26,12 +27,16 @@ int is_mark(const aral_place *p);
 int is_zone(const aral_place *p);
 int is_letter(const aral_place *p);
 
-/* Of a section: what its entries are called, one and several of them, as `wind` and `winds`. */
+/* A section as `the winds`; its entries, one or several of them, as `wind` and `winds`; and what is called for, as
+   `wind 2`, `the building` or `section I`, where the entry is 0. */
+const char *section_name(char section);
 const char *entry_name(char section, int several);
+const char *called_name(char section, uint32_t entry);
 
-/* What the line is for, as `is the building: ..`, printed; and a line of that kind which is in form. */
+/* What the line is for, as `Line 2 is the building ..`, printed; and a line of that kind which is in form. `high` is
+   whether faces have heights. */
 void print_purpose(const aral_place *p, int high, const char *count);
-const char *example_of(const aral_place *p);
+const char *example_of(const aral_place *p, int high);
 
 /* ---- What a building has ---- */
 
