@@ -103,7 +103,8 @@ static void tell_rest(look *l, const aral_place *p)
 static int is_made_up(const look *l, const aral_place *p)
 {
     int by_building = p->number == ARAL_ZONE || (p->number == ARAL_RANGE && (is_direction(p) || is_mark(p)));
-    int by_profile = p->number == ARAL_HEIGHT || (p->number == ARAL_RANGE && p->section == 'P' && p->least > 0);
+    int rising = p->section == 'P' && p->field == 1 && p->least > 0;
+    int by_profile = p->number == ARAL_HEIGHT || (p->number == ARAL_RANGE && rising);
     int here = l->made_up_line == p->line;
     if (l->spoilt_line == p->line || (here && (l->made_up_fields >> (p->field & 31) & 1))) return 1;
     if (here && p->number >= ARAL_WALLS && p->number <= ARAL_ZONE) return 1;
@@ -173,6 +174,23 @@ static int mend_as_meant(look *l, const aral_place *p)
     return 1;
 }
 
+/* A value that the library takes there. The least one may be too low yet by the lines before it, and is then raised. */
+static int mend_by_value(look *l, const aral_place *p)
+{
+    trial t = try_text(l->t.byte, l->t.n);
+    put_field(&t, p, some_word(p));
+    aral_place q = where(&t);
+    if (q.number == p->number && q.line == p->line && q.field == p->field) put_field(&t, &q, some_word(&q));
+    q = where(&t);
+    if (q.number && q.line == p->line && q.field == p->field) {
+        give_back_trial(&t);
+        return 0;
+    }
+    give_back_trial(&l->t);
+    l->t = t;
+    return 1;
+}
+
 /* An empty field beside a space, which is taken out. */
 static int mend_space(look *l, const aral_place *p, int high)
 {
@@ -197,10 +215,7 @@ static int mend_field(look *l, const aral_place *p, int high)
         return 1;
     }
     make_up_section(l, (char)p->section);
-    if (p->least > p->greatest || !takes(l->t.byte, l->t.n, p, some_word(p)))
-        return put_line(l, p, example_of(p, high));
-    put_field(&l->t, p, some_word(p));
-    return 1;
+    return mend_by_value(l, p) || put_line(l, p, example_of(p, high));
 }
 
 /* The sheet's end comes too early, or too late: there is nothing more to be looked at. */

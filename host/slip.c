@@ -176,7 +176,7 @@ static int is_other(bytes f) { return f.n + 1 > 0; }
 static const struct { int (*is)(bytes); const char *what, *advice; } number_slips[] = {
     {is_empty, "nothing", ""},
     {has_zero_byte, "a byte that is zero", "Save the file as plain text."},
-    {has_return, "a carriage return", "Save the file with LF line ends, or let `aral mend` take it out."},
+    {has_return, "a carriage return", "Save the file with LF line ends."},
     {has_tab, "a tab", "Fields are parted by one space."},
     {has_dash, "a sign that only looks like a minus", "Type it with the minus key."},
     {has_space, "a space that is not the plain one", "Type it with the space bar."},
@@ -250,7 +250,7 @@ static int is_small_letter(bytes f) { return f.n == 1 && is_small(f.byte[0]); }
 static const struct { int (*is)(bytes); const char *what, *advice; } letter_slips[] = {
     {is_empty, "nothing", ""},
     {has_zero_byte, "a byte that is zero", "Save the file as plain text."},
-    {has_return, "a carriage return", "Save the file with LF line ends, or let `aral mend` take it out."},
+    {has_return, "a carriage return", "Save the file with LF line ends."},
     {has_tab, "a tab", "Fields are parted by one space."},
     {has_space, "a space that is not the plain one", "Type it with the space bar."},
     {is_comma_list, "a list with commas", "Fields are parted by one space and nothing else."},
