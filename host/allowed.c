@@ -60,7 +60,7 @@ static probe begin_probe(const uint8_t *sheet, size_t n, const aral_place *p)
 
 /* ---- Lists ---- */
 
-typedef struct { char word[LISTED][8]; int count; } list;
+typedef struct { char word[LISTED][16]; int count; } list;
 
 static void add_word(list *l, const char *word)
 {
@@ -75,7 +75,7 @@ static int follows(const char *before, const char *word)
 /* Letters that follow one another are told as `A to F`. */
 static const char *told(const list *l)
 {
-    static char text[LISTED * 8];
+    static char text[LISTED * 24];
     size_t n = 0;
     text[0] = 0;
     for (int i = 0; i < l->count; i++) {
@@ -92,7 +92,7 @@ static const char *told(const list *l)
 const char *allowed_at(const uint8_t *sheet, size_t n, const aral_place *p)
 {
     list l = {.count = 0};
-    char word[8];
+    char word[16];
     probe b = begin_probe(sheet, n, p);
     for (int letter = 'A'; is_zone(p) && letter <= 'Z'; letter++) {
         snprintf(word, sizeof word, "%c", letter);

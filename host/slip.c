@@ -210,6 +210,7 @@ static void mean(bytes f, slip *s)
 {
     size_t n = 0, at = 0;
     const char *dash = find(f, dashes, &at);
+    int looks = has_lookalike(f);
     if (has_comma(f) || has_point(f) || is_power(f) || is_word(f) || has_fold(f)) return;
     if (is_list(f) && !has_stop(f)) return;
     for (size_t i = 0; i < f.n && n < 9; i++) {
@@ -218,7 +219,7 @@ static void mean(bytes f, slip *s)
         if (dash && i == at && n == 0) minus = 1;
         if (minus) s->meant[n++] = '-';
         else if (is_digit(byte)) s->meant[n++] = (char)byte;
-        else if (has_lookalike(f)) s->meant[n++] = byte == 'O' || byte == 'o' ? '0' : '1';
+        else if (looks) s->meant[n++] = byte == 'O' || byte == 'o' ? '0' : '1';
     }
     s->meant[n] = 0;
     size_t sign = s->meant[0] == '-';
