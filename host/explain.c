@@ -81,6 +81,9 @@ static uint32_t line_of(const fault *f, char section, uint32_t entry)
 /* What a field with nothing in it comes of. */
 enum { FILLED, MISSING, EMPTY_LINE, SPACE_BEFORE, SPACE_BETWEEN, SPACE_BEHIND };
 
+/* Whether the line called for has no such field. */
+static int is_too_many(const fault *f) { return f->p.field && !*field_name(&f->p, f->high).name; }
+
 static int nothing_of(const fault *f)
 {
     if (!f->p.field || f->p.from < f->p.to) return FILLED;
@@ -88,7 +91,7 @@ static int nothing_of(const fault *f)
     if (f->p.from == f->start) return SPACE_BEFORE;
     for (size_t i = (size_t)f->p.from; i < f->end; i++)
         if (f->sheet[i] != ' ') return SPACE_BETWEEN;
-    return f->sheet[f->p.from - 1] == ' ' ? SPACE_BEHIND : MISSING;
+    return is_too_many(f) ? SPACE_BEHIND : MISSING;
 }
 
 static const char *label_of(const fault *f)
@@ -162,8 +165,6 @@ static void print_allowed(const fault *f, const char *why)
 }
 
 /* ---- 1: the form ---- */
-
-static int is_too_many(const fault *f) { return f->p.field && !*field_name(&f->p, f->high).name; }
 
 static void tell_too_many(const fault *f)
 {

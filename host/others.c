@@ -15,7 +15,7 @@ enum { LOOKED_AT = 1 << 16, STEPS = 2000, TOLD = 20 };
 
 /* The copy, and whether its end was cut off; how many lines the student's text has more up to here; what was told; the
    line of the copy that has a field too many or too few; and what was made up: a value on this line of the copy, which
-   fields of it, one of the building, one of the profile. */
+   fields of it, the roof of the building, a height of the profile. */
 typedef struct {
     trial t;
     int cut;
@@ -125,6 +125,7 @@ static void make_up(look *l, const aral_place *p)
     l->made_up_fields |= (uint32_t)1 << (p->field & 31);
 }
 
+/* A whole line of this section. */
 static void make_up_section(look *l, char section)
 {
     l->made_up_building |= section == 'B';
@@ -214,8 +215,11 @@ static int mend_field(look *l, const aral_place *p, int high)
         splice(&l->t, p->from - 1, end - p->from + 1, "", 0);
         return 1;
     }
+    l->made_up_building |= p->section == 'B' && p->field == 5;
+    l->made_up_profile |= p->section == 'P' && p->field == 1;
+    if (mend_by_value(l, p)) return 1;
     make_up_section(l, (char)p->section);
-    return mend_by_value(l, p) || put_line(l, p, example_of(p, high));
+    return put_line(l, p, example_of(p, high));
 }
 
 /* The sheet's end comes too early, or too late: there is nothing more to be looked at. */
@@ -259,7 +263,14 @@ static int mend(look *l, const aral_place *p, int told)
 
 /* ---- The file ---- */
 
-static void drop_byte(trial *t, size_t *at) { splice(t, (*at)--, 1, "", 0); }
+/* Takes out the returns before line ends. */
+static void drop_returns(trial *t)
+{
+    size_t n = 0;
+    for (size_t i = 0; i < t->n; i++)
+        if (t->byte[i] != '\r' || i + 1 == t->n || t->byte[i + 1] != '\n') t->byte[n++] = t->byte[i];
+    t->n = n;
+}
 
 /* The signs of UTF-16 in one byte each: of those that have more, a question mark. */
 static void narrow(trial *t)
@@ -280,9 +291,7 @@ static void mend_file(trial *t)
     if (slip == WHOLE_CR)
         for (size_t i = 0; i < t->n; i++)
             if (t->byte[i] == '\r') t->byte[i] = '\n';
-    slip = slip_of_file(t->byte, t->n);
-    for (size_t i = 0; slip == WHOLE_RETURNS && i + 1 < t->n; i++)
-        if (t->byte[i] == '\r' && t->byte[i + 1] == '\n') drop_byte(t, &i);
+    if (slip_of_file(t->byte, t->n) == WHOLE_RETURNS) drop_returns(t);
 }
 
 /* ---- The look ---- */
