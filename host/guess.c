@@ -127,6 +127,18 @@ static guess parted(const fault *f)
     return line_as(f, line);
 }
 
+/* A minus with a space behind it, and the number that it belongs to. */
+static guess joined(const fault *f)
+{
+    char line[sizeof nothing.word];
+    const char *sheet = (const char *)f->sheet;
+    size_t from = (size_t)f->p->from, to = (size_t)f->p->to;
+    if (to - from != 1 || sheet[from] != '-' || to >= f->end || f->end - f->start >= sizeof line) return nothing;
+    snprintf(line, sizeof line, "%.*s%.*s", (int)(to - f->start), sheet + f->start, (int)(f->end - to - 1),
+             sheet + to + 1);
+    return line_as(f, line);
+}
+
 static int is_digit(uint8_t byte) { return byte >= '0' && byte <= '9'; }
 
 /* A count line of the right letter with a number somewhere, as `B1` or `w: 2 winds`; or the number alone. A first line
@@ -237,7 +249,8 @@ static guess guess_of(const fault *f)
 {
     static guesser *const at_count[] = {
         parted, no_count_line, more, count_line, later_sheet, extra_line, no_section, NULL};
-    static guesser *const at_entry[] = {parted, fewer, extra_line, no_entry, building_for_year, later_sheet, NULL};
+    static guesser *const at_entry[] = {
+        parted, joined, fewer, extra_line, no_entry, building_for_year, later_sheet, NULL};
     static guesser *const at_end[] = {more, NULL};
     static guesser *const of_count[] = {as_many_as_follow, year_for_count, NULL};
     static guesser *const of_sides[] = {swapped, NULL};

@@ -239,9 +239,13 @@ static int end_line(look *l, const aral_place *p, int told)
     return !l->cut;
 }
 
-static int go_by_guess(look *l, const guess *g, int told)
+static int go_by_guess(look *l, const aral_place *p, const guess *g, int told)
 {
-    if (told && begins(l, own_line(l, g->line))) print_guess_shortly(g);
+    int space = g->kind == OTHER_LINE && p->from == p->to;
+    if (told && begins(l, own_line(l, g->line))) {
+        if (space) printf(": a space too many\n");
+        else print_guess_shortly(g);
+    }
     apply_guess(&l->t, g);
     l->shift -= g->added;
     if (g->kind == NO_ENTRY || g->kind == NO_SECTION) make_up_section(l, g->section);
@@ -255,7 +259,7 @@ static int mend(look *l, const aral_place *p, int told)
     int high = p->section == 'F' && job_before(l->t.byte, p, &job) && job.profile.count > 0;
     guess g = guess_meant(l->t.byte, l->t.n, p);
     if (is_unended(l->t.n, p)) return end_line(l, p, told);
-    if (g.kind != NO_GUESS) return go_by_guess(l, &g, told);
+    if (g.kind != NO_GUESS) return go_by_guess(l, p, &g, told);
     if (!p->field) return stop_at_end(l, p, told);
     if (told) tell_field(l, p, high);
     return mend_field(l, p, high);
