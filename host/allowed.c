@@ -22,9 +22,9 @@ int takes(const uint8_t *sheet, size_t n, const aral_place *p, const char *word)
     return !q.number || q.line != p->line || q.field != p->field;
 }
 
-/* The sheet up to the faulty line, and in its place one in form: of a face with the zone that stands there, where the
-   library takes it. */
-typedef struct { trial t; aral_place p; size_t start; const char *example; char zone[2]; } probe;
+/* The sheet up to the fault's section, and then that section with one entry, which is in form: of a face with the zone
+   that stands there, where the library takes it. `line` is that entry's. */
+typedef struct { trial t; size_t start; uint32_t line; const char *example; char zone[2]; } probe;
 
 /* Puts a word for a field of the example, and says where the fault of that line then lies; 0 where it has none. */
 static uint32_t fault_with(probe *b, uint32_t field, const char *word)
@@ -43,15 +43,20 @@ static uint32_t fault_with(probe *b, uint32_t field, const char *word)
     splice(&b->t, b->start, 0, line, n);
     splice(&b->t, b->start + n, 0, "\n", 1);
     aral_place q = where(&b->t);
-    return q.number && q.line == b->p.line ? q.field : 0;
+    return q.number && q.line == b->line ? q.field : 0;
 }
 
 static probe begin_probe(const uint8_t *sheet, size_t n, const aral_place *p)
 {
     aral_job job;
+    char opening[] = "? 1\n";
     size_t start = line_start(sheet, p->from);
     int high = p->section == 'F' && job_before(sheet, p, &job) && job.profile.count > 0;
-    probe b = {try_text(sheet, start), *p, start, example_of(p, high), ""};
+    size_t before = start_above(sheet, p->from, p->entry);
+    probe b = {try_text(sheet, before), 0, p->line - p->entry + 1, example_of(p, high), ""};
+    opening[0] = (char)p->section;
+    splice(&b.t, b.t.n, 0, opening, 4);
+    b.start = b.t.n;
     if (!is_mark(p) || start >= n) return b;
     b.zone[0] = (char)sheet[start];
     if (fault_with(&b, 2, "0") == 1) b.zone[0] = 0;
