@@ -1,5 +1,4 @@
 /* Says what an accepted sheet holds, by the worksheet that the library reads it into. */
-#include "allowed.h"
 #include "words.h"
 #include <inttypes.h>
 #include <stdio.h>

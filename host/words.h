@@ -1,5 +1,6 @@
 /* The words that the commands share: what sections, lines and fields are called, and what a refusal is (words.c); what
-   a refusal means, for a first-year student (explain.c, observation.c); and what an accepted sheet holds (held.c). */
+   a refusal means, for a first-year student (explain.c, observation.c); which zones and winds a building has
+   (allowed.c); and what an accepted sheet holds (held.c). */
 #ifndef WORDS_H
 #define WORDS_H
 
