@@ -97,16 +97,18 @@ const char *called_name(char section, uint32_t entry)
 {
     static char name[60];
     char number[16];
+    const section_words *s = words_of((uint8_t)section, 0);
     snprintf(number, sizeof number, "%u", entry);
     if (entry == 0) snprintf(name, sizeof name, "section %c", section);
-    else snprintf(name, sizeof name, words_of((uint8_t)section, 0)->which, number);
+    else snprintf(name, sizeof name, s ? s->which : "entry %s", number);
     return name;
 }
 
 const char *example_of(const aral_place *p, int high)
 {
     static char opening[] = "? 1";
-    if (p->entry > 0) return words_of(p->section, high)->example;
+    const section_words *s = words_of(p->section, high);
+    if (p->entry > 0) return s ? s->example : "0";
     opening[0] = (char)p->section;
     return opening;
 }
