@@ -2,6 +2,7 @@
    shows each case, or a column, it adds up the faces' forces; of a rose it adds up cells. */
 #include "aralimogga.h"
 #include "cases.h"
+#include "check.h"
 #include "edit.h"
 #include "handout.h"
 #include "help.h"
@@ -9,7 +10,6 @@
 #include "rose.h"
 #include "rows.h"
 #include "units.h"
-#include "winds.h"
 #include "words.h"
 #include <errno.h>
 #include <inttypes.h>
@@ -54,18 +54,7 @@ static int totals(void)
     return ACCEPTED;
 }
 
-static int check(void)
-{
-    aral_answer answer = aral_read(sheet, length);
-    if (answer.number) {
-        explain(sheet, length, answer);
-        if (!longer) tell_mending(sheet, length, answer);
-        return REFUSED;
-    }
-    describe(sheet, length);
-    tell_unnamed_winds(sheet, length);
-    return ACCEPTED;
-}
+static int check(void) { return check_sheet(sheet, length, longer); }
 
 static int mend(void)
 {

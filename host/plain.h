@@ -1,6 +1,6 @@
 /* The entry points of the plain calculator: those of aralimogga.h, under another prefix. Worksheets are in
-   plain_edits.c, the column in plain_column.c, mending in plain_mend.c, roses in plain_rose.c, all others in
-   plain.c. */
+   plain_edits.c, the column in plain_column.c, mending in plain_mend.c, roses in plain_rose.c, where a fault lies in
+   plain_where.c, all others in plain.c. */
 #ifndef PLAIN_H
 #define PLAIN_H
 
@@ -14,6 +14,7 @@
 #endif
 
 aral_answer plain_read(const uint8_t *sheet, size_t n);
+aral_place plain_where(const uint8_t *sheet, size_t n);
 aral_text plain_rewrite(const uint8_t *sheet, size_t n, uint8_t *out, size_t room);
 aral_mended plain_mend(const uint8_t *sheet, size_t n, uint8_t *out, size_t room, uint64_t *list, size_t list_room);
 aral_text plain_report(const uint8_t *sheet, size_t n, uint8_t *out, size_t room);

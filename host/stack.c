@@ -28,6 +28,7 @@ static union {
     aral_answer answer;
     aral_text text;
     aral_mended mended;
+    aral_place place;
     aral_extreme extreme;
     aral_coefficient coefficient;
     aral_edited edited;
@@ -43,6 +44,7 @@ static union {
 CALL(read, answer, SHEET)
 CALL(rewrite, text, SHEET, out, OUT)
 CALL(mend, mended, SHEET, out, OUT, list, 3 * OUT)
+CALL(where, place, SHEET)
 CALL(report, text, SHEET, out, OUT)
 CALL(plain, text, SHEET, out, OUT)
 CALL(total, extreme, SHEET, 5)
@@ -76,7 +78,7 @@ static struct { const char *name; void (*call)(void); size_t most; } entry[] = {
     {"rose_new", call_rose_new, 0},   {"rose_take", call_rose_take, 0},
     {"rose_end", call_rose_end, 0},   {"panel", call_panel, 0},
     {"chart", call_chart, 0},         {"panel_newtons", call_panel_newtons, 0},
-    {"chart_newtons", call_chart_newtons, 0}};
+    {"chart_newtons", call_chart_newtons, 0}, {"where", call_where, 0}};
 enum { ENTRIES = sizeof entry / sizeof *entry };
 
 /* ---- How much it takes ---- */

@@ -7,6 +7,7 @@
 typedef struct {
     const char *name;
     aral_answer (*read)(const uint8_t *, size_t);
+    aral_place (*where)(const uint8_t *, size_t);
     aral_text (*report)(const uint8_t *, size_t, uint8_t *, size_t);
     aral_text (*plain)(const uint8_t *, size_t, uint8_t *, size_t);
     aral_coefficient (*outside)(int64_t, int64_t, int64_t, int64_t, int64_t, int64_t, int64_t, int64_t, uint8_t);
@@ -32,12 +33,13 @@ typedef struct {
 void expect(const calculator *c, const char *what, int holds);
 
 /* The worked edits (worked_edits.c), and the worked cases of long sheds (worked_long.c), of the plain engine
-   (worked_engine.c), of the newton column (worked_column.c), of mending (worked_mend.c) and of wind roses
-   (worked_rose.c). */
+   (worked_engine.c), of the newton column (worked_column.c), of where a fault lies (worked_where.c), of mending
+   (worked_mend.c) and of wind roses (worked_rose.c). */
 void check_edits(const calculator *c);
 void check_long(const calculator *c);
 void check_engine(const calculator *c);
 void check_newtons(const calculator *c);
+void check_places(const calculator *c);
 void check_mending(const calculator *c);
 void check_roses(const calculator *c);
 

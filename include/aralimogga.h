@@ -58,8 +58,8 @@ extern "C" {
 
 /* The version of these shapes: it rises where a record or a call changes. 2: a coefficient names its rows. 3: a
    question names its year. 4: worksheets. 5: a worksheet keeps its sums. 6: the plain engine. 7: newton columns.
-   8: sheets mended. 9: wind roses. 10: long sheds. */
-#define ARAL_VERSION 10
+   8: sheets mended. 9: wind roses. 10: long sheds. 11: where a fault lies. */
+#define ARAL_VERSION 11
 
 /* The refusals by name. */
 enum {
@@ -105,6 +105,28 @@ enum {
 
 /* Accepted (0, 0), or the refusal. */
 typedef struct { uint32_t number, line; } aral_answer;
+
+/* Where the first fault of a sheet lies, and what may stand there. `number` and `line` are those of aral_read, and
+   everything is 0 where the sheet is accepted.
+   `section` is the letter of the section that called for the line, 0 where no more lines were called for; `entry` is 0
+   at the section's count line, and else the number of its entry, from 1.
+   `field` is the first field with this fault, from 1; it is 0 for the line as a whole, where that is missing, extra or
+   has no LF. In a line out of form it is the first field that is not what is called for there: one out of form, one
+   too many, or the one that is missing. With 4 it is h where h/b is over 6, and else a; with 5 it is x; with 6 the zone
+   or, where a wall is not marked for a wind of its table, the mark.
+   The field is sheet[from] to sheet[to - 1]; so is the line, without its LF, where `field` is 0. `from` and `to` are
+   equal where nothing stands there: at the line's end where the field is missing, at n where the line is.
+   `least` and `greatest` are what may stand there, where a range says it, and 0 and 0 where none does: for a letter, a
+   direction, a mark and a field too many. Ranges are those of the line, by the lines before it and, with 4 and 5, by its
+   other numbers: with 4 those of h or a for this b, with 5 those of x for this kind and h. A range with 4, and that of a
+   height of the profile, may be empty, `least` being over `greatest`: then nothing can stand there. */
+typedef struct {
+    uint32_t number, line;
+    uint8_t section;
+    uint32_t entry, field;
+    uint64_t from, to;
+    int64_t least, greatest;
+} aral_place;
 
 /* Accepted (0, 0) with the length of the text now at the start of the buffer; or the refusal, with length 0. */
 typedef struct { uint32_t number, line; uint64_t length; } aral_text;
@@ -231,6 +253,9 @@ typedef struct {
 
 /* Reads the n bytes of a sheet. Answers accepted, or refuses with 1 to 6 or 8 and the line. */
 aral_answer aral_read(const uint8_t *sheet, size_t n);
+
+/* Reads a sheet, and answers where its first fault lies. Never fails: an accepted sheet's answer is all 0. */
+aral_place aral_where(const uint8_t *sheet, size_t n);
 
 /* Reads a sheet and writes the job that was read as a sheet again.
    Refuses with 1 to 6 or 8 and the line as aral_read does; then with 7, line 0, where the text is longer than `room`.
