@@ -109,17 +109,20 @@ typedef struct { uint32_t number, line; } aral_answer;
 /* Where the first fault of a sheet lies, and what may stand there. `number` and `line` are those of aral_read, and
    everything is 0 where the sheet is accepted.
    `section` is the letter of the section that called for the line, 0 where no more lines were called for; `entry` is 0
-   at the section's count line, and else the number of its entry, from 1.
+   at the section's count line, and else the number of its entry, from 1. A first line that is not ended, or whose first
+   field is not V, was called for by B.
    `field` is the first field with this fault, from 1; it is 0 for the line as a whole, where that is missing, extra or
-   has no LF. In a line out of form it is the first field that is not what is called for there: one out of form, one
-   too many, or the one that is missing. With 4 it is h where h/b is over 6, and else a; with 5 it is x; with 6 the zone
-   or, where a wall is not marked for a wind of its table, the mark.
+   has no LF. With 1 it is the first field that is out of form, one too many, or the one that is missing; where all are
+   in form, the letter that is not the section's, or no zone's. With 4 it is h where h/b is over 6, and else a; with 5
+   it is x; with 6 the zone or, where a wall is not marked for a wind of its table, the mark.
    The field is sheet[from] to sheet[to - 1]; so is the line, without its LF, where `field` is 0. `from` and `to` are
-   equal where nothing stands there: at the line's end where the field is missing, at n where the line is.
+   equal where nothing stands there: an empty field, at the line's end a missing one, and at n a missing line.
    `least` and `greatest` are what may stand there, where a range says it, and 0 and 0 where none does: for a letter, a
-   direction, a mark and a field too many. Ranges are those of the line, by the lines before it and, with 4 and 5, by its
-   other numbers: with 4 those of h or a for this b, with 5 those of x for this kind and h. A range with 4, and that of a
-   height of the profile, may be empty, `least` being over `greatest`: then nothing can stand there. */
+   direction, a mark, a field too many and the line as a whole. With 5 they always are a range, which for roofs without
+   a number is 0 to 0. With 1 and 3 the range is that of the number by itself, but of a profile's height that does not
+   rise from above the one before it; with 2 it goes by the section and the year, with 4 by b and the year, with 5 by
+   the kind and h, with 8 by the profile. With 4, and of such a height, it may be empty, `least` being over `greatest`:
+   then nothing can stand there. */
 typedef struct {
     uint32_t number, line;
     uint8_t section;

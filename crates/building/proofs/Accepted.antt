@@ -174,7 +174,8 @@ pub data Why (year : ℤ) (g : Building) : ℕ → Type 0 where
   outside-the-roof's-range : Fields g → outOfWalls year (sizes g) ≡ false → outOfRoof (sizes g) ≡ true → Why year g 5
 
 pub why : (year : ℤ) (g : Building) → Why year g (buildingFault year g)
-why year g = rw (fault-tests year g) (go (outOfRange g) (outOfWalls year (sizes g)) (outOfRoof (sizes g)) refl refl refl)
+why year g =
+    rw (fault-tests year g) (go (outOfRange g) (outOfWalls year (sizes g)) (outOfRoof (sizes g)) refl refl refl)
   where
     go : (t u v : Bool) → outOfRange g ≡ t → outOfWalls year (sizes g) ≡ u → outOfRoof (sizes g) ≡ v
         → Why year g (cond t 3 (cond u 4 (cond v 5 0)))

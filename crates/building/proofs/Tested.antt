@@ -10,12 +10,11 @@ use lib.IntN.{ℤ, pos}
 use borrow.Author.Tests.{ne-eqb}
 use Rattle.whole.proofs.Tests.{by-test, or-false}
 use Rattle.building.specs.declared.Building.{Building}
-use Rattle.building.specs.declared.Spot.{Spot}
 use Rattle.building.specs.Test.{beyond}
 use Rattle.building.specs.Fault.{ranged, spot, Fault, first, firstSpot, spotOf}
 use Rattle.building.specs.Building.{Range, ranges, some, rangeFaults, outOfRange, outOfWalls, outOfRoof, sizes}
-use Rattle.building.specs.Building.{leastLength, mostLength, mostSlender, wallsSpot, roofSpot, sizesFaults, faults}
-use Rattle.building.specs.Building.{buildingFault}
+use Rattle.building.specs.Building.{leastLength, mostLength, mostSlender, wallsSpot, roofSpot, faults}
+use Rattle.building.specs.Building.{sizesFaults, buildingFault}
 use Rattle.building.specs.Ratio.{upTo}
 use Rattle.building.specs.Roof.{lastKind}
 
@@ -110,8 +109,8 @@ module _ (year : ℤ) (g : Building) where
         no 5 (λ q. ⊎-elim (λ z. omega arith) (λ z. omega arith) h),
         no 6 (λ q. ⊎-elim (λ z. omega arith) (λ z. omega arith) h),
         no (wallsSpot year (sizes g) .field)
-        (λ q. ⊎-elim (λ z. ⊎-elim (λ w. omega arith) (λ w. omega arith) walls-field)
-        (λ z. ⊎-elim (λ w. omega arith) (λ w. omega arith) walls-field) h),
+            (λ q. ⊎-elim (λ z. ⊎-elim (λ w. omega arith) (λ w. omega arith) walls-field)
+            (λ z. ⊎-elim (λ w. omega arith) (λ w. omega arith) walls-field) h),
       )
 
   pub length-field : (field : ℕ) → (field ≡ 0 → ⊥) → field ≤ 3

@@ -18,12 +18,14 @@ pub spot-or : {t u : Bool} {here at next later r : Spot} → t ≡ u → here �
 spot-or p q s e = e ∙ (λ i. cond (p i) (q i) (s i))
 
 -- the spot of a field that is asked for; once it was, it is not asked for again
-pub at-or : (field own : ℕ) {here at next later r : Spot} → here ≡ at → next ≡ later → r ≡ cond (eqb field own) here next
+pub at-or : (field own : ℕ) {here at next later r : Spot} → here ≡ at → next ≡ later
+    → r ≡ cond (eqb field own) here next
     → r ≡ cond (eqb field own) at later
 at-or field own q s e = e ∙ (λ i. cond (eqb field own) (q i) (s i))
 
 pub step-field : (field : ℕ) (highest : ℤ) (t : Step)
-    → cond (eqb field 1) (heightFault 1 (t .height) .place) (cond (eqb field 2) (ranged 2 (pos 1) (pos 1000)) (spot field))
+    → cond (eqb field 1) (heightFault 1 (t .height) .place)
+    (cond (eqb field 2) (ranged 2 (pos 1) (pos 1000)) (spot field))
     ≡ spotOf field (stepFaults highest t)
 unfolding spotOf
 step-field field highest t = by-test (eqb field 1) (λ e. rw e) (λ e. rw e)

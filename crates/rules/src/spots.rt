@@ -20,7 +20,7 @@ use entry::says;
 use lines::Line;
 use lines::field_at;
 ghost use mathlib.Core.Path.{_≡_};
-ghost use mathlib.Core.Bool.{Bool, cond};
+ghost use mathlib.Core.Bool.{cond};
 ghost use mathlib.Core.List.{List};
 ghost use Prim.Native.Nat.{ℕ};
 ghost use lib.Dec.{eqb};
@@ -167,11 +167,7 @@ fn place_spot(b: Before, f: Face) -> Spot
         ranged(0, 0, 0),
     );
     let wall = first(entries::unmarked_wall(g, f), ranged(2, 0, 0), height);
-    first(
-        !building::zone_on(g.kind, f.zone),
-        ranged(1, 0, 0),
-        wall,
-    )
+    first(!building::zone_on(g.kind, f.zone), ranged(1, 0, 0), wall)
 }
 
 fn face_spot(b: Before, f: Face) -> Spot
@@ -214,10 +210,7 @@ pub fn line_spot(k: Kind, b: Before, x: Line) -> Spot
             Section::W => wind_spot(b.building, says::wind_of(x)),
             Section::I => internal_spot(says::internal_of(x)),
             Section::P => step_spot(b.highest, says::step_of(x)),
-            Section::F => face_spot(
-                b,
-                says::face_of(has_heights(b.year), x),
-            ),
+            Section::F => face_spot(b, says::face_of(has_heights(b.year), x)),
         },
     }
 }
@@ -252,13 +245,7 @@ fn wind_field(field: u32) -> Spot
     ensures { λ r. ⌜ ((g : Building) (w : Wind) → r ≡ spotOf field (windFaults g w)) ⌝ }
 {
     let none = ranged(field, 0, 0);
-    at(
-        field,
-        1,
-        0,
-        0,
-        at(field, 2, 1, entries::MOST_SPEED, none),
-    )
+    at(field, 1, 0, 0, at(field, 2, 1, entries::MOST_SPEED, none))
 }
 
 fn step_field(field: u32) -> Spot
@@ -277,13 +264,7 @@ fn step_field(field: u32) -> Spot
 fn area_at(field: u32, own: u32, next: Spot) -> Spot
     ensures { λ r. ⌜ ((z : ℤ) → r ≡ cond (eqb field own) (areaFault own z .place) next) ⌝ }
 {
-    at(
-        field,
-        own,
-        entries::LEAST_AREA,
-        entries::MOST_AREA,
-        next,
-    )
+    at(field, own, entries::LEAST_AREA, entries::MOST_AREA, next)
 }
 
 fn face_field(b: Before, field: u32) -> Spot
@@ -293,13 +274,7 @@ fn face_field(b: Before, field: u32) -> Spot
     let a = area_field(heights);
     let z = area_at(field, a + 2, ranged(field, 0, 0));
     let areas = area_at(field, a, area_at(field, a + 1, z));
-    let height = at(
-        field,
-        height_field(heights),
-        0,
-        entries::MOST_HEIGHT,
-        areas,
-    );
+    let height = at(field, height_field(heights), 0, entries::MOST_HEIGHT, areas);
     at(field, 1, 0, 0, at(field, 2, 0, 0, height))
 }
 
@@ -311,13 +286,7 @@ pub fn field_spot(k: Kind, b: Before, field: u32) -> Spot
     match k {
         Kind::Count(s) => count_field(b.year, s, field),
         Kind::Entry(s) => match s {
-            Section::V => at(
-                field,
-                1,
-                entries::FIRST_SAID,
-                LAST_YEAR,
-                none,
-            ),
+            Section::V => at(field, 1, entries::FIRST_SAID, LAST_YEAR, none),
             Section::B => spots::field_spot(field),
             Section::W => wind_field(field),
             Section::I => at(

@@ -1,15 +1,15 @@
 -- Laws of the first field of a line that is not what is called for there.
-use Prim.Native.Nat.{ℕ, zero, suc, _+_, _≤_, _<_}
-use mathlib.Core.Path.{_≡_, refl, sym, ap, _∙_}
+use Prim.Native.Nat.{ℕ, suc, _+_, _≤_, _<_}
+use mathlib.Core.Path.{_≡_, refl, ap, _∙_}
 use mathlib.Core.Bool.{true, false}
-use mathlib.Core.List.{List, [], _∷_, map}
+use mathlib.Core.List.{List, [], _∷_}
 use native.Mathlib.Numerals.{add-one}
 use native.Mathlib.Omega.{arith}
 use lib.ListN.{length, getD, take, drop, length-drop, drop-of-length-le}
 use lib.Seq.{drop-cons, drop-drop, take-all}
 use Rattle.field.specs.declared.Field.{Field}
 use Rattle.field.specs.Field.{fieldFrom}
-use Rattle.lines.specs.Lines.{split, fieldsOf}
+use Rattle.lines.specs.Lines.{fieldsOf}
 use Rattle.lines.specs.Held.{until}
 use Rattle.lines.proofs.Lines.{split-until, split-more, split-last}
 use Rattle.rules.specs.declared.FieldForm.{FieldForm}
@@ -54,7 +54,8 @@ module _ (ws : List FieldForm) (l : List ℕ) where
         unfolding firstOut fieldsOf
         out-last k =
             let q = split-last 32 (drop next l) (rw length-drop (omega arith)) in
-            let g : hasForm form (fieldFrom (drop next l)) ≡ true = rw (take-all here (drop next l) (rw length-drop (omega arith))) at e in
+            let g : hasForm form (fieldFrom (drop next l)) ≡ true =
+            rw (take-all here (drop next l) (rw length-drop (omega arith))) at e in
             let o = out-missing (drop (suc i) ws) in
             h .out ∙ rw (drop-cons ws i Number few, q, g, o) (omega arith)
 
@@ -66,6 +67,6 @@ module _ (ws : List FieldForm) (l : List ℕ) where
             let r : drop (suc here) (drop next l) ≡ drop (next + here + 1) l =
             drop-drop (suc here) next l ∙ ap (λ (j : ℕ). drop j l) m in
             let o : firstOut (drop i ws) (fieldsOf (drop next l))
-                ≡ suc (firstOut (drop (suc i) ws) (fieldsOf (drop (next + here + 1) l))) =
+            ≡ suc (firstOut (drop (suc i) ws) (fieldsOf (drop (next + here + 1) l))) =
             rw (drop-cons ws i Number few, q, e, r) in
             record { within = omega arith; out = rw add-one (omega (arith, h .out, o)) }

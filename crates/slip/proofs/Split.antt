@@ -1,7 +1,7 @@
 -- Laws of the parts of a text: part n is part n - i of what stands behind the first i.
 use Prim.Native.Nat.{ℕ, zero, suc, _+_, _-_, _≤_, _<_, min}
-use mathlib.Core.Path.{_≡_, refl, sym, ap, _∙_}
-use mathlib.Core.List.{List, [], _∷_}
+use mathlib.Core.Path.{_≡_, refl, ap, _∙_}
+use mathlib.Core.List.{List, []}
 use native.Mathlib.Nat.{min-eq-left, min-eq-right}
 use native.Mathlib.Omega.{arith}
 use lib.ListN.{length, getD, take, drop, length-drop}
@@ -9,7 +9,6 @@ use lib.Seq.{drop-drop, length-take-le}
 use Rattle.lines.specs.Lines.{split}
 use Rattle.lines.specs.Held.{until}
 use Rattle.lines.proofs.Lines.{until-le, split-until, split-more, split-last}
-use Rattle.slip.specs.declared.parts.Part.{Part}
 use Rattle.slip.specs.Slip.{startOf, partOf}
 
 start-none : (i : ℕ) → startOf i [] ≡ 0
@@ -47,8 +46,9 @@ module _ (b : ℕ) (s : List ℕ) (n : ℕ) where
       behind-next k =
           let e = split-more b rest (rw length-drop (omega arith)) in
           let q : from + suc here ≡ from + here + 1 = omega arith in
-          let r : drop (suc here) rest ≡ drop (from + here + 1) s = drop-drop (suc here) from s ∙ ap (λ (m : ℕ). drop m s) q in
-          let a : startOf (n - i) (split b rest) ≡ suc here + startOf (n - (i + 1)) (split b (drop (from + here + 1) s)) =
+          let t = drop (from + here + 1) s in
+          let r : drop (suc here) rest ≡ t = drop-drop (suc here) from s ∙ ap (λ (m : ℕ). drop m s) q in
+          let a : startOf (n - i) (split b rest) ≡ suc here + startOf (n - (i + 1)) (split b t) =
           rw (left, e, first-length, r) in
           record {
             within = omega arith;

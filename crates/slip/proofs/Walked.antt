@@ -1,7 +1,7 @@
 -- What is called for behind lines in order: line by line, what comes of the rest is what comes of the whole text.
 use Prim.Native.Nat.{ℕ, zero, suc, _+_, _-_, _≤_, _<_}
-use mathlib.Core.Path.{_≡_, refl, sym, ap, _∙_, subst}
-use mathlib.Core.Bool.{Bool, true, false}
+use mathlib.Core.Path.{_≡_, refl, sym, ap, _∙_}
+use mathlib.Core.Bool.{Bool, false}
 use mathlib.Core.List.{List, [], _∷_, _++_, map}
 use native.Mathlib.Omega.{arith}
 use lib.Dec.{eqb, ltb}
@@ -10,7 +10,6 @@ use lib.Seq.{drop-cons}
 use borrow.Author.Tests.{eqb-true, eqb-false, ltb-true, ltb-false}
 use Rattle.whole.proofs.Tests.{by-test}
 use Rattle.field.specs.declared.Field.{Field}
-use Rattle.field.specs.declared.Field.the-variants.{Bad}
 use Rattle.lines.specs.declared.Line.{Line}
 use Rattle.lines.specs.Lines.{linesIn}
 use Rattle.lines.specs.Held.{held, lineAt}
@@ -23,11 +22,10 @@ use Rattle.rules.specs.declared.Kind.{Kind}
 use Rattle.rules.specs.declared.Kind.the-variants.{Count, Entry}
 use Rattle.rules.specs.Sections.{sections, sectionAt, lineFault}
 use Rattle.job.specs.Carried.{Carried, nothing, before}
-use Rattle.job.specs.Walk.{entries, calls, learn, Reading, verdict, walk, opening, sheet, readLines}
+use Rattle.job.specs.Walk.{entries, calls, learn, Reading, verdict, walk, opening, readLines}
 use Rattle.job.proofs.Walk.{walk-on, walk-refused}
 use Rattle.sheet.specs.Sheet.{reading}
 use Rattle.sheet.proofs.OutOfForm.{bad-first, many-held}
-use Rattle.slip.specs.declared.reach.Reached.{Reached}
 use Rattle.slip.specs.declared.reach.Called.{Called}
 use Rattle.slip.specs.Slip.{called, readWith, behind, reachedIn}
 
@@ -68,7 +66,8 @@ in-order-held s next x hx k b y ys e f = go (at-is s next x hx)
     go (taken g) = (g, ap (lineFault k b) (sym (first-is g)) ∙ f)
     go (gone z g) = absurd (let q = ap length (sym e ∙ g) in omega (arith, q))
     go (unended z g) = absurd (let q = ap (lineFault k b) (first-is g) in omega (arith, q, f, bad-first k b))
-    go (long fs rest z g m) = absurd (let q = ap (lineFault k b) (first-is g) in omega (arith, q, f, many-held k b fs m))
+    go (long fs rest z g m) =
+        absurd (let q = ap (lineFault k b) (first-is g) in omega (arith, q, f, many-held k b fs m))
 
 -- ---- so far
 
@@ -166,7 +165,8 @@ module _ (s : List ℕ) (n i : ℕ) (refused : verdict (reading s) .line ≡ suc
       rw (z, drop-cons (sections h) begun «V» (some-begun r z)) in
       let w : walk (Count (sectionAt h begun) ∷ ks) (r .carries) (i + 1) (linesIn (drop next s)) ≡ reading s =
       rw e at (r .rest) in
-      let v : behind (n - i) (Count (sectionAt h begun) ∷ ks) (r .carries) read (linesIn (drop next s)) ≡ reachedIn n s =
+      let v : behind (n - i) (Count (sectionAt h begun) ∷ ks) (r .carries) read (linesIn (drop next s))
+      ≡ reachedIn n s =
       rw e at (r .ends) in
       let q : begun + 1 ≡ suc begun = omega arith in
       record {

@@ -110,6 +110,9 @@ pub struct CellForces {
 pub fn worst_in(s: &[u8]) -> Reckoning
     ensures { λ r. ⌜ r ≡ reckoned (reading (now (s .entry))) ⌝ }
 {
+    if s.len() > read::LONGEST_SHORT {
+        return read::read_long(s);
+    }
     read::read_six(s)
 }
 

@@ -1,10 +1,7 @@
 -- `entry_of`: by the line that was called for.
-use mathlib.Core.Path.{_≡_, sym, ap, _∙_}
+use mathlib.Core.Path.{ap, _∙_}
 use borrow.Author.Needs.{needs}
-use Rattle.rules.specs.declared.Kind.{Kind}
-use Rattle.rules.specs.declared.Kind.the-variants.{Count, Entry}
-use Rattle.slip.specs.declared.reach.Called.{Called}
-use Rattle.slip.specs.declared.reach.Called.the-variants.{Nothing, Line}
+use Rattle.slip.specs.declared.reach.Called.the-variants.{Line}
 use Rattle.slip.proofs.entry_of.Statement.{statement}
 use Rattle.slip.proofs.entry_of.Tie as tie
 

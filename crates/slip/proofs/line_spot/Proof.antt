@@ -1,6 +1,6 @@
 -- `line_spot`: by the line as it is held where that is in form, and else by its bytes.
-use Prim.Native.Nat.{ℕ, _+_, _-_}
-use mathlib.Core.Path.{_≡_, refl, sym, ap, _∙_}
+use Prim.Native.Nat.{ℕ, _-_}
+use mathlib.Core.Path.{_≡_, sym, ap, _∙_}
 use mathlib.Core.Bool.{Bool, true, false}
 use mathlib.Core.List.{List}
 use native.Mathlib.Omega.{arith}
@@ -31,7 +31,8 @@ module _ (c : tie.After-in-form) where
   text = start .args .s .now
 
   abbrev fields : List Field
-  fields = line.said text from to (start .pre .0) (start .pre .1) (c .before .line-at .result) (c .before .line-at .ensures)
+  fields =
+      line.said text from to (start .pre .0) (start .pre .1) (c .before .line-at .result) (c .before .line-at .ensures)
 
   tall : c .before .before .has-heights .result ≡ hasHeights (start .args .b .year)
   tall =
@@ -41,7 +42,8 @@ module _ (c : tie.After-in-form) where
   form-is : (t : Bool) → c .in-form .result ≡ t
       → inForm (forms (hasHeights (start .args .b .year)) (start .args .k)) fields ≡ t
   form-is t e =
-      sym (form-held text from to (start .pre .0) (start .pre .1) (c .before .line-at .result) (c .before .line-at .ensures)
+      sym (form-held text from to (start .pre .0) (start .pre .1) (c .before .line-at .result)
+      (c .before .line-at .ensures)
       (hasHeights (start .args .b .year)) (start .args .k))
       ∙ ap (λ (h : Bool). inForm (forms h (start .args .k)) (held (c .before .line-at .result))) (sym tall)
       ∙ sym (c .in-form .ensures)

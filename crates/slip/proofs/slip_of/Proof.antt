@@ -1,18 +1,17 @@
 -- `slip_of`: nothing of an accepted text, and else the line of its refusal.
-use Prim.Native.Nat.{ℕ, suc, _+_, _-_, _<_}
-use mathlib.Core.Path.{_≡_, refl, sym, ap, _∙_}
+use Prim.Native.Nat.{ℕ, suc, _+_, _-_, _≤_, _<_}
+use mathlib.Core.Path.{_≡_, sym, ap, _∙_}
 use mathlib.Core.List.{List}
 use native.Mathlib.Omega.{arith}
-use lib.Dec.{eqb}
+use lib.ListN.{length, drop}
 use borrow.Author.Needs.{needs}
 use borrow.Author.Tests.{eq-eqb, ne-eqb}
 use Rattle.verdict.specs.declared.Verdict.{Verdict}
 use Rattle.lines.specs.Lines.{linesIn}
+use Rattle.lines.specs.Held.{until}
 use Rattle.job.specs.Carried.{nothing}
 use Rattle.job.specs.Walk.{verdict, opening, sheet, readLines}
 use Rattle.sheet.specs.Sheet.{reading}
-use Rattle.slip.specs.declared.parts.Part.{Part}
-use Rattle.slip.specs.declared.reach.Reached.{Reached}
 use Rattle.slip.specs.Slip.{slipOn, slipWith, slipOf}
 use Rattle.slip.proofs.Walked.{refused-some}
 use Rattle.slip.proofs.slip_of.Statement.{statement}
@@ -60,9 +59,17 @@ returns-2 c =
     ∙ (λ i. slipOn v (r .reach .ensures .0 i) (p .part-of .ensures .0 i) (text e))
     ∙ sym (ap (λ (w : Verdict). slipWith w (text e)) (sym (is e)) ∙ rw (ne-eqb (v .number) 0 (e .if1 .left)))
 
+stands : (c : tie.After-part-of)
+    → let p = c .part-of .result in
+    let s = text (c .before .before .before) in
+    (p .to ≡ p .from + until 10 (drop (p .from) s)) × (p .to ≤ length s) × (c .before .reach .result .read < 4294967295)
+stands c =
+    let e = c .part-of .ensures in
+    (e .1, e .2, omega (arith, c .before .reach .ensures .1, some (c .before .before .before)))
+
 pub slip-of-spec : {M : Type 1} → statement M
 slip-of-spec =
     tie.close
     (tie.spec (λ c κs. search needs) (λ c κs. search needs) returns (λ c. omega (arith, some (c .before)))
     (λ c κs. line-is (c .before)) (λ c κs. search needs)
-    (λ c κs. let e = c .part-of .ensures in (e .1, e .2, omega (arith, c .before .reach .ensures .1, some (c .before .before .before)))) returns-2)
+    (λ c κs. stands c) returns-2)

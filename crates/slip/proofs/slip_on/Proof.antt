@@ -1,7 +1,6 @@
 -- `slip_on`: what is told of the line, its spot and the bytes of its field.
-use Prim.Native.Nat.{ℕ, _+_, _-_, _≤_}
-use mathlib.Core.Path.{_≡_, refl, sym, ap, _∙_}
-use mathlib.Core.List.{List}
+use Prim.Native.Nat.{_+_, _-_, _≤_}
+use mathlib.Core.Path.{ap, _∙_}
 use native.Mathlib.Omega.{arith}
 use lib.ListN.{length, take, drop, length-drop}
 use lib.Seq.{length-take-le}
@@ -9,7 +8,6 @@ use mir.Syntax.{w64}
 use borrow.Author.Needs.{needs}
 use Rattle.whole.proofs.Size.{returned}
 use Rattle.building.specs.declared.Spot.{Spot}
-use Rattle.lines.specs.Held.{until}
 use Rattle.slip.specs.declared.parts.Part.{Part}
 use Rattle.slip.specs.Slip.{told, spotIn, bytesAt, bytesOf, slipOn}
 use Rattle.slip.proofs.slip_on.Statement.{statement}
@@ -56,11 +54,13 @@ returns c =
       least = least i;
       greatest = greatest i;
     })
-    ∙ (λ i. told (s .args .v) (s .args .at) (at i) (bytesAt (spotIn (s .args .at) (line p) (s .args .s .now) .field) (line p) l))
+    ∙ (λ i. told (s .args .v) (s .args .at) (at i) (bytesAt (spotIn (s .args .at) (line p) (s .args .s .now) .field)
+    (line p) l))
 
 pub slip-on-spec : {M : Type 1} → statement M
 slip-on-spec =
     tie.close
-    (tie.spec (λ c κs. let p = c .before .pre in (p .0, p .1)) (λ c. omega (arith, start c .pre .0)) (λ c. omega (arith, start c .pre .0))
+    (tie.spec (λ c κs. let p = c .before .pre in (p .0, p .1)) (λ c. omega (arith, start c .pre .0))
+    (λ c. omega (arith, start c .pre .0))
     (λ c. omega (arith, start c .pre .1)) (λ c κs. long (c .before)) (λ c κs. search needs)
     (λ c κs. start (c .before .before .before) .pre .2) returns)

@@ -1,12 +1,11 @@
 -- `spots::building_spot`: each test in its order, and where it is found.
 use mathlib.Core.Path.{_≡_, sym, ap, _∙_, subst}
-use mathlib.Core.Bool.{true, false}
+use mathlib.Core.Bool.{false}
 use lib.IntN.{ℤ}
 use borrow.Author.Needs.{needs}
 use Rattle.whole.proofs.Size.{said}
 use Rattle.building.specs.declared.Dated.{Dated}
 use Rattle.building.specs.declared.Sizes.{Sizes}
-use Rattle.building.specs.declared.Spot.{Spot}
 use Rattle.building.specs.Order.{Ranged}
 use Rattle.building.specs.Building.{outOfRange, outOfWalls, outOfRoof, sizes, wallsSpot, roofSpot}
 use Rattle.building.proofs.Accepted.{fields, ranged}
@@ -75,7 +74,8 @@ returns-3 c =
     let d = of w in
     c .roof-spot .ensures
     ∙ ap roofSpot (sized w .sizes-of .ensures)
-    ∙ spot-of-roof (d .year) (d .building) (in-range (sized w .before)) (no-walls o) (sym (roof o) ∙ c .before .if3 .taken)
+    ∙ spot-of-roof (d .year) (d .building) (in-range (sized w .before)) (no-walls o)
+    (sym (roof o) ∙ c .before .if3 .taken)
 
 returns-4 : tie.Need-returns-4
 returns-4 c =
@@ -83,7 +83,8 @@ returns-4 c =
     let w = walled o in
     let d = of w in
     c .ranged .ensures
-    ∙ spot-of-none (d .year) (d .building) (in-range (sized w .before)) (no-walls o) (sym (roof o) ∙ c .before .if3 .left)
+    ∙ spot-of-none (d .year) (d .building) (in-range (sized w .before)) (no-walls o)
+    (sym (roof o) ∙ c .before .if3 .left)
 
 pub building-spot-spec : {M : Type 1} → statement M
 building-spot-spec =

@@ -1,6 +1,6 @@
 -- `spots::length_to`: six times a length of 32 bits fits 64, and what is over the greatest length is cut to it.
 use Prim.Native.Nat.{ℕ, _*_, _≤_}
-use mathlib.Core.Path.{_≡_, ap, sym, _∙_}
+use mathlib.Core.Path.{ap, sym, _∙_}
 use native.Mathlib.Nat.{mul-le-mul, min-eq-left, min-eq-right, le-of-lt}
 use native.Mathlib.Omega.{arith}
 use lib.IntN.{pos}

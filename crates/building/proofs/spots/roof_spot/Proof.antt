@@ -1,16 +1,13 @@
 -- `spots::roof_spot`: the limits of the roof's kind, times what x is compared over, in steps of x.
 use Prim.Native.Nat.{ℕ, _+_, _-_, _*_, _/_, _^_, _≤_, _<_}
-use mathlib.Core.Path.{_≡_, refl, ap, sym, _∙_}
+use mathlib.Core.Path.{_≡_, _∙_}
 use mathlib.Core.Bool.{Bool, true, false, cond}
-use native.Mathlib.Nat.{mul-le-mul, div-le-self, le-trans}
+use native.Mathlib.Nat.{mul-le-mul, div-le-self}
 use native.Mathlib.Omega.{arith}
-use lib.Dec.{lit≤}
-use lib.IntN.{ℤ, pos}
+use lib.IntN.{pos}
 use mir.Syntax.{w64}
-use mir.Val.{toZ}
 use mir.Facts.{toZ-pos}
 use borrow.Author.Needs.{needs}
-use Rattle.building.specs.declared.Spot.{Spot}
 use Rattle.building.specs.Fault.{ranged}
 use Rattle.building.specs.Roof.{roofOf, alongOf}
 use Rattle.building.specs.Building.{roundedUp, roofSpot}
@@ -66,7 +63,9 @@ module _ (c : tie.After-along) where
   up = omega (arith, low, scale .1)
 
   up-small : (at-least .least .result * across + (c .along .result - 1)) / c .along .result < 2 ^ 63
-  up-small = omega (arith, up, div-le-self (at-least .least .result * across + (c .along .result - 1)) (c .along .result))
+  up-small =
+      let n = at-least .least .result * across + (c .along .result - 1) in
+      omega (arith, up, div-le-self n (c .along .result))
 
   down-small : at-greatest .greatest .result * across / c .along .result < 2 ^ 63
   down-small = omega (arith, high, div-le-self (at-greatest .greatest .result * across) (c .along .result))

@@ -1,5 +1,5 @@
 -- `spots::walls_spot`: by the definition's own tests.
-use Prim.Native.Nat.{ℕ, _+_, _*_, _/_, _^_, _<_, min}
+use Prim.Native.Nat.{ℕ, _*_, _/_, _^_, _<_, min}
 use mathlib.Core.Path.{_≡_, refl, ap, sym, _∙_}
 use mathlib.Core.Bool.{true}
 use native.Mathlib.Nat.{div-one}
@@ -70,7 +70,8 @@ returns-3 c =
     let k = l .before in
     let h = k .before .before in
     rw (slender h, sym (squares h) ∙ k .before .if2 .left)
-    (long (start h .args .s .b) _ (c .ranged3 .ensures) (omega (arith, k .struct-known2 .given)) refl (l .length-to3 .ok)
+    (long (start h .args .s .b) _ (c .ranged3 .ensures) (omega (arith, k .struct-known2 .given)) refl
+    (l .length-to3 .ok)
     (l .length-to3 .ensures))
 
 pub walls-spot-spec : {M : Type 1} → statement M

@@ -1,5 +1,4 @@
 -- `spots::area_field`: by the definition's own test.
-use borrow.Author.Needs.{needs}
 use Rattle.rules.proofs.spots.area_field.Statement.{statement}
 use Rattle.rules.proofs.spots.area_field.Tie as tie
 

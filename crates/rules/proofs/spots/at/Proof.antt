@@ -1,6 +1,4 @@
 -- `spots::at`: by the definition's own test.
-use mathlib.Core.Path.{_∙_}
-use mir.Syntax.{w64}
 use borrow.Author.Needs.{needs}
 use borrow.Author.Tests.{eq-eqb, ne-eqb}
 use Rattle.whole.proofs.Size.{said₂}

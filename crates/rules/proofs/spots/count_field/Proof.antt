@@ -1,5 +1,4 @@
 -- `spots::count_field`: the fields in their order.
-use Prim.Native.Nat.{ℕ}
 use mathlib.Core.Path.{refl, ap, _∙_}
 use native.Mathlib.Omega.{arith}
 use lib.IntN.{pos}
@@ -29,7 +28,8 @@ returns c letter n =
     nat w64 {n = l .limits-of .result .most} 4294967295 (omega (arith, k .struct-known2 .given)) tt .same
     ∙ ap pos (q .1 ∙ ap (about (s .args .s) .most) year) in
     let n = s .args .field in
-    at-or n 1 refl (at-or n 2 (λ i. ranged 2 (least i) (most i)) (r .ranged .ensures) (a .at .ensures)) (c .at2 .ensures)
+    at-or n 1 refl (at-or n 2 (λ i. ranged 2 (least i) (most i)) (r .ranged .ensures) (a .at .ensures))
+    (c .at2 .ensures)
 
 pub count-field-spec : {M : Type 1} → statement M
 count-field-spec =

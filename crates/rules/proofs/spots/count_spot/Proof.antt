@@ -25,7 +25,8 @@ returns c =
     let s = l .before .before in
     let q = l .limits-of .ensures in
     let year = returned w64 (s .args .year) (s .fits .year .sfits) .same in
-    let least = nat w64 {n = l .limits-of .result .least} 4294967295 (omega (arith, b .before .before .struct-known .given)) tt .same ∙ ap pos (q .0) in
+    let least = nat w64 {n = l .limits-of .result .least} 4294967295
+    (omega (arith, b .before .before .struct-known .given)) tt .same ∙ ap pos (q .0) in
     let most =
     nat w64 {n = l .limits-of .result .most} 4294967295 (omega (arith, b .before .struct-known2 .given)) tt .same
     ∙ ap pos (q .1 ∙ ap (about (s .args .s) .most) year) in

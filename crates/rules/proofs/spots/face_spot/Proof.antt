@@ -1,6 +1,6 @@
 -- `spots::face_spot`: by the definition's own tests, each number read back as it is.
 use Prim.Native.Nat.{ℕ, _+_, _^_, _<_, _≤_}
-use mathlib.Core.Path.{_≡_, refl, ap, _∙_}
+use mathlib.Core.Path.{_≡_, ap, _∙_}
 use mathlib.Core.Bool.{Bool, true, false, not, cond, _||_}
 use native.Mathlib.Omega.{arith}
 use lib.IntN.{ℤ, pos}
@@ -80,7 +80,8 @@ returns c =
     (area (f .z) (z .area-spot .ensures) (q .1 .1 .1 .1 .0 .1) (field a 2) (p .place-spot .ensures))) in
     spot-or (ap not (l .is-zone .ensures)) (c .before .ranged3 .ensures)
     (spot-or (ap not marked) (m .before .ranged2 .ensures)
-    (spot-or (said (beyond (pos 0) (pos 30000)) (f .height) (v .beyond .ensures) (q .1 .0 .1)) at areas (n .first .ensures))
+    (spot-or (said (beyond (pos 0) (pos 30000)) (f .height) (v .beyond .ensures) (q .1 .0 .1)) at areas
+    (n .first .ensures))
     (m .first2 .ensures))
     (c .first3 .ensures)
 

@@ -1,5 +1,4 @@
 -- `spots::field_spot`: by the kind of the line.
-use Prim.Native.Nat.{ℕ}
 use mathlib.Core.Path.{_≡_, refl, sym, ap, _∙_}
 use mathlib.Core.List.{List}
 use lib.IntN.{ℤ}
@@ -21,7 +20,8 @@ use Rattle.rules.proofs.spots.field_spot.Tie as tie
 
 -- a field of a line of its kind
 as-kind : (s : tie.Start) (fs : List Field) (k : Kind) → s .args .k ≡ k
-    → spotOf (s .args .field) (faultsOf k (s .args .b) fs) ≡ spotOf (s .args .field) (faultsOf (s .args .k) (s .args .b) fs)
+    → spotOf (s .args .field) (faultsOf k (s .args .b) fs) ≡ spotOf (s .args .field)
+    (faultsOf (s .args .k) (s .args .b) fs)
 as-kind s fs k e = ap (λ (q : Kind). spotOf (s .args .field) (faultsOf q (s .args .b) fs)) (sym e)
 
 module _ (c : tie.After-known-told2) where
@@ -42,7 +42,8 @@ returns c fs =
     let s = k .before .before .before in
     let year = returned w64 (s .args .b .year) (c .before .struct-told .given .0 .1) .same in
     c .count-field .ensures (letter (at fs 0)) (number (at fs 1))
-    ∙ ap (λ (y : ℤ). spotOf (s .args .field) (countFaults y (k .k .given .0 .0) (letter (at fs 0)) (number (at fs 1)))) year
+    ∙ ap (λ (y : ℤ). spotOf (s .args .field) (countFaults y (k .k .given .0 .0) (letter (at fs 0))
+    (number (at fs 1)))) year
     ∙ as-kind s fs (Count (k .k .given .0 .0)) (k .k .given .1)
 
 returns-2 : tie.Need-returns-2

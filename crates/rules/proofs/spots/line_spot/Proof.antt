@@ -6,7 +6,6 @@ use mir.Syntax.{w64}
 use Rattle.whole.proofs.Size.{said, returned}
 use Rattle.lines.specs.Held.{held}
 use Rattle.building.specs.Fault.{firstSpot}
-use Rattle.building.specs.declared.Building.{Building}
 use Rattle.building.specs.Building.{faults}
 use Rattle.entry.specs.declared.Wind.{Wind}
 use Rattle.entry.specs.declared.Face.{Face}
@@ -65,7 +64,8 @@ returns-3 c =
     let t = o .before in
     let b = start (t .before .before) .args .b in
     c .building-spot .ensures
-    ∙ (λ i. firstSpot (faults (returned w64 (b .year) (c .before .struct-told2 .given .0 .1) .same i) (o .building-of .ensures i)))
+    ∙ (λ i. firstSpot (faults (returned w64 (b .year) (c .before .struct-told2 .given .0 .1) .same i)
+    (o .building-of .ensures i)))
     ∙ as-entry (t .before .before) B (t .enum-told2 .given .1)
 
 returns-4 : tie.Need-returns-4

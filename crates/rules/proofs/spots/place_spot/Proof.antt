@@ -1,7 +1,7 @@
 -- `spots::place_spot`: by the definition's own tests, each number read back as it is.
 use Prim.Native.Nat.{ℕ}
 use mathlib.Core.Path.{ap, _∙_}
-use mathlib.Core.Bool.{Bool, not}
+use mathlib.Core.Bool.{not}
 use lib.IntN.{ℤ}
 use Rattle.whole.proofs.Size.{said, said₂}
 use Rattle.building.specs.Places.{zoneOn}
@@ -30,9 +30,11 @@ returns c =
     let kind = o .before .struct-told5 .given .1 .1 .1 .1 .0 .1 in
     let off =
     said (offProfile b) (s .args .f .height) (v .off-profile .ensures) (v .before .struct-told2 .given .1 .1 .0 .1) in
-    let field = f .height-field .ensures ∙ ap heightField (said hasHeights (b .year) (h .has-heights .ensures) (t .0 .1)) in
+    let field = f .height-field .ensures ∙ ap heightField
+    (said hasHeights (b .year) (h .has-heights .ensures) (t .0 .1)) in
     let at =
-    said₂ (ranged (f .height-field .result)) (b .lowest) (b .highest) (r .ranged .ensures) (t .1 .1 .0 .1) (t .1 .1 .1 .0 .1)
+    said₂ (ranged (f .height-field .result)) (b .lowest) (b .highest) (r .ranged .ensures) (t .1 .1 .0 .1)
+    (t .1 .1 .1 .0 .1)
     ∙ ap (λ (n : ℕ). ranged n (b .lowest) (b .highest)) field in
     spot-or (ap not (said (λ (k : ℤ). zoneOn k (s .args .f .zone)) (b .building .kind) (o .zone-on .ensures) kind))
     (c .before .ranged4 .ensures)

@@ -9,7 +9,8 @@ returns : tie.Need-returns
 returns c highest s =
     let a = c .before in
     let n = a .before .before .args .field in
-    at-or n 1 refl (at-or n 2 refl (a .before .ranged .ensures) (a .at .ensures)) (c .at2 .ensures) ∙ step-field n highest s
+    at-or n 1 refl (at-or n 2 refl (a .before .ranged .ensures) (a .at .ensures)) (c .at2 .ensures) ∙ step-field n
+    highest s
 
 pub step-field-spec : {M : Type 1} → statement M
 step-field-spec =

@@ -1,13 +1,12 @@
 -- `form::first_out`: field by field, as long as they are in form.
 use Prim.Native.Nat.{ℕ, _+_, _-_, _≤_, _<_}
 use mathlib.Core.Path.{_≡_, sym, ap, _∙_}
-use mathlib.Core.Bool.{Bool, true, false, not}
+use mathlib.Core.Bool.{Bool}
 use mathlib.Core.List.{List}
 use native.Mathlib.Omega.{arith}
 use lib.ListN.{length, getD, take, drop}
 use borrow.Author.Needs.{needs}
 use borrow.Author.Tests.{not-true, not-false}
-use Rattle.field.specs.declared.Field.{Field}
 use Rattle.field.specs.Field.{fieldFrom}
 use Rattle.lines.specs.Held.{until}
 use Rattle.rules.specs.declared.FieldForm.{FieldForm}
@@ -56,9 +55,11 @@ module _ (c : tie.After-formed-at Inv-loop μ-loop) where
   end = at-until .until .ensures .0
 
   field : (t : Bool) → c .formed-at .result ≡ t
-      → hasForm (getD (called turn) (turn .loop .i) Number) (fieldFrom (take (until 32 (drop (turn .loop .next) line)) (drop (turn .loop .next) line))) ≡ t
+      → hasForm (getD (called turn) (turn .loop .i) Number)
+      (fieldFrom (take (until 32 (drop (turn .loop .next) line)) (drop (turn .loop .next) line))) ≡ t
   field t e =
-      let q : at-until .until .result - turn .loop .next ≡ until 32 (drop (turn .loop .next) line) = omega (arith, end) in
+      let q : at-until .until .result - turn .loop .next ≡ until 32 (drop (turn .loop .next) line) =
+      omega (arith, end) in
       ap (hasForm (getD (called turn) (turn .loop .i) Number))
       (ap (λ (n : ℕ). fieldFrom (take n (drop (turn .loop .next) line))) (sym q) ∙ sym (c .before .field-of .ensures))
       ∙ sym (c .formed-at .ensures (start turn .args .heights))
@@ -77,7 +78,8 @@ returns c =
 returns-2 : tie.Need-returns-2 Inv-loop μ-loop
 returns-2 c =
     let f = c .before .before in
-    sym (out-last (called (turn f)) (line f) (turn f .loop .inv .1) (more f) (field f _ (not-false _ (c .before .if1 .left)))
+    sym (out-last (called (turn f)) (line f) (turn f .loop .inv .1) (more f)
+    (field f _ (not-false _ (c .before .if1 .left)))
     (omega (arith, end f, c .if2 .taken)))
 
 loop-again : tie.Need-loop-again Inv-loop μ-loop
@@ -85,8 +87,9 @@ loop-again c =
     let f = c .before .before in (
       omega (arith, at-until f .before .loop-test .taken),
       rw (end f)
-      (out-next (called (turn f)) (line f) (turn f .loop .inv .1) (more f) (field f _ (not-false _ (c .before .if1 .left)))
-      (omega (arith, end f, at-until f .until .ensures .1, c .if2 .left))),
+          (out-next (called (turn f)) (line f) (turn f .loop .inv .1) (more f)
+          (field f _ (not-false _ (c .before .if1 .left)))
+          (omega (arith, end f, at-until f .until .ensures .1, c .if2 .left))),
     )
 
 returns-3 : tie.Need-returns-3 Inv-loop μ-loop

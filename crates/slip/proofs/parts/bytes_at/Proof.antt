@@ -1,9 +1,8 @@
 -- `parts::bytes_at`: behind the line's first byte, where a field is asked for.
 use Prim.Native.Nat.{ℕ, zero, suc, _+_, _-_, _≤_}
-use mathlib.Core.Path.{_≡_, refl, sym, ap, _∙_}
+use mathlib.Core.Path.{_≡_, refl}
 use mathlib.Core.List.{List}
 use native.Mathlib.Omega.{arith}
-use lib.ListN.{length}
 use borrow.Author.Needs.{needs}
 use Rattle.slip.specs.declared.parts.Part.{Part}
 use Rattle.slip.specs.Slip.{partOf, bytesAt}
@@ -30,7 +29,8 @@ returns-2 c =
 
 fits : (c : tie.After-struct-known2)
     → let p = c .before .before in
-    (p .part-of .result .from ≤ p .part-of .result .to) × (p .before .before .before .args .line .from + p .part-of .result .to ≤ p .before .before .before .args .line .to)
+    (p .part-of .result .from ≤ p .part-of .result .to) ×
+    (p .before .before .before .args .line .from + p .part-of .result .to ≤ p .before .before .before .args .line .to)
 fits c =
     let p = c .before .before in
     let e = p .part-of .ensures in
@@ -39,5 +39,6 @@ fits c =
 pub bytes-at-spec : {M : Type 1} → statement M
 bytes-at-spec =
     tie.close
-    (tie.spec returns (λ c. search needs) (λ c κs. search needs) (λ c. omega (arith, fits c)) (λ c. omega (arith, fits (c .before .before)))
+    (tie.spec returns (λ c. search needs) (λ c κs. search needs) (λ c. omega (arith, fits c))
+    (λ c. omega (arith, fits (c .before .before)))
     returns-2)

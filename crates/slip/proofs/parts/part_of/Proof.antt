@@ -1,13 +1,10 @@
 -- `parts::part_of`: part by part, what is behind the parts before it.
-use Prim.Native.Nat.{ℕ, _+_, _-_, _≤_, _<_}
-use mathlib.Core.Path.{_≡_, sym, ap, _∙_, subst}
-use mathlib.Core.List.{List}
+use Prim.Native.Nat.{_-_, _≤_}
+use mathlib.Core.Path.{sym, _∙_}
 use native.Mathlib.Omega.{arith}
-use lib.ListN.{length, drop}
 use borrow.Author.Needs.{needs}
 use Rattle.lines.specs.Held.{until}
 use Rattle.lines.proofs.Lines.{until-end}
-use Rattle.slip.specs.declared.parts.Part.{Part}
 use Rattle.slip.proofs.Split.{Behind, behind-none, behind-next, behind-last, behind-all}
 use Rattle.slip.proofs.parts.part_of.Statement.{statement}
 use Rattle.slip.proofs.parts.part_of.Tie as tie
@@ -30,7 +27,7 @@ returns c =
     let e = u .until .ensures in
     let k = c .if1 .taken in (
       (λ i. record { from = k i; to = k i })
-      ∙ sym (behind-last (a .b) s (a .n) (l .loop .inv .1) (u .before .loop-test .taken) (omega (arith, e .0, k))),
+          ∙ sym (behind-last (a .b) s (a .n) (l .loop .inv .1) (u .before .loop-test .taken) (omega (arith, e .0, k))),
       omega (arith, k, until-end (a .b) s (u .until .result) (omega arith)),
       e .1,
     )
@@ -43,8 +40,8 @@ loop-again c =
     let e = u .until .ensures in (
       omega (arith, u .before .loop-test .taken),
       rw (e .0)
-      (behind-next (a .b) (a .s .now) (a .n) (l .loop .inv .1) (u .before .loop-test .taken)
-      (omega (arith, e .0, e .1, c .if1 .left))),
+          (behind-next (a .b) (a .s .now) (a .n) (l .loop .inv .1) (u .before .loop-test .taken)
+          (omega (arith, e .0, e .1, c .if1 .left))),
     )
 
 returns-2 : tie.Need-returns-2 Inv-loop μ-loop
@@ -53,7 +50,7 @@ returns-2 c =
     let a = l .before .before .args in
     let e = c .until2 .ensures in (
       (λ i. record { from = l .loop .from; to = e .0 i })
-      ∙ sym (behind-all (a .b) (a .s .now) (a .n) (l .loop .inv .1) (omega (arith, c .before .loop-test .left))),
+          ∙ sym (behind-all (a .b) (a .s .now) (a .n) (l .loop .inv .1) (omega (arith, c .before .loop-test .left))),
       e .0,
       e .1,
     )

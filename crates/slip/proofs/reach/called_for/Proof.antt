@@ -1,8 +1,7 @@
 -- `reach::called_for`: the first line of those that are called for.
-use Prim.Native.Nat.{ℕ, zero, suc, _≤_, _<_}
-use mathlib.Core.Path.{_≡_, refl, sym, ap, _∙_}
-use mathlib.Core.Bool.{Bool}
-use mathlib.Core.List.{List, [], _∷_, _++_, map}
+use Prim.Native.Nat.{ℕ, zero, suc, _<_}
+use mathlib.Core.Path.{_≡_, refl, ap}
+use mathlib.Core.List.{List, _++_, map}
 use native.Mathlib.Omega.{arith}
 use lib.ListN.{length, drop, drop-of-length-le}
 use lib.Seq.{drop-cons}
@@ -11,15 +10,15 @@ use Rattle.rules.specs.declared.Section.{Section}
 use Rattle.rules.specs.declared.Section.the-variants.{«V»}
 use Rattle.rules.specs.declared.Kind.{Kind}
 use Rattle.rules.specs.declared.Kind.the-variants.{Count, Entry}
-use Rattle.rules.specs.Sections.{sections, sectionAt}
+use Rattle.rules.specs.Sections.{sections}
 use Rattle.job.specs.Walk.{entries}
-use Rattle.slip.specs.declared.reach.Called.{Called}
 use Rattle.slip.specs.declared.reach.Called.the-variants.{Line}
 use Rattle.slip.specs.Slip.{called}
 use Rattle.slip.proofs.reach.called_for.Statement.{statement}
 use Rattle.slip.proofs.reach.called_for.Tie as tie
 
-some-left : (sec : Section) (left : ℕ) (ks : List Kind) → (left ≡ 0 → ⊥) → Line (Entry sec) ≡ called (entries sec left ++ ks)
+some-left : (sec : Section) (left : ℕ) (ks : List Kind) → (left ≡ 0 → ⊥)
+    → Line (Entry sec) ≡ called (entries sec left ++ ks)
 some-left sec zero ks h = absurd (h refl)
 some-left sec (suc n) ks h = refl
 
@@ -41,8 +40,11 @@ returns-3 : tie.Need-returns-3
 returns-3 c =
     let n = c .before in
     let a = n .before .before .args in
-    rw (n .before .if1 .left, drop-of-length-le (sections (a .heights)) {i = a .begun}
-    (omega (arith, n .section-count .ensures, c .if2 .left)))
+    rw (
+      n .before .if1 .left,
+      drop-of-length-le (sections (a .heights)) {i = a .begun}
+          (omega (arith, n .section-count .ensures, c .if2 .left)),
+    )
 
 pub called-for-spec : {M : Type 1} → statement M
 called-for-spec = tie.close (tie.spec returns (λ c κs. search needs) (λ c κs. search needs) returns-2 returns-3)

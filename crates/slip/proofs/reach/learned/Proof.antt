@@ -1,7 +1,6 @@
 -- `reach::learned`: by the section. The lowest height is that of the first step.
-use Prim.Native.Nat.{ℕ}
 use mathlib.Core.Path.{_≡_, refl, sym, ap, _∙_}
-use mathlib.Core.Bool.{Bool, true, false, true≢false}
+use mathlib.Core.Bool.{true, false, true≢false}
 use mathlib.Core.List.{List, [], _∷_, _++_}
 use native.Mathlib.Omega.{arith}
 use lib.Dec.{ltb}
@@ -15,7 +14,6 @@ use Rattle.whole.proofs.Size.{returned}
 use Rattle.lines.specs.Held.{held}
 use Rattle.entry.specs.declared.Step.{Step}
 use Rattle.entry.specs.Says.{stepOf}
-use Rattle.rules.specs.declared.Before.{Before}
 use Rattle.rules.specs.declared.Section.{Section}
 use Rattle.rules.specs.declared.Section.the-variants.{«V», B, W, I, P, F}
 use Rattle.rules.specs.declared.Kind.the-variants.{Entry}

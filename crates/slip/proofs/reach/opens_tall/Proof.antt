@@ -1,5 +1,5 @@
 -- `reach::opens_tall`: the first field of the first line, if that is ended.
-use Prim.Native.Nat.{ℕ, _+_, _-_, _≤_, _<_}
+use Prim.Native.Nat.{ℕ, _+_, _-_, _≤_}
 use mathlib.Core.Path.{_≡_, sym, ap, _∙_}
 use mathlib.Core.Bool.{false}
 use mathlib.Core.List.{List, [], _∷_}
@@ -7,10 +7,9 @@ use native.Mathlib.Omega.{arith}
 use lib.Dec.{eqb}
 use lib.ListN.{length, take}
 use borrow.Author.Needs.{needs}
-use Rattle.field.specs.declared.Field.{Field}
 use Rattle.lines.specs.Lines.{fieldsOf, linesIn}
 use Rattle.lines.specs.Held.{until}
-use Rattle.lines.proofs.Lines.{until-le, rows-more, rows-none, rows-open}
+use Rattle.lines.proofs.Lines.{rows-more, rows-none, rows-open}
 use Rattle.entry.specs.Says.{letter, at}
 use Rattle.job.specs.Walk.{opening}
 use Rattle.slip.proofs.reach.opens_tall.Statement.{statement}
@@ -37,7 +36,8 @@ returns-2 c =
     let e = f .before .before in
     let u = e .before in
     ap (λ (n : ℕ). eqb n 86) (c .letter-of .ensures ∙ ap letter (f .first-field .ensures))
-    ∙ ended (u .before .before .args .s .now) (u .until .result) (u .until .ensures .0) (e .if1 .left) (u .until .ensures .1)
+    ∙ ended (u .before .before .args .s .now) (u .until .result) (u .until .ensures .0) (e .if1 .left)
+    (u .until .ensures .1)
 
 pub opens-tall-spec : {M : Type 1} → statement M
 opens-tall-spec =

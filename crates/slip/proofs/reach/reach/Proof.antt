@@ -1,6 +1,6 @@
 -- `reach::reach`: line by line, what is called for behind them.
-use Prim.Native.Nat.{ℕ, suc, _+_, _-_, _≤_, _<_}
-use mathlib.Core.Path.{_≡_, sym, ap, _∙_}
+use Prim.Native.Nat.{_-_, _≤_, _<_}
+use mathlib.Core.Path.{ap, _∙_}
 use native.Mathlib.Omega.{arith}
 use borrow.Author.Needs.{needs}
 use Rattle.entry.specs.Says.{size}
@@ -22,7 +22,7 @@ loop-holds c =
     let a = o .before .before .args in (
       omega arith,
       reaches-start (a .s .now) (a .n) (o .opens-tall .result) (c .start .result) (o .opens-tall .ensures)
-      (c .start .ensures),
+          (c .start .ensures),
     )
 
 -- line i
@@ -43,9 +43,10 @@ loop-again c =
     let x = s .before .before in
     let a = start x .args in (
       omega (arith, more x),
-      reaches-count (a .s .now) (a .n) (turn x .loop .i) (start x .pre) (more x) (turn x .loop .next) (x .line-at .ensures)
-      (turn x .loop .inv .1) (s .before .if1 .taken) (s .section-at .ensures)
-      (c .size-of .ensures ∙ ap size (f .field-at .ensures)),
+      reaches-count (a .s .now) (a .n) (turn x .loop .i) (start x .pre) (more x) (turn x .loop .next)
+          (x .line-at .ensures)
+          (turn x .loop .inv .1) (s .before .if1 .taken) (s .section-at .ensures)
+          (c .size-of .ensures ∙ ap size (f .field-at .ensures)),
     )
 
 loop-again-2 : tie.Need-loop-again-2 Inv-loop μ-loop
@@ -55,9 +56,10 @@ loop-again-2 c =
     let a = start x .args in
     let r = turn x .loop .inv .1 in (
       omega (arith, more x),
-      reaches-entry (a .s .now) (a .n) (turn x .loop .i) (start x .pre) (more x) (turn x .loop .next) (x .line-at .ensures)
-      r (l .before .if1 .left) (l .learned .ensures (r .carries) (r .judges) (r .rises))
-      (c .rises .ensures (r .carries) (held (x .line-at .result)) (r .rises)),
+      reaches-entry (a .s .now) (a .n) (turn x .loop .i) (start x .pre) (more x) (turn x .loop .next)
+          (x .line-at .ensures)
+          r (l .before .if1 .left) (l .learned .ensures (r .carries) (r .judges) (r .rises))
+          (c .rises .ensures (r .carries) (held (x .line-at .result)) (r .rises)),
     )
 
 returns : tie.Need-returns Inv-loop μ-loop

@@ -1,19 +1,11 @@
 -- `reach::rises`: by the section.
-use mathlib.Core.Path.{_≡_, refl, sym, ap, _∙_}
-use Prim.Native.Nat.{ℕ}
-use mathlib.Core.Bool.{true}
+use mathlib.Core.Path.{sym}
 use mathlib.Core.List.{[], _∷_, _++_}
 use Rattle.entry.specs.Says.{stepOf}
 use native.Mathlib.Omega.{arith}
-use lib.Dec.{ltb}
 use lib.ListN.{length, length-append}
 use borrow.Author.Needs.{needs}
 use borrow.Author.Tests.{lt-ltb}
-use Rattle.field.specs.declared.Field.{Field}
-use Rattle.rules.specs.declared.Section.{Section}
-use Rattle.rules.specs.declared.Kind.the-variants.{Entry}
-use Rattle.job.specs.Carried.{Carried}
-use Rattle.job.specs.Walk.{learn}
 use Rattle.slip.proofs.reach.rises.Statement.{statement}
 use Rattle.slip.proofs.reach.rises.Tie as tie
 
@@ -31,7 +23,8 @@ returns-4 c d fs e = rw (c .enum-told4 .given .1) e
 
 returns-5 : tie.Need-returns-5
 returns-5 c d fs e =
-    rw (c .enum-told5 .given .1) (sym (lt-ltb 0 (length (d .profile ++ (stepOf fs ∷ []))) (omega (arith, length-append (d .profile) (stepOf fs ∷ [])))))
+    rw (c .enum-told5 .given .1) (sym (lt-ltb 0 (length (d .profile ++ (stepOf fs ∷ [])))
+    (omega (arith, length-append (d .profile) (stepOf fs ∷ [])))))
 
 returns-6 : tie.Need-returns-6
 returns-6 c d fs e = rw (c .enum-told6 .given .1) e
