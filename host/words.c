@@ -8,7 +8,7 @@
 #define LENGTH "5.2 m is written 520"
 #define AREA "10.5 m2 is written 1050"
 
-/* A section: its letter, what it is called and its entries are called; which an entry is, after `is`, with `%s` for its
+/* A section: its letter, what it is called and its entries are called; which an entry is, after `is`, with `#` for its
    number; what it holds, and one in form; and its fields in their order. */
 typedef struct {
     char letter;
@@ -28,20 +28,20 @@ static const section_words sections[] = {
       {"the air density, in g/m3", "1.25 kg/m3 is written 1250"},
       {"the roof kind", ""},
       {"the roof number x, in tenths of a degree or in cm", "12.5 degrees is written 125"}}},
-    {'W', "the winds", "wind", "winds", "wind %s", "its direction and its speed", "0 400",
+    {'W', "the winds", "wind", "winds", "wind #", "its direction and its speed", "0 400",
      {{"the wind's direction, in degrees", ""}, {"the wind's speed, in tenths of m/s", "40.5 m/s is written 405"}}},
-    {'I', "the internal coefficients", "internal coefficient", "internal coefficients", "internal coefficient %s",
+    {'I', "the internal coefficients", "internal coefficient", "internal coefficients", "internal coefficient #",
      "in hundredths", "-30", {{"the internal coefficient, in hundredths", "-0.3 is written -30"}}},
-    {'P', "the wind's profile", "line of the profile", "lines of the profile", "line %s of the profile",
+    {'P', "the wind's profile", "line of the profile", "lines of the profile", "line # of the profile",
      "a height, above the one before it, and the part\nof the wind's speed that blows there", "1200 950",
      {{"the height, in cm", LENGTH}, {"the factor of the speed, in thousandths", "0.95 is written 950"}}},
-    {'F', "the faces", "face", "faces", "face %s", "its zone, its mark and its areas on x, y and z", "A 0 1000 0 0",
+    {'F', "the faces", "face", "faces", "face #", "its zone, its mark and its areas on x, y and z", "A 0 1000 0 0",
      {{"the zone", ""},
       {"the mark, a wind's direction or -", ""},
       {"the area on x, in dm2", AREA},
       {"the area on y, in dm2", AREA},
       {"the area on z, in dm2", AREA}}},
-    {'F', "the faces", "face", "faces", "face %s", "its zone, its mark, its height and its areas on x, y and z",
+    {'F', "the faces", "face", "faces", "face #", "its zone, its mark, its height and its areas on x, y and z",
      "A 0 600 1000 0 0",
      {{"the zone", ""},
       {"the mark, a wind's direction or -", ""},
@@ -93,15 +93,22 @@ const char *entry_name(char section, int several)
     return !s ? "line" : several ? s->several : s->one;
 }
 
+/* These words with the number in place of their `#`, where they have one. */
+static const char *numbered(const char *words, const char *number)
+{
+    static char name[80];
+    int before = (int)strcspn(words, "#");
+    snprintf(name, sizeof name, "%.*s%s%s", before, words, words[before] ? number : "", words + before + !!words[before]);
+    return name;
+}
+
 const char *called_name(char section, uint32_t entry)
 {
-    static char name[60];
     char number[16];
     const section_words *s = words_of((uint8_t)section, 0);
-    snprintf(number, sizeof number, "%u", entry);
-    if (entry == 0) snprintf(name, sizeof name, "section %c", section);
-    else snprintf(name, sizeof name, s ? s->which : "entry %s", number);
-    return name;
+    if (entry == 0) snprintf(number, sizeof number, "%c", section);
+    else snprintf(number, sizeof number, "%u", entry);
+    return numbered(entry == 0 ? "section #" : s ? s->which : "entry #", number);
 }
 
 const char *example_of(const aral_place *p, int high)
@@ -122,7 +129,7 @@ void print_purpose(const aral_place *p, int high, const char *count)
     if (*count) snprintf(which, sizeof which, "%u of %.20s", p->entry, count);
     else snprintf(which, sizeof which, "%u", p->entry);
     if (p->entry == 0) printf("opens section %c, %s", s->letter, s->called);
-    else printf("is "), printf(s->which, which);
+    else printf("is %s", numbered(s->which, which));
     printf(", as `%s`: %s.\n", example_of(p, high), p->entry ? s->holds : "its letter, a space and how many follow");
 }
 
