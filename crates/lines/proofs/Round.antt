@@ -49,7 +49,7 @@ field-free (Minus n) b h i =
 field-free (Letter c) b h i = free-one b c (λ e. omega (arith, i .0))
 field-free Dash b h i = free-one b 45 (λ e. omega arith)
 
-line-free : (fs : List Field) → Every InForm fs → Free 10 (lineText fs)
+pub line-free : (fs : List Field) → Every InForm fs → Free 10 (lineText fs)
 unfolding lineText until
 line-free [] a = refl
 line-free (f ∷ []) a = field-free f 10 (omega arith) (a .0)
@@ -57,7 +57,7 @@ line-free (f ∷ g ∷ fs) a =
     free-append 10 (fieldText f) (32 ∷ lineText (g ∷ fs)) (field-free f 10 (omega arith) (a .0))
     (free-append 10 (32 ∷ []) (lineText (g ∷ fs)) (free-one 10 32 (λ e. omega arith)) (line-free (g ∷ fs) (a .1)))
 
-line-fields : (f : Field) (fs : List Field) → Every InForm (f ∷ fs) → fieldsOf (lineText (f ∷ fs)) ≡ f ∷ fs
+pub line-fields : (f : Field) (fs : List Field) → Every InForm (f ∷ fs) → fieldsOf (lineText (f ∷ fs)) ≡ f ∷ fs
 unfolding fieldsOf lineText
 line-fields f [] a =
     ap (map fieldFrom) (split-one 32 (fieldText f) (field-free f 32 (omega arith) (a .0)))

@@ -12,4 +12,6 @@ pub mod FacesBack
 pub mod Steps
 pub mod OneMore
 pub mod SoFar
+pub mod Plain
+pub mod PlainLine
 pub mod Worked

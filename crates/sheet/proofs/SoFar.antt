@@ -173,11 +173,11 @@ module _ {lent : ℕ} {s : List ℕ} {h : Bool} {left i : ℕ} {b : Before} {k :
   entry-stored {t} is-t = rw is-t (stored-keeps lent (held x) here (o .so-far .keeps) t)
 
   -- the next line, with the entry stored, and z the lowest height that is then recorded
-  pub entry-read : {t : Section} {z : ℤ} → sectionAt h i ≡ t
+  entry-on : {t : Section} {z : ℤ} → sectionAt h i ≡ t
       → z ≡ getD (stored t (held x) k .setting .profile .entry) 0 noStep .height
       → ReadSoFar lent s h (sectionAt h i) (left - 1) (suc i) (nextBefore t (held x) z b) (stored t (held x) k)
       (line + 1) (x .next)
-  entry-read {t} {z} is-t lowest =
+  entry-on {t} {z} is-t lowest =
       let r = o .so-far in
       let e = entry-stored is-t in
       let p : countIn (keptOf lent here) (sectionAt h i) + left ≤ about (sectionAt h i) .most (b .year) =
@@ -202,6 +202,16 @@ module _ {lent : ℕ} {s : List ℕ} {h : Bool} {left i : ℕ} {b : Before} {k :
         unread = rw e (none-later lent h i here (held x) u);
         lines = omega (arith, o .more, r .lines);
       }
+
+  pub entry-read : {t : Section} {z : ℤ} {after : ℕ} → sectionAt h i ≡ t
+      → z ≡ getD (stored t (held x) k .setting .profile .entry) 0 noStep .height → after ≡ x .next
+      → ReadSoFar lent s h (sectionAt h i) (left - 1) (suc i) (nextBefore t (held x) z b) (stored t (held x) k)
+      (line + 1) after
+  entry-read {t} {z} is-t lowest e =
+      subst
+      (λ (n : ℕ). ReadSoFar lent s h (sectionAt h i) (left - 1) (suc i) (nextBefore t (held x) z b)
+      (stored t (held x) k) (line + 1) n)
+      (sym e) (entry-on is-t lowest)
 
 -- ---- the end of a section, and of the sheet
 

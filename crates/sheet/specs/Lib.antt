@@ -2,3 +2,4 @@
 pub mod Sheet
 pub mod Head
 pub mod Parts
+pub mod Said

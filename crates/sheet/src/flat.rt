@@ -10,7 +10,7 @@ ghost use lib.IntN.{pos};
 ghost use lib.ListN.{length, set};
 ghost use lib.Seq.{sets};
 ghost use Rattle.whole.specs.Lists.{firstOf};
-ghost use Rattle.entry.specs.Flat.{perFace, numbersOf, faceIn, facesIn};
+ghost use Rattle.entry.specs.Flat.{perFace, faceIn, facesIn};
 ghost use Rattle.job.specs.Carried.{noFace, mostFaces};
 
 // The numbers of as many faces as a record has room for.
@@ -35,17 +35,17 @@ fn put_number(flat: &mut [i64], at: usize, z: i64)
     }
 }
 
-// Face n, from 0: those of its numbers that find no room are dropped.
-pub(crate) fn put_face(flat: &mut [i64], n: u32, f: Face)
-    ensures { λ r. ⌜ now (flat .exit) ≡ sets (now (flat .entry)) (perFace * n) (numbersOf f) ⌝ }
+// The numbers of face n, from 0: those that find no room are dropped.
+pub(crate) fn put_numbers(flat: &mut [i64], n: u32, v: [i64; 6])
+    ensures { λ r. ⌜ now (flat .exit) ≡ sets (now (flat .entry)) (perFace * n) v ⌝ }
 {
     let at = 6 * (n as usize);
-    put_number(flat, at, f.zone as i64);
-    put_number(flat, at + 1, f.mark);
-    put_number(flat, at + 2, f.height);
-    put_number(flat, at + 3, f.x);
-    put_number(flat, at + 4, f.y);
-    put_number(flat, at + 5, f.z);
+    let mut k: usize = 0;
+    while k < 6 {
+        let z = v[k];
+        put_number(flat, at + k, z);
+        k += 1;
+    }
 }
 
 // Face i, from 0.

@@ -4,16 +4,13 @@ use crate::empty::no_setting;
 use crate::flat::MOST_NUMBERS;
 use crate::flat::clear;
 use crate::flat::faces_in;
-use crate::flat::put_face;
-use building::year::has_heights;
-use entry::says::building_of;
-use entry::says::face_of;
-use entry::says::internal_of;
+use crate::flat::put_numbers;
+use crate::said::building_in;
+use crate::said::count_said;
+use crate::said::entry_said;
+use crate::said::step_in;
+use crate::said::wind_in;
 use entry::says::letter_of;
-use entry::says::size_of;
-use entry::says::step_of;
-use entry::says::wind_of;
-use entry::says::year_of;
 use job::Internals;
 use job::Job;
 use job::Profile;
@@ -23,9 +20,7 @@ use job::with_faces;
 use lines::field_at;
 use lines::line_at;
 use rules::Before;
-use rules::Kind;
 use rules::Section;
-use rules::faults::line_fault;
 use rules::shape::section_at;
 use rules::shape::section_count;
 use verdict::Verdict;
@@ -115,36 +110,37 @@ pub fn read_into(s: &[u8], flat: &mut [i64]) -> Head
     for i in 0..section_count(heights) {
         // the count of the section, and as many entries
         let sec = section_at(heights, i);
-        let x = line_at(s, next);
-        let n = line_fault(Kind::Count(sec), b, x);
+        let x = count_said(sec, s, next, b);
+        let n = x.fault;
         if n != 0 {
             return refused(Verdict { number: n, line }, flat);
         }
         line += 1;
         next = x.next;
-        let mut left = size_of(field_at(x, 1));
+        let mut left = x.count;
         while left != 0 {
-            let x = line_at(s, next);
-            let n = line_fault(Kind::Entry(sec), b, x);
+            let x = entry_said(sec, s, next, b);
+            let n = x.fault;
             if n != 0 {
                 return refused(Verdict { number: n, line }, flat);
             }
             line += 1;
             next = x.next;
             left -= 1;
+            let v = x.number;
             match sec {
-                Section::V => b.year = year_of(x),
-                Section::B => b.building = building_of(x),
+                Section::V => b.year = v[0],
+                Section::B => b.building = building_in(v),
                 Section::W => {
-                    winds.entry[winds.count as usize] = wind_of(x);
+                    winds.entry[winds.count as usize] = wind_in(v);
                     winds.count += 1;
                 }
                 Section::I => {
-                    internals.entry[internals.count as usize] = internal_of(x);
+                    internals.entry[internals.count as usize] = v[0];
                     internals.count += 1;
                 }
                 Section::P => {
-                    let t = step_of(x);
+                    let t = step_in(v);
                     profile.entry[profile.count as usize] = t;
                     profile.count += 1;
                     let first = profile.entry[0];
@@ -152,7 +148,7 @@ pub fn read_into(s: &[u8], flat: &mut [i64]) -> Head
                     b.highest = t.height;
                 }
                 Section::F => {
-                    put_face(flat, faces, face_of(has_heights(b.year), x));
+                    put_numbers(flat, faces, v);
                     faces += 1;
                 }
             }

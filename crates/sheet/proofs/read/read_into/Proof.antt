@@ -5,14 +5,14 @@ use mathlib.Core.Bool.{Bool}
 use mathlib.Core.List.{List, []}
 use native.Mathlib.Omega.{arith}
 use lib.IntN.{ℤ, pos, negℤ}
-use lib.ListN.{length}
+use lib.ListN.{length, getD}
 use lib.Seq.{sets, length-sets}
 use Rattle.whole.specs.Lists.{firstOf}
 use Rattle.whole.proofs.Lists.{firstOf-length}
-use Rattle.whole.proofs.Size.{said}
 use Rattle.verdict.specs.Verdict.{accepted, refusal}
+use Rattle.field.specs.declared.Field.{Field}
 use Rattle.lines.specs.declared.Line.{Line}
-use Rattle.lines.specs.Held.{held}
+use Rattle.lines.specs.Held.{held, lineAt}
 use Rattle.rules.specs.declared.Before.{Before}
 use Rattle.rules.specs.declared.Section.{Section}
 use Rattle.rules.specs.declared.Section.the-variants.{B}
@@ -20,9 +20,8 @@ use Rattle.rules.specs.declared.Kind.{Kind}
 use Rattle.rules.specs.declared.Kind.the-variants.{Count, Entry}
 use Rattle.rules.specs.Sections.{sections, sectionAt, lineFault}
 use Rattle.building.specs.Year.{hasHeights}
-use Rattle.entry.specs.declared.Face.{Face}
-use Rattle.entry.specs.Flat.{flatFaces, perFace, numbersOf}
-use Rattle.entry.specs.Says.{size, faceOf}
+use Rattle.entry.specs.Flat.{flatFaces, perFace}
+use Rattle.entry.specs.Says.{yearOf, buildingOf, windOf, internalOf, stepOf}
 use Rattle.job.specs.declared.Winds.{Winds}
 use Rattle.job.specs.declared.Internals.{Internals}
 use Rattle.job.specs.declared.Profile.{Profile}
@@ -30,13 +29,18 @@ use Rattle.job.specs.Carried.{mostFaces, recorded}
 use Rattle.job.specs.Walk.{Refused}
 use Rattle.job.proofs.Alone.{few-sections}
 use Rattle.job.proofs.Room.{limit-roomed}
+use Rattle.sheet.specs.declared.said.Said.{Said}
+use Rattle.sheet.specs.declared.said.Counted.{Counted}
+use Rattle.sheet.specs.Said.{saysOf, buildingIn, windIn, stepIn, entrySaid, countSaid}
 use Rattle.sheet.specs.Parts.{settingOf}
 use Rattle.sheet.specs.Sheet.{reading}
+use Rattle.sheet.proofs.Plain.{read-back}
 use Rattle.sheet.proofs.OneMore.{Kept}
 use Rattle.sheet.proofs.SoFar.{ReadSoFar, EntryLine, read-start, count-stops, count-read, entry-stops}
 use Rattle.sheet.proofs.SoFar.{entry-room, entry-read, section-end, end-extra, end-accepted, told-as, as-long-as}
 use mir.ValLaws.{toZ-ofZ}
 use mir.Syntax.{w64}
+use mir.Val.{toZ, ofZ}
 use borrow.Author.Needs.{needs, sfits-of}
 use Rattle.sheet.proofs.read.read_into.Statement.{statement}
 use Rattle.sheet.proofs.read.read_into.Tie as tie
@@ -133,75 +137,94 @@ module _ (c : tie.After-section-at Inv-loop2 μ-loop2 Inv-loop μ-loop) where
   long : length (outer .loop .flat) ≡ length (lent cleared)
   long = outer .loop .inv .1 ∙ as-long cleared
 
-  -- a fault of a line of this section
-  as-section : (k : Section → Kind) (b : Before) (x : Line) {f : ℕ}
-      → f ≡ lineFault (k (c .section-at .result)) b (held x)
-      → f ≡ lineFault (k (sectionAt heights (outer .loop .i))) b (held x)
-  as-section k b x e = e ∙ ap (λ (s : Section). lineFault (k s) b (held x)) (c .section-at .ensures)
+  -- the line that begins at a place
+  abbrev line-from : ℕ → Line
+  line-from next = lineAt text next
+
+-- the count of the section
+module _ (c : tie.After-count-said Inv-loop2 μ-loop2 Inv-loop μ-loop) where
+  abbrev counted : Line
+  counted = line-from (c .before) (outer (c .before) .loop .next)
+
+  count-is : c .count-said .result
+      ≡ countSaid (sectionAt (heights (c .before)) (outer (c .before) .loop .i)) (outer (c .before) .loop .b) counted
+  count-is =
+      c .count-said .ensures
+      ∙ ap (λ (t : Section). countSaid t (outer (c .before) .loop .b) counted) (c .before .section-at .ensures)
+
+  count-fault : c .count-said .result .fault
+      ≡ lineFault (Count (sectionAt (heights (c .before)) (outer (c .before) .loop .i))) (outer (c .before) .loop .b)
+      (held counted)
+  count-fault = ap (λ (r : Counted). r .fault) count-is
 
 module _ (c : tie.After-refused Inv-loop2 μ-loop2 Inv-loop μ-loop) where
-  abbrev counted : tie.After-line-fault Inv-loop2 μ-loop2 Inv-loop μ-loop
-  counted = c .before .before .before
+  abbrev count : tie.After-count-said Inv-loop2 μ-loop2 Inv-loop μ-loop
+  count = c .before .before .before
 
-  abbrev at : tie.After-section-at Inv-loop2 μ-loop2 Inv-loop μ-loop
-  at = counted .before .before
-
-  count-refused : reading (text at) ≡ Refused (refusal (counted .line-fault .result) (outer at .loop .line))
+  count-refused : reading (text (count .before))
+      ≡ Refused (refusal (count .count-said .result .fault) (outer (count .before) .loop .line))
   count-refused =
-      count-stops (outer at .loop .inv .2 .1) (few at) (counted .before .line-at .ensures)
-      (as-section at Count (outer at .loop .b) (counted .before .line-at .result) (counted .line-fault .ensures))
-      (c .before .before .if1 .taken)
+      count-stops (outer (count .before) .loop .inv .2 .1) (few (count .before)) {x = counted count} refl
+      (count-fault count) (c .before .before .if1 .taken)
 
 returns : tie.Need-returns Inv-loop2 μ-loop2 Inv-loop μ-loop
 returns c =
     let r = c .before in
-    told-as (count-refused r) (long (at r)) (r .refused .ensures .1) (r .refused .ensures .0)
+    told-as (count-refused r) (long (count r .before)) (r .refused .ensures .1) (r .refused .ensures .0)
 
 same-length : tie.Need-same-length Inv-loop2 μ-loop2 Inv-loop μ-loop
-same-length c = let r = c .before in as-long-as (count-refused r) (long (at r)) (r .refused .ensures .1)
+same-length c = let r = c .before in as-long-as (count-refused r) (long (count r .before)) (r .refused .ensures .1)
 
 add-line : tie.Need-add-line Inv-loop2 μ-loop2 Inv-loop μ-loop
 add-line c =
-    let a = c .before .before .before in
+    let a = c .before .before in
     omega (arith, low a, outer a .loop .inv .2 .1 .lines)
 
 loop2-holds : tie.Need-loop2-holds Inv-loop2 μ-loop2 Inv-loop μ-loop
 loop2-holds c =
-    let o = c .before .before in
-    let f = o .before in
-    let a = f .before .before in (
+    let n = c .before in
+    let a = n .before in
+    let next = ap (λ (r : Counted). r .next) (count-is n) in (
       refl,
-      count-read (outer a .loop .inv .2 .1) (few a) (f .before .line-at .ensures)
-          (as-section a Count (outer a .loop .b) (f .before .line-at .result) (f .line-fault .ensures)) (o .if1 .left)
-          (c .size-of .ensures ∙ ap size (c .before .field-at .ensures)),
+      rw next
+          (count-read (outer a .loop .inv .2 .1) (few a) {x = counted n} refl (count-fault n) (c .if1 .left)
+          (ap (λ (r : Counted). r .count) (count-is n))),
     )
 
 -- a line behind the count
-module _ (c : tie.After-line-fault2 Inv-loop2 μ-loop2 Inv-loop μ-loop) where
+module _ (c : tie.After-entry-said Inv-loop2 μ-loop2 Inv-loop μ-loop) where
   abbrev turn : tie.At-loop2 Inv-loop2 μ-loop2 Inv-loop μ-loop
-  turn = c .before .before .before
+  turn = c .before .before
 
   abbrev section : tie.After-section-at Inv-loop2 μ-loop2 Inv-loop μ-loop
-  section = turn .before .before .before .before .before .before
+  section = turn .before .before .before
 
   abbrev kept : Kept
   kept =
       let t = turn .loop2 in
       keptIn (t .b) (t .winds) (t .internals) (t .profile) (t .faces) (t .flat)
 
-  fault-is : c .line-fault2 .result ≡ lineFault (Entry (sectionAt (heights section) (outer section .loop .i)))
-      (turn .loop2 .b) (held (c .before .line-at2 .result))
-  fault-is = as-section section Entry (turn .loop2 .b) (c .before .line-at2 .result) (c .line-fault2 .ensures)
+  abbrev read : Line
+  read = line-from section (turn .loop2 .next)
+
+  entry-is : c .entry-said .result
+      ≡ entrySaid (sectionAt (heights section) (outer section .loop .i)) (turn .loop2 .b) read
+  entry-is =
+      c .entry-said .ensures ∙ ap (λ (t : Section). entrySaid t (turn .loop2 .b) read) (section .section-at .ensures)
+
+  entry-fault : c .entry-said .result .fault
+      ≡ lineFault (Entry (sectionAt (heights section) (outer section .loop .i))) (turn .loop2 .b) (held read)
+  entry-fault = ap (λ (r : Said). r .fault) entry-is
 
 module _ (c : tie.After-refused2 Inv-loop2 μ-loop2 Inv-loop μ-loop) where
-  abbrev judged : tie.After-line-fault2 Inv-loop2 μ-loop2 Inv-loop μ-loop
+  abbrev judged : tie.After-entry-said Inv-loop2 μ-loop2 Inv-loop μ-loop
   judged = c .before .before .before
 
   entry-refused : reading (text (section judged))
-      ≡ Refused (refusal (judged .line-fault2 .result) (turn judged .loop2 .line))
+      ≡ Refused (refusal (judged .entry-said .result .fault) (turn judged .loop2 .line))
   entry-refused =
-      entry-stops (turn judged .loop2 .inv .1) (judged .before .before .loop2-test .taken)
-      (judged .before .line-at2 .ensures) (fault-is judged) (c .before .before .if2 .taken)
+      entry-stops (turn judged .loop2 .inv .1) (judged .before .loop2-test .taken) {x = read judged} refl
+      (entry-fault judged) (c .before .before .if2 .taken)
 
   long-here : length (turn judged .loop2 .flat) ≡ length (lent (cleared (section judged)))
   long-here = turn judged .loop2 .inv .0 ∙ long (section judged)
@@ -222,108 +245,130 @@ module _ (c : tie.Else2 Inv-loop2 μ-loop2 Inv-loop μ-loop) where
   abbrev now : tie.At-loop2 Inv-loop2 μ-loop2 Inv-loop μ-loop
   now = turn (c .before)
 
+  abbrev fields : List Field
+  fields = held (read (c .before))
+
   entry : EntryLine (length (now .loop2 .flat)) (text here) (heights here) (now .loop2 .left) (outer here .loop .i)
-      (now .loop2 .b) (kept (c .before)) (now .loop2 .line) (now .loop2 .next) (c .before .before .line-at2 .result)
+      (now .loop2 .b) (kept (c .before)) (now .loop2 .line) (now .loop2 .next) (read (c .before))
   entry =
       record {
         so-far = now .loop2 .inv .1;
-        more = c .before .before .before .loop2-test .taken;
-        is = c .before .before .line-at2 .ensures;
-        in-order = sym (c .if2 .left) ∙ fault-is (c .before);
+        more = c .before .before .loop2-test .taken;
+        is = refl;
+        in-order = sym (c .if2 .left) ∙ entry-fault (c .before);
       }
 
   -- of section t
   of : {t : Section} → here .section-at .result ≡ t → sectionAt (heights here) (outer here .loop .i) ≡ t
   of e = sym (here .section-at .ensures) ∙ e
 
-winds-room : (c : tie.After-wind-of Inv-loop2 μ-loop2 Inv-loop μ-loop)
-    → kept (c .before .before .before .before) .setting .winds .count < 8
+  next-is : c .before .entry-said .result .next ≡ read (c .before) .next
+  next-is = ap (λ (r : Said). r .next) (entry-is (c .before))
+
+  -- its numbers
+  numbers : {t : Section} → here .section-at .result ≡ t
+      → c .before .entry-said .result .number ≡ saysOf t (hasHeights (now .loop2 .b .year)) fields
+  numbers e =
+      ap (λ (r : Said). r .number) (entry-is (c .before))
+      ∙ ap (λ (t : Section). saysOf t (hasHeights (now .loop2 .b .year)) fields) (of e)
+
+winds-room : (c : tie.After-wind-in Inv-loop2 μ-loop2 Inv-loop μ-loop)
+    → kept (c .before .before .before .before .before) .setting .winds .count < 8
 winds-room c =
-    let e = c .before .before .before in
+    let e = c .before .before .before .before in
     entry-room (entry e) (of e (c .before .enum-told3 .given .1))
 
-internals-room : (c : tie.After-internal-of Inv-loop2 μ-loop2 Inv-loop μ-loop)
-    → kept (c .before .before .before .before) .setting .internals .count < 4
+internals-room : (c : tie.After-internals2 Inv-loop2 μ-loop2 Inv-loop μ-loop)
+    → kept (c .before .before .before .before .before) .setting .internals .count < 4
 internals-room c =
-    let e = c .before .before .before in
+    let e = c .before .before .before .before in
     entry-room (entry e) (of e (c .before .enum-told4 .given .1))
 
-steps-room : (c : tie.After-step-of Inv-loop2 μ-loop2 Inv-loop μ-loop)
-    → kept (c .before .before .before .before) .setting .profile .count < 16
+steps-room : (c : tie.After-step-in Inv-loop2 μ-loop2 Inv-loop μ-loop)
+    → kept (c .before .before .before .before .before) .setting .profile .count < 16
 steps-room c =
-    let e = c .before .before .before in
+    let e = c .before .before .before .before in
     entry-room (entry e) (of e (c .before .enum-told5 .given .1))
 
 abbrev put-in : tie.After-flat4 Inv-loop2 μ-loop2 Inv-loop μ-loop → tie.Else2 Inv-loop2 μ-loop2 Inv-loop μ-loop
-put-in c = c .before .before .before .before .before .before .before .before
+put-in c = c .before .before .before .before .before .before
 
 faces-room : (c : tie.After-flat4 Inv-loop2 μ-loop2 Inv-loop μ-loop) → kept (put-in c .before) .faces < mostFaces
 faces-room c =
     let e = put-in c in
-    let k = c .before .before .before .before .before .before in
+    let k = c .before .before .before in
     omega (arith, entry-room (entry e) (of e (k .enum-told6 .given .1)), limit-roomed (now e .loop2 .b .year))
 
 loop2-again : tie.Need-loop2-again Inv-loop2 μ-loop2 Inv-loop μ-loop
 loop2-again c =
-    let e = c .before .before .before in
-    (now e .loop2 .inv .0, rw (c .year-of .ensures) (entry-read (entry e) (of e (c .before .enum-told .given .1)) refl))
+    let e = c .before .before .before .before in
+    let told = c .before .enum-told .given .1 in
+    let v = e .before .entry-said .result .number in
+    let year : toZ w64 (ofZ w64 (getD v 0 (pos 0))) ≡ yearOf (fields e) =
+    read-back v 0 (search needs) ∙ ap (λ (l : List ℤ). getD l 0 (pos 0)) (numbers e told) in (
+      now e .loop2 .inv .0,
+      rw year (entry-read (entry e) (of e told) refl (next-is e)),
+    )
 
 loop2-again-2 : tie.Need-loop2-again-2 Inv-loop2 μ-loop2 Inv-loop μ-loop
 loop2-again-2 c =
-    let e = c .before .before .before in (
+    let e = c .before .before .before .before in
+    let told = c .before .enum-told2 .given .1 in
+    let building : c .building-in .result ≡ buildingOf (fields e) =
+    c .building-in .ensures ∙ ap buildingIn (numbers e told) in (
       now e .loop2 .inv .0,
-      rw (c .building-of .ensures) (entry-read (entry e) (of e (c .before .enum-told2 .given .1)) refl),
+      rw building (entry-read (entry e) (of e told) refl (next-is e)),
     )
 
 loop2-again-3 : tie.Need-loop2-again-3 Inv-loop2 μ-loop2 Inv-loop μ-loop
 loop2-again-3 c =
-    let e = c .before .before .before in (
+    let e = c .before .before .before .before in
+    let told = c .before .enum-told3 .given .1 in
+    let wind : c .wind-in .result ≡ windOf (fields e) = c .wind-in .ensures ∙ ap windIn (numbers e told) in (
       now e .loop2 .inv .0,
-      rw (c .wind-of .ensures) (entry-read (entry e) (of e (c .before .enum-told3 .given .1)) refl),
+      rw wind (entry-read (entry e) (of e told) refl (next-is e)),
     )
 
 loop2-again-4 : tie.Need-loop2-again-4 Inv-loop2 μ-loop2 Inv-loop μ-loop
 loop2-again-4 c =
-    let e = c .before .before .before in (
+    let e = c .before .before .before .before in
+    let told = c .before .enum-told4 .given .1 in
+    let v = e .before .entry-said .result .number in
+    let internal : toZ w64 (ofZ w64 (getD v 0 (pos 0))) ≡ internalOf (fields e) =
+    read-back v 0 (search needs) ∙ ap (λ (l : List ℤ). getD l 0 (pos 0)) (numbers e told) in (
       now e .loop2 .inv .0,
-      rw (toZ-ofZ w64 _ (sfits-of (c .internal-of .ok)), c .internal-of .ensures)
-          (entry-read (entry e) (of e (c .before .enum-told4 .given .1)) refl),
+      rw internal (entry-read (entry e) (of e told) refl (next-is e)),
     )
 
 loop2-again-5 : tie.Need-loop2-again-5 Inv-loop2 μ-loop2 Inv-loop μ-loop
 loop2-again-5 c =
     let o = c .before in
     let t = o .before .before in
-    let e = t .before .before .before in (
+    let e = t .before .before .before .before in
+    let told = t .before .enum-told5 .given .1 in
+    let step : t .step-in .result ≡ stepOf (fields e) = t .step-in .ensures ∙ ap stepIn (numbers e told) in (
       now e .loop2 .inv .0,
       rw (
         toZ-ofZ w64 _ (sfits-of (o .struct-told .given .0 .1)),
         toZ-ofZ w64 _ (sfits-of (c .struct-told2 .given .0 .1)),
-        t .step-of .ensures,
+        step,
       )
-          (entry-read (entry e) (of e (t .before .enum-told5 .given .1)) refl),
+          (entry-read (entry e) (of e told) refl (next-is e)),
     )
 
 loop2-again-6 : tie.Need-loop2-again-6 Inv-loop2 μ-loop2 Inv-loop μ-loop
 loop2-again-6 c =
     let p = c .before in
-    let f = p .before in
-    let h = f .before in
-    let t = h .before in
     let e = put-in c in
-    let y = now e .loop2 .b .year in
-    let x = held (e .before .before .line-at2 .result) in
-    let tall = said hasHeights y (h .has-heights .ensures) (t .struct-told3 .given .0 .1) in
-    let face = f .face-of .ensures ∙ ap (λ (t : Bool). faceOf t x) tall in
+    let told = p .before .before .enum-told6 .given .1 in
     let list =
-    p .put-face .ensures
-    ∙ ap (λ (f : Face). sets (now e .loop2 .flat) (perFace * now e .loop2 .faces) (numbersOf f)) face in
-    let r = entry-read (entry e) (of e (t .before .before .enum-told6 .given .1)) refl in
+    p .put-numbers .ensures ∙ ap (sets (now e .loop2 .flat) (perFace * now e .loop2 .faces)) (numbers e told) in
+    let r = entry-read (entry e) (of e told) refl (next-is e) in
     rw list (simp length-sets (now e .loop2 .inv .0), simp length-sets r)
 
 abbrev section-of : (c : tie.After-loop2 Inv-loop2 μ-loop2 Inv-loop μ-loop)
     → tie.After-section-at Inv-loop2 μ-loop2 Inv-loop μ-loop
-section-of c = c .before .before .before .before .before .before .before
+section-of c = c .before .before .before .before
 
 loop-again : tie.Need-loop-again Inv-loop2 μ-loop2 Inv-loop μ-loop
 loop-again c =
@@ -373,18 +418,17 @@ pub read-into-spec : {M : Type 1} → statement M
 read-into-spec =
     tie.close
     (tie.spec Inv-loop2 μ-loop2 Inv-loop μ-loop (λ c κs. search needs) (λ c κs. search needs) (λ c κs. search needs)
-    (λ c κs. search needs) loop-holds (λ c κs. search needs) (λ c κs. search needs) (λ c κs. search needs)
-    (λ c κs. search needs) same-length returns add-line (λ c κs. search needs) (λ c κs. search needs) loop2-holds
-    (λ c κs. search needs) (λ c κs. search needs) (λ c κs. search needs) same-length-2 returns-2
+    (λ c κs. search needs) loop-holds (λ c κs. search needs) (λ c κs. search needs) (λ c κs. search needs) same-length
+    returns add-line loop2-holds (λ c κs. search needs) (λ c κs. search needs) same-length-2 returns-2
     (λ c. omega (arith, low (here c), now c .loop2 .inv .1 .lines)) (λ c. search needs) (λ c. search needs)
-    (λ c κs. search needs) (λ c. search needs) loop2-again (λ c. search needs) (λ c κs. search needs)
-    (λ c. search needs) loop2-again-2 (λ c. search needs) (λ c κs. search needs) (λ c. omega (arith, winds-room c))
+    (λ c. search needs) (λ c. search needs) loop2-again (λ c. search needs) (λ c κs. search needs) (λ c. search needs)
+    loop2-again-2 (λ c. search needs) (λ c κs. search needs) (λ c. omega (arith, winds-room c))
     (λ c. omega (arith, winds-room c)) winds-room (λ c. omega (arith, winds-room c)) (λ c. search needs)
-    loop2-again-3 (λ c. search needs) (λ c κs. search needs) (λ c. omega (arith, internals-room c))
+    loop2-again-3 (λ c. search needs) (λ c. search needs) (λ c. omega (arith, internals-room c))
     (λ c. omega (arith, internals-room c)) internals-room (λ c. omega (arith, internals-room c)) (λ c. search needs)
     loop2-again-4 (λ c. search needs) (λ c κs. search needs) (λ c. omega (arith, steps-room c))
     (λ c. omega (arith, steps-room c)) steps-room (λ c. omega (arith, steps-room c)) (λ c. search needs)
-    (λ c. search needs) loop2-again-5 (λ c. search needs) (λ c κs. search needs) (λ c κs. search needs)
-    (λ c κs. search needs) (λ c. omega (arith, faces-room c)) (λ c. search needs) loop2-again-6
-    (λ c. omega (arith, low (section-of c))) (λ c. search needs) loop-again (λ c κs. search needs) same-length-3
-    returns-3 (λ c κs. search needs) (λ c. long-still (c .before .before)) returns-4)
+    (λ c. search needs) loop2-again-5 (λ c. search needs) (λ c κs. search needs) (λ c. omega (arith, faces-room c))
+    (λ c. search needs) loop2-again-6 (λ c. omega (arith, low (section-of c))) (λ c. search needs) loop-again
+    (λ c κs. search needs) same-length-3 returns-3 (λ c κs. search needs) (λ c. long-still (c .before .before))
+    returns-4)

@@ -1,0 +1,150 @@
+-- What a line says as numbers, and how a plain one stands in a text. Only contracts of private functions cite it.
+use Prim.Native.Nat.{ℕ, suc, _^_, _≤_, _<_}
+use mathlib.Core.Path.{_≡_}
+use mathlib.Core.Bool.{Bool, true, false, cond}
+use mathlib.Core.List.{List, [], _∷_, _++_, map}
+use lib.IntN.{ℤ, pos, negsuc, natAbs}
+use lib.ListN.{getD, drop}
+use Rattle.whole.specs.Lists.{Every}
+use Rattle.field.specs.declared.Field.{Field}
+use Rattle.field.specs.declared.Field.the-variants.{Plus, Minus}
+use Rattle.lines.specs.declared.Line.{Line}
+use Rattle.lines.specs.Lines.{lineText}
+use Rattle.lines.specs.Held.{held, lineAt}
+use Rattle.building.specs.Year.{hasHeights}
+use Rattle.building.specs.declared.Building.{Building}
+use Rattle.entry.specs.declared.Wind.{Wind}
+use Rattle.entry.specs.declared.Step.{Step}
+use Rattle.entry.specs.declared.Face.{Face}
+use Rattle.entry.specs.Says.{both, number, size, letter, at, faceOf}
+use Rattle.entry.specs.Flat.{numbersOf}
+use Rattle.rules.specs.declared.Before.{Before}
+use Rattle.rules.specs.declared.Section.{Section}
+use Rattle.rules.specs.declared.Section.the-variants.{«V», B, W, I, P, F}
+use Rattle.rules.specs.declared.Kind.{Kind}
+use Rattle.rules.specs.declared.Kind.the-variants.{Count, Entry}
+use Rattle.rules.specs.Form.{inForm}
+use Rattle.rules.specs.Sections.{forms, lineFault}
+use Rattle.sheet.specs.declared.plainly.Numbers.{Numbers}
+use Rattle.sheet.specs.declared.said.Said.{Said}
+use Rattle.sheet.specs.declared.said.Counted.{Counted}
+
+-- the numbers of a line's six fields, 0 for one that it has not
+abbrev pub sixNumbers : List Field → List ℤ
+sixNumbers fs =
+    number (at fs 0)
+    ∷ number (at fs 1)
+    ∷ number (at fs 2)
+    ∷ number (at fs 3)
+    ∷ number (at fs 4)
+    ∷ number (at fs 5)
+    ∷ []
+
+-- those of an entry: of a face in the order in which faces are laid
+abbrev pub saysOf : Section → Bool → List Field → List ℤ
+saysOf «V» heights fs = sixNumbers fs
+saysOf B heights fs = sixNumbers fs
+saysOf W heights fs = sixNumbers fs
+saysOf I heights fs = sixNumbers fs
+saysOf P heights fs = sixNumbers fs
+saysOf F heights fs = numbersOf (faceOf heights fs)
+
+-- the building, the wind and the step that numbers say
+abbrev pub buildingIn : List ℤ → Building
+buildingIn v =
+    record {
+      h = getD v 0 (pos 0);
+      a = getD v 1 (pos 0);
+      b = getD v 2 (pos 0);
+      density = getD v 3 (pos 0);
+      kind = getD v 4 (pos 0);
+      x = getD v 5 (pos 0);
+    }
+
+abbrev pub windIn : List ℤ → Wind
+windIn v = record { direction = getD v 0 (pos 0); speed = getD v 1 (pos 0) }
+
+abbrev pub stepIn : List ℤ → Step
+stepIn v = record { height = getD v 0 (pos 0); factor = getD v 1 (pos 0) }
+
+-- what a line says as an entry of a section, and as its count line
+abbrev pub entrySaid : Section → Before → Line → Said
+entrySaid t b x =
+    record {
+      fault = lineFault (Entry t) b (held x);
+      next = x .next;
+      number = saysOf t (hasHeights (b .year)) (held x);
+    }
+
+abbrev pub countSaid : Section → Before → Line → Counted
+countSaid t b x =
+    record { fault = lineFault (Count t) b (held x); next = x .next; count = size (at (held x) 1) }
+
+-- ---- a plain line in a text
+
+-- a number as a field, and one of at most seven digits
+abbrev pub numberField : ℤ → Field
+numberField (pos n) = Plus n
+numberField (negsuc n) = Minus (suc n)
+
+abbrev pub Short : ℤ → Type 0
+Short z = natAbs z < 10 ^ 7
+
+-- from a place on stand these numbers, and then the line ends
+abbrev pub NumbersStand : List ℕ → ℕ → List ℤ → ℕ → Type 0
+NumbersStand s from zs next =
+    (drop from s ≡ lineText (map numberField zs) ++ (10 ∷ drop next s)) × Every Short zs
+
+-- how many numbers a face line has behind its dash, or behind its letter, and which they are
+abbrev pub faceCount : Bool → Bool → ℕ
+faceCount true heights = cond heights 4 3
+faceCount false heights = cond heights 5 4
+
+abbrev pub faceBy : ℕ → Bool → Bool → List ℤ → Face
+faceBy zone true true zs =
+    record {
+      zone = zone;
+      mark = both;
+      height = getD zs 0 (pos 0);
+      x = getD zs 1 (pos 0);
+      y = getD zs 2 (pos 0);
+      z = getD zs 3 (pos 0);
+    }
+faceBy zone true false zs =
+    record {
+      zone = zone;
+      mark = both;
+      height = pos 0;
+      x = getD zs 0 (pos 0);
+      y = getD zs 1 (pos 0);
+      z = getD zs 2 (pos 0);
+    }
+faceBy zone false true zs =
+    record {
+      zone = zone;
+      mark = getD zs 0 (pos 0);
+      height = getD zs 1 (pos 0);
+      x = getD zs 2 (pos 0);
+      y = getD zs 3 (pos 0);
+      z = getD zs 4 (pos 0);
+    }
+faceBy zone false false zs =
+    record {
+      zone = zone;
+      mark = getD zs 0 (pos 0);
+      height = pos 0;
+      x = getD zs 1 (pos 0);
+      y = getD zs 2 (pos 0);
+      z = getD zs 3 (pos 0);
+    }
+
+abbrev pub faceNumbers : ℕ → Bool → Bool → Numbers → Numbers
+faceNumbers zone dash heights w = record { next = w .next; number = numbersOf (faceBy zone dash heights (w .number)) }
+
+-- a line in form that begins at a place and says these numbers
+abbrev pub PlainLine : Section → Bool → List ℕ → ℕ → Numbers → Type 0
+PlainLine t heights s from w =
+    (lineAt s from .next ≡ w .next)
+    × (inForm (forms heights (Entry t)) (held (lineAt s from)) ≡ true)
+    × (w .number ≡ saysOf t heights (held (lineAt s from)))
+    × (letter (at (held (lineAt s from)) 0) ≤ 90)
