@@ -60,7 +60,8 @@ pub put-past : (l : List ℕ) (at : ℕ) (s : List ℕ) → length l ≤ at → 
 put-past l at s h = record { end = omega arith; bytes = sym (sets-out l at s h) }
 
 -- a place past the end may be taken for the end
-pub put-clipped : {l m : List ℕ} {i r : ℕ} {s : List ℕ} (at : ℕ) → i ≡ min at (length l) → Put l i s m r → Put l at s m r
+pub put-clipped : {l m : List ℕ} {i r : ℕ} {s : List ℕ} (at : ℕ) → i ≡ min at (length l) → Put l i s m r
+    → Put l at s m r
 put-clipped {l} {m} {i} {r} {s} at e w =
     record { end = omega (arith, e, w .end); bytes = w .bytes ∙ sets-clipped l at i s e }
 

@@ -28,7 +28,8 @@ returns-2 c =
     let p = c .before .before in
     let g = p .before .before .before in
     let a = g .before .before .before .before in
-    let short : length (digits (a .args .n)) ≤ 20 = digits-length 19 (a .args .n) (omega (arith, a .good .1 .1 .0 .1)) in
+    let short : length (digits (a .args .n)) ≤ 20 =
+    digits-length 19 (a .args .n) (omega (arith, a .good .1 .1 .0 .1)) in
     rw (put-whole (g .put-long .ensures) short) at (p .put-bytes .ensures)
 
 pub put-natural-spec : {M : Type 1} → statement M
