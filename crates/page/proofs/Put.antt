@@ -7,7 +7,7 @@ use native.Mathlib.Nat.{add-zero}
 use native.Mathlib.Numerals.{add-one}
 use native.Mathlib.Omega.{arith}
 use lib.Dec.{leb}
-use lib.ListN.{length, take, drop, set, getD, length-append}
+use lib.ListN.{length, take, drop, set, getD, length-append, take-append-drop}
 use lib.Seq.{sets, sets-eq, set-out, take-at, take-suc, length-sets}
 use borrow.Author.Tests.{leb-true, leb-false}
 use Rattle.whole.proofs.Tests.{by-test}
@@ -58,6 +58,19 @@ put-nothing l at h = record { end = omega arith; bytes = refl }
 
 pub put-past : (l : List ℕ) (at : ℕ) (s : List ℕ) → length l ≤ at → Put l at s l (length l)
 put-past l at s h = record { end = omega arith; bytes = sym (sets-out l at s h) }
+
+-- a place past the end may be taken for the end
+pub put-clipped : {l m : List ℕ} {i r : ℕ} {s : List ℕ} (at : ℕ) → i ≡ min at (length l) → Put l i s m r
+    → Put l at s m r
+put-clipped {l} {m} {i} {r} {s} at e w =
+    record { end = omega (arith, e, w .end); bytes = w .bytes ∙ sets-clipped l at i s e }
+
+-- what reached the end has dropped the rest
+pub put-full : {l m : List ℕ} {at r : ℕ} (k : ℕ) (s : List ℕ) → length l ≤ r → Put l at (take k s) m r → Put l at s m r
+put-full {l} {m} {at} {r} k s h w =
+    let e : r ≡ length m = omega (arith, w .end, put-length w) in
+    let p : Put m r (drop k s) m r = rw (sym e) at (put-past m r (drop k s) (omega (arith, e))) in
+    rw (take-append-drop k s) at (then w p)
 
 -- one more byte of a text
 pub put-more : {l m n : List ℕ} {at r r′ : ℕ} (s : List ℕ) (i : ℕ) → i < length s → Put l at (take i s) m r

@@ -3,8 +3,8 @@
 use verdict::Verdict;
 ghost use mathlib.Core.Path.{_≡_};
 ghost use mathlib.Core.List.{[], _∷_};
-ghost use Prim.Native.Nat.{min};
-ghost use lib.ListN.{take};
+ghost use Prim.Native.Nat.{_+_, _≤_, min};
+ghost use lib.ListN.{length, take};
 ghost use Rattle.page.specs.Writing.{Put, writing, bufferAfter};
 
 // What writing comes to: the text's length, or a refusal.
@@ -32,16 +32,28 @@ pub fn put_byte(buf: &mut [u8], at: usize, b: u8) -> usize
     buf.len()
 }
 
+// All of s, for which there is room.
+fn put_whole(buf: &mut [u8], at: usize, s: &[u8]) -> usize
+    requires { ⌜ at + length (now s) ≤ length (now buf) ⌝ }
+    ensures { λ r. ⌜ Put (now (buf .entry)) at (now (s .entry)) (now (buf .exit)) r ⌝ }
+{
+    let mut i = 0;
+    while i < s.len() {
+        buf[at + i] = s[i];
+        i += 1;
+    }
+    at + s.len()
+}
+
 pub fn put_bytes(buf: &mut [u8], at: usize, s: &[u8]) -> usize
     ensures { λ r. ⌜ Put (now (buf .entry)) at (now (s .entry)) (now (buf .exit)) r ⌝ }
 {
-    let mut next = lesser(at, buf.len());
-    let mut i = 0;
-    while i < s.len() {
-        next = put_byte(buf, next, s[i]);
-        i += 1;
+    let start = lesser(at, buf.len());
+    let room = buf.len() - start;
+    if s.len() <= room {
+        return put_whole(buf, start, s);
     }
-    next
+    put_whole(buf, start, &s[..room])
 }
 
 // The first n bytes of `text`, or all where it has fewer, at the start of `buf`.
@@ -53,10 +65,5 @@ pub fn emit(text: &[u8], n: usize, buf: &mut [u8]) -> Writing
     if buf.len() < size {
         return Writing::Refused(Verdict { number: 7, line: 0 });
     }
-    let mut i = 0;
-    while i < size {
-        buf[i] = text[i];
-        i += 1;
-    }
-    Writing::Length(size)
+    Writing::Length(put_whole(buf, 0, &text[..size]))
 }

@@ -7,13 +7,13 @@ use mathlib.Core.Logic.{⊎-elim}
 use Prim.Native.Nat.{ℕ, suc, _+_, _-_, _*_, _^_, _≤_, _<_}
 use native.Mathlib.Omega.{arith}
 use lib.IntN.{ℤ, pos, negsuc, natAbs}
-use lib.ListN.{length, length-append}
+use lib.ListN.{length, length-append, length-take}
 use lib.Seq.{take-at}
 use mir.Syntax.{w32}
 use mir.Val.{Fits}
 use Rattle.whole.specs.Digits.{digits, decimal}
 use Rattle.whole.specs.Newton.{newton}
-use Rattle.whole.proofs.Digits.{digits-length}
+use Rattle.whole.proofs.Digits.{digits-length, length-small}
 use Rattle.whole.proofs.Tests.{by-test}
 use Rattle.building.specs.Year.{hasLongSheds}
 use Rattle.pair.specs.declared.Pair.{Pair}
@@ -40,7 +40,7 @@ use Rattle.worst.specs.Shown.{padded, shown, totalIn}
 use Rattle.worst.specs.Worst.{given, extreme, sixExtremes, reckoned}
 use Rattle.worst.specs.Within.{mostNewtons}
 use Rattle.worst.specs.Stored.{extremeBy, sixBy, telling, reckonedBy}
-use Rattle.whole.proofs.ByPlace.{getD-member}
+use Rattle.whole.proofs.ByPlace.{getD-member, getD-all}
 use Rattle.whole.proofs.Numbers.{Between, numbers-member}
 use Rattle.worst.proofs.Members.{case-permitted}
 use Rattle.worst.proofs.Meaning.{isBest-member}
@@ -50,10 +50,10 @@ use Rattle.worst.proofs.Accepted.{given-sound, given-in-range}
 use Rattle.worst.proofs.Promises.{extreme-shows, stored-shows}
 use Rattle.worst.proofs.SumsWithin.{within-at, side-small, telling-within}
 use Rattle.report.specs.Lines.{spaced, caseNumbers, totalText, extremeText, axisText, sixText, x, y, z}
-use Rattle.report.specs.Lines.{max, min}
 use Rattle.report.specs.Report.{reportText, refusedText}
-use Rattle.report.specs.Short.{Fair, Printable, Both, AllSix, facesShown, SixPrintable}
-use Rattle.report.proofs.Lines.{spaced-none, line-parts, axis-parts, six-parts, long-total, short-total}
+use Rattle.report.specs.Short.{Fair, Digits, Printable, Both, AllSix, facesShown}
+use Rattle.report.specs.Short.{SixPrintable, afterWord}
+use Rattle.report.proofs.Lines.{spaced-none, six-parts, long-total, short-total}
 use Rattle.report.proofs.Reports.{refused-parts}
 
 -- ---- numbers after spaces
@@ -76,10 +76,12 @@ OneDigit n = n < 10
 abbrev AllOf : {A : Type 0} → (A → Type 0) → List A → Type 0
 AllOf {A} P l = (a : A) → List·Memᴰ a l → P a
 
-spaced-digits : (ns : List ℕ) → AllOf OneDigit ns → length (spaced ns) ≤ 2 * length ns
-spaced-digits [] h = omega (arith, ap length spaced-none)
+-- numbers that are digits take two bytes each
+pub spaced-digits : (ns : List ℕ) → Digits ns → length (spaced ns) ≡ 2 * length ns
+unfolding spaced
+spaced-digits [] h = refl
 spaced-digits (n ∷ ns) h =
-    omega (arith, spaced-size 0 n (h n (List·Memᴰ·head refl)) ns, spaced-digits ns (λ a m. h a (List·Memᴰ·tail m)))
+    omega (arith, length-append (digits n) (spaced ns), length-small n (h 0), spaced-digits ns (λ i. h (suc i)))
 
 all-cons : {A : Type 0} {P : A → Type 0} {a : A} {l : List A} → P a → AllOf P l → AllOf P (a ∷ l)
 all-cons {A} {P} {a} h k b m = ⊎-elim (λ e. subst P (sym e) h) (k b) (List·Memᴰ·cases-cons m)
@@ -136,11 +138,14 @@ module _ (axis : Axis) (c : Carried) (o : InOrder c) (v : ℤ) (case : Case ℕ 
       all-cons (omega (arith, wind .high, o .winds-counted .high))
       (all-cons (omega (arith, internal .high, o .internals-counted .high)) (chosen .1))
 
-  -- a space and a digit for the wind, the internal coefficient and each face
-  pub case-short : length (spaced (caseNumbers named)) ≤ 2 * length (c .faces) + 4
-  case-short =
-      rw case-numbers
-      (omega (arith, spaced-digits (case .wind ∷ case .internal ∷ case .chosen) case-digits, chosen .0))
+  pub case-digit : Digits (caseNumbers named)
+  case-digit =
+      subst Digits (sym case-numbers)
+      (getD-all OneDigit (case .wind ∷ case .internal ∷ case .chosen) 0 (omega arith) case-digits)
+
+  pub case-counted : length (c .faces) ≤ length (named .alternative)
+  unfolding shown padded
+  case-counted = simp length-append (omega (arith, chosen .0))
 
 -- ---- what is shown of an accepted job: its extremes, and those that stored sums tell
 
@@ -159,7 +164,12 @@ module _ (c : Carried) (o : InOrder c) where
       → natAbs v ≤ mostNewtons (c .year) * newton → Prints (shown (length (c .faces)) (at v case))
   unfolding shown
   shown-prints axis v case p h =
-      record { case = case-short axis c o v case p; total = within-pairOf (mostNewtons (c .year)) v h }
+      record {
+        few = omega arith;
+        counted = case-counted axis c o v case p;
+        digits = case-digit axis c o v case p;
+        total = within-pairOf (mostNewtons (c .year)) v h;
+      }
 
   own-prints : (axis : Axis) (s : Side) → Prints (extreme axis s c)
   own-prints axis s =
@@ -215,7 +225,7 @@ decimal-size k (pos n) h = omega (arith, digits-length k n h)
 decimal-size k (negsuc n) h = omega (arith, digits-length k (suc n) h)
 
 -- a total: up to year 3 a minus sign and 19 digits; then a minus sign and 10 digits, a space, and 11 digits
-fair-short : (year : ℤ) (p : Pair) → Fair year p → length (totalText year p) ≤ 23
+pub fair-short : (year : ℤ) (p : Pair) → Fair year p → length (totalText year p) ≤ 23
 fair-short year p h = by-test (hasLongSheds year) long short
   where
     sized : Sized (mostNewtons year) p
@@ -238,39 +248,53 @@ fair-short year p h = by-test (hasLongSheds year) long short
         rw (short-total year t p) (omega (arith, decimal-size 18 (units p) (omega arith)))
 
 -- the letter, the word, a total, the numbers and the end
-module _ (year : ℤ) (n : ℕ) where
-  line-most : (e : Extreme) → Printable year n e → (letter : ℕ) (word : List ℕ) → length word ≡ 5
-      → length (extremeText year letter word e) ≤ 2 * n + 34
-  line-most e h letter word l =
-      rw (line-parts year) (simp length-append (omega (arith, l, h .case, fair-short year (e .total) (h .total))))
+module _ (year : ℤ) where
+  pub after-length : {n : ℕ} {e : Extreme} → Printable year n e
+      → length (afterWord year e) ≡ length (totalText year (e .total)) + (2 * e .faces + 5)
+  after-length {n} {e} h =
+      let k = length-take (e .faces) (e .alternative) in
+      simp length-append (omega (arith, spaced-digits (caseNumbers e) (h .digits), h .counted, k))
 
-  axis-most : (e : Extremes) → Both (Printable year n) e → (letter : ℕ) → length (axisText year letter e) ≤ 4 * n + 68
-  axis-most e h letter =
-      rw (axis-parts year)
-      (simp length-append
-      (omega (
-        arith,
-        line-most (e .greatest) (h .0) letter max refl,
-        line-most (e .least) (h .1) letter min refl,
-      )))
+  pub axis-length : (letter : ℕ) (e : Extremes)
+      → length (axisText year letter e)
+      ≡ length (afterWord year (e .greatest)) + length (afterWord year (e .least)) + 12
+  unfolding axisText extremeText
+  axis-length letter e = simp length-append (omega arith)
 
-  pub six-most : (six : Six) → AllSix (Printable year n) six → length (sixText year six) ≤ 12 * n + 204
-  six-most six h =
-      rw (six-parts year)
-      (simp length-append
-      (omega (
-        arith,
-        axis-most (six .x) (h .0) x,
-        axis-most (six .y) (h .1) y,
-        axis-most (six .z) (h .2) z,
-      )))
+  pub six-length : (six : Six)
+      → length (sixText year six)
+      ≡ length (axisText year x (six .x)) + length (axisText year y (six .y)) + length (axisText year z (six .z))
+  six-length six = rw (six-parts year) (simp length-append (omega arith))
 
--- what is printable has fair totals
-pub fair-six : (year : ℤ) (n : ℕ) (six : Six) → AllSix (Printable year n) six → AllSix (λ e. Fair year (e .total)) six
-fair-six year n six h =
-    let fair : (e : Extremes) → Both (Printable year n) e → Both (λ x. Fair year (x .total)) e =
-    λ e p. (p .0 .total, p .1 .total) in
-    (fair (six .x) (h .0), fair (six .y) (h .1), fair (six .z) (h .2))
+  module _ (n : ℕ) where
+    line-most : (e : Extreme) → Printable year n e → length (afterWord year e) ≤ 2 * n + 28
+    line-most e h = omega (arith, after-length h, h .few, fair-short year (e .total) (h .total))
+
+    axis-most : (e : Extremes) → Both (Printable year n) e → (letter : ℕ)
+        → length (axisText year letter e) ≤ 4 * n + 68
+    axis-most e h letter =
+        omega (arith, axis-length letter e, line-most (e .greatest) (h .0), line-most (e .least) (h .1))
+
+    pub six-most : (six : Six) → AllSix (Printable year n) six → length (sixText year six) ≤ 12 * n + 204
+    six-most six h =
+        omega (
+          arith,
+          six-length six,
+          axis-most (six .x) (h .0) x,
+          axis-most (six .y) (h .1) y,
+          axis-most (six .z) (h .2) z,
+        )
+
+-- what is printable with so many faces is with more
+pub all-more : (year : ℤ) (n m : ℕ) → n ≤ m → (six : Six) → AllSix (Printable year n) six
+    → AllSix (Printable year m) six
+all-more year n m l six h = (both (six .x) (h .0), both (six .y) (h .1), both (six .z) (h .2))
+  where
+    more : (e : Extreme) → Printable year n e → Printable year m e
+    more e p = record { few = omega (arith, p .few); counted = p .counted; digits = p .digits; total = p .total }
+
+    both : (e : Extremes) → Both (Printable year n) e → Both (Printable year m) e
+    both e p = (more (e .greatest) (p .0), more (e .least) (p .1))
 
 -- of 240 faces at most
 pub report-most : (c : Carried) → InOrder c → length (reportText c) ≤ 3084

@@ -1,9 +1,10 @@
--- What a line can be printed with: how long its parts are. Only contracts of private functions cite it.
+-- What a line can be printed with. Only contracts of private functions cite it.
 use mathlib.Core.Path.{_≡_}
 use mathlib.Core.Bool.{true}
-use Prim.Native.Nat.{ℕ, _+_, _*_, _≤_}
+use mathlib.Core.List.{List, [], _∷_, _++_}
+use Prim.Native.Nat.{ℕ, _+_, _≤_, _<_}
 use lib.IntN.{ℤ}
-use lib.ListN.{length}
+use lib.ListN.{length, getD}
 use Rattle.pair.specs.declared.Pair.{Pair}
 use Rattle.pair.specs.Total.{withinNewtons}
 use Rattle.worst.specs.declared.Extreme.{Extreme}
@@ -11,16 +12,26 @@ use Rattle.worst.specs.declared.Extremes.{Extremes}
 use Rattle.worst.specs.declared.Six.{Six}
 use Rattle.worst.specs.declared.Reckoning.{Reckoning}
 use Rattle.worst.specs.Within.{mostNewtons}
-use Rattle.report.specs.Lines.{spaced, caseNumbers}
+use Rattle.report.specs.Lines.{spaced, caseNumbers, totalText}
 
 -- a total that a job of the year can have
 abbrev pub Fair : ℤ → Pair → Type 0
 Fair year p = withinNewtons (mostNewtons year) p ≡ true
 
--- an extreme of a job with n faces: a space and a digit for the wind, the internal coefficient and each face
+-- each number is a digit
+abbrev pub Digits : List ℕ → Type 0
+Digits ns = (i : ℕ) → getD ns i 0 < 10
+
+-- an extreme of a job with n faces at most: numbers for its case, each a digit
 pub record Printable (year : ℤ) (n : ℕ) (e : Extreme) : Type 0 where
-  pub case : length (spaced (caseNumbers e)) ≤ 2 * n + 4
+  pub few : e .faces ≤ n
+  pub counted : e .faces ≤ length (e .alternative)
+  pub digits : Digits (caseNumbers e)
   pub total : Fair year (e .total)
+
+-- what a line has after its axis and word
+abbrev pub afterWord : ℤ → Extreme → List ℕ
+afterWord year e = totalText year (e .total) ++ (spaced (caseNumbers e) ++ (10 ∷ []))
 
 -- both of an axis, and all six
 abbrev pub Both : (Extreme → Type 0) → Extremes → Type 0

@@ -1,6 +1,7 @@
 // The report: six lines, on each axis the greatest and the least total with the first case that reaches it.
 use job::Job;
 use page::Writing;
+use verdict::Verdict;
 use worst::Reckoning;
 use worst::Stored;
 ghost use mathlib.Core.Path.{_≡_};
@@ -9,33 +10,10 @@ ghost use Rattle.job.specs.Walk.{judged};
 ghost use Rattle.sheet.specs.Sheet.{reading, jobWriting, jobBuffer};
 ghost use Rattle.plain.specs.Plain.{plainly};
 ghost use Rattle.report.specs.Report.{reportText, storedText, totalsText, sixWriting, sixBuffer};
-ghost use Rattle.report.specs.Lines.{sixText};
-ghost use Rattle.report.specs.Short.{facesShown, SixPrintable};
-ghost use Prim.Native.Nat.{_≤_};
+ghost use Rattle.report.specs.Short.{SixPrintable};
 
 mod refusal;
 mod six;
-
-// Six lines of at most 24 faces, which are 492 bytes at most; and of at most 240 faces, which are 3084.
-fn write_short(w: Reckoning, buf: &mut [u8]) -> Writing
-    requires { ⌜ SixPrintable w × (facesShown (w .six) ≤ 24) ⌝ }
-    ensures { λ r. ⌜ (r ≡ writing (sixText (w .year) (w .six)) (now (buf .entry)))
-        × (now (buf .exit) ≡ bufferAfter (sixText (w .year) (w .six)) (now (buf .entry))) ⌝ }
-{
-    let mut text = [0u8; 492];
-    let n = six::put_six(&mut text, 0, w.year, w.six);
-    page::emit(&text, n, buf)
-}
-
-fn write_long(w: Reckoning, buf: &mut [u8]) -> Writing
-    requires { ⌜ SixPrintable w ⌝ }
-    ensures { λ r. ⌜ (r ≡ writing (sixText (w .year) (w .six)) (now (buf .entry)))
-        × (now (buf .exit) ≡ bufferAfter (sixText (w .year) (w .six)) (now (buf .entry))) ⌝ }
-{
-    let mut text = [0u8; 3084];
-    let n = six::put_six(&mut text, 0, w.year, w.six);
-    page::emit(&text, n, buf)
-}
 
 // What was reckoned of a job: its own refusal, or six lines at the start of `buf`.
 fn write_six(w: Reckoning, buf: &mut [u8]) -> Writing
@@ -46,10 +24,10 @@ fn write_six(w: Reckoning, buf: &mut [u8]) -> Writing
     if v.number != 0 {
         return Writing::Refused(v);
     }
-    if w.six.x.greatest.faces <= 24 {
-        return write_short(w, buf);
+    if six::have_room(buf.len(), w.year, w.six) {
+        return Writing::Length(six::put_six(buf, w.year, w.six));
     }
-    write_long(w, buf)
+    Writing::Refused(Verdict { number: 7, line: 0 })
 }
 
 // The report of j at the start of `buf`. None is longer than 3084 bytes.

@@ -4,12 +4,14 @@ use pair::Pair;
 use worst::Extreme;
 use worst::Extremes;
 use worst::Six;
-ghost use lib.ListN.{take};
+ghost use Prim.Native.Nat.{_+_, _*_, _≤_, _<_};
+ghost use lib.Dec.{leb};
+ghost use lib.ListN.{length, take};
 ghost use mathlib.Core.Path.{_≡_};
-ghost use mathlib.Core.List.{[], _∷_};
+ghost use mathlib.Core.List.{[], _∷_, _++_};
 ghost use Rattle.page.specs.Writing.{Put};
-ghost use Rattle.report.specs.Lines.{spaced, caseNumbers, totalText, extremeText, axisText, sixText};
-ghost use Rattle.report.specs.Short.{Fair, Both, AllSix};
+ghost use Rattle.report.specs.Lines.{spaced, caseNumbers, totalText, axisText, sixText, x};
+ghost use Rattle.report.specs.Short.{Fair, Digits, Printable, Both, AllSix, facesShown, afterWord};
 
 fn wide(n: u8) -> u32
     ensures { λ r. ⌜ r ≡ n ⌝ }
@@ -25,40 +27,40 @@ pub(crate) fn put_spaced(buf: &mut [u8], at: usize, n: u32) -> usize
     digits::put_natural(buf, next, n as u64)
 }
 
-// Each number after a space.
-fn put_numbers(buf: &mut [u8], at: usize, ns: &[u8]) -> usize
-    ensures { λ r. ⌜ Put (now (buf .entry)) at (spaced (now (ns .entry))) (now (buf .exit)) r ⌝ }
+// A space and a digit, for which there is room.
+fn put_digit(buf: &mut [u8], at: usize, n: u32) -> usize
+    requires { ⌜ (n < 10) × (at + 2 ≤ length (now buf)) ⌝ }
+    ensures { λ r. ⌜ Put (now (buf .entry)) at (spaced (n ∷ [])) (now (buf .exit)) r × (r ≡ at + 2) ⌝ }
 {
-    if buf.len() < at {
-        return buf.len();
-    }
-    let mut next = at;
+    buf[at] = b' ';
+    buf[at + 1] = 48 + (n as u8);
+    at + 2
+}
+
+// Each of the first n numbers, which are digits, after a space.
+fn put_numbers(buf: &mut [u8], at: usize, ns: &[u8; 240], n: usize) -> usize
+    requires { ⌜ Digits (take n (now ns)) × (n ≤ length (now ns)) × (n ≤ 240) × (at + 2 * n ≤ length (now buf)) ⌝ }
+    ensures { λ r. ⌜ Put (now (buf .entry)) at (spaced (take n (now (ns .entry)))) (now (buf .exit)) r
+        × (r ≡ at + 2 * n) ⌝ }
+{
     let mut i = 0;
-    while i < ns.len() {
-        next = put_spaced(buf, next, wide(ns[i]));
+    while i < n {
+        put_digit(buf, at + 2 * i, wide(ns[i]));
         i += 1;
     }
-    next
+    at + 2 * n
 }
 
-// The alternatives of the faces, of which an array holds 240 at most.
-fn put_alternatives(buf: &mut [u8], at: usize, alternative: [u8; 240], faces: usize) -> usize
-    ensures { λ r. ⌜ Put (now (buf .entry)) at (spaced (take faces alternative)) (now (buf .exit)) r ⌝ }
+// The numbers of a case, and the end of its line. `alternative` is e's own, lent: so no record is copied.
+fn put_case(buf: &mut [u8], at: usize, e: Extreme, alternative: &[u8; 240]) -> usize
+    requires { ⌜ Digits (caseNumbers e) × (e .faces ≤ length (e .alternative)) × (e .faces ≤ 240)
+        × (now alternative ≡ e .alternative) × (at + 2 * e .faces + 5 ≤ length (now buf)) ⌝ }
+    ensures { λ r. ⌜ Put (now (buf .entry)) at (spaced (caseNumbers e) ++ (10 ∷ [])) (now (buf .exit)) r ⌝ }
 {
-    if faces < 240 {
-        return put_numbers(buf, at, &alternative[..faces]);
-    }
-    put_numbers(buf, at, &alternative)
-}
-
-// The numbers of a case.
-fn put_case(buf: &mut [u8], at: usize, e: Extreme) -> usize
-    ensures { λ r. ⌜ Put (now (buf .entry)) at (spaced (caseNumbers e)) (now (buf .exit)) r ⌝ }
-{
-    let winded = put_spaced(buf, at, e.wind);
-    let inside = put_spaced(buf, winded, e.internal);
-    let alternative = e.alternative;
-    put_alternatives(buf, inside, alternative, e.faces as usize)
+    let winded = put_digit(buf, at, e.wind);
+    let inside = put_digit(buf, winded, e.internal);
+    let cased = put_numbers(buf, inside, alternative, e.faces as usize);
+    page::put_byte(buf, cased, b'\n')
 }
 
 // A total: its units, and from year 4 on its newtons and the remainder.
@@ -74,32 +76,63 @@ fn put_total(buf: &mut [u8], at: usize, year: i64, p: Pair) -> usize
     digits::put_decimal(buf, at, pair::as_units(p))
 }
 
-// One line: the axis, the word, the total and the numbers of its case.
-fn put_line(buf: &mut [u8], at: usize, year: i64, axis: u8, word: &[u8; 5], e: Extreme) -> usize
-    requires { ⌜ Fair year (e .total) ⌝ }
-    ensures { λ r. ⌜ Put (now (buf .entry)) at (extremeText year axis (now (word .entry)) e) (now (buf .exit)) r ⌝ }
+// A line after its axis and word: the total, and the numbers of its case.
+fn put_line(buf: &mut [u8], at: usize, year: i64, e: Extreme, alternative: &[u8; 240]) -> usize
+    requires { ⌜ Printable year 240 e × (now alternative ≡ e .alternative)
+        × (at + length (afterWord year e) ≤ length (now buf)) ⌝ }
+    ensures { λ r. ⌜ Put (now (buf .entry)) at (afterWord year e) (now (buf .exit)) r ⌝ }
 {
-    let named = page::put_byte(buf, at, axis);
-    let worded = page::put_bytes(buf, named, word);
-    let totalled = put_total(buf, worded, year, e.total);
-    let cased = put_case(buf, totalled, e);
-    page::put_byte(buf, cased, b'\n')
+    let next = put_total(buf, at, year, e.total);
+    put_case(buf, next, e, alternative)
 }
 
-fn put_axis(buf: &mut [u8], at: usize, year: i64, axis: u8, e: Extremes) -> usize
-    requires { ⌜ Both (λ x. Fair year (x .total)) e ⌝ }
-    ensures { λ r. ⌜ Put (now (buf .entry)) at (axisText year axis e) (now (buf .exit)) r ⌝ }
+// All six, for which there is room.
+pub(crate) fn put_six(buf: &mut [u8], year: i64, s: Six) -> usize
+    requires { ⌜ AllSix (Printable year 240) s × (length (sixText year s) ≤ length (now buf)) ⌝ }
+    ensures { λ r. ⌜ Put (now (buf .entry)) 0 (sixText year s) (now (buf .exit)) r ⌝ }
 {
-    let next = put_line(buf, at, year, axis, b" max ", e.greatest);
-    put_line(buf, next, year, axis, b" min ", e.least)
+    let named = page::put_bytes(buf, 0, b"x max ");
+    let next = put_line(buf, named, year, s.x.greatest, &s.x.greatest.alternative);
+    let named = page::put_bytes(buf, next, b"x min ");
+    let next = put_line(buf, named, year, s.x.least, &s.x.least.alternative);
+    let named = page::put_bytes(buf, next, b"y max ");
+    let next = put_line(buf, named, year, s.y.greatest, &s.y.greatest.alternative);
+    let named = page::put_bytes(buf, next, b"y min ");
+    let next = put_line(buf, named, year, s.y.least, &s.y.least.alternative);
+    let named = page::put_bytes(buf, next, b"z max ");
+    let next = put_line(buf, named, year, s.z.greatest, &s.z.greatest.alternative);
+    let named = page::put_bytes(buf, next, b"z min ");
+    put_line(buf, named, year, s.z.least, &s.z.least.alternative)
 }
 
-// All six.
-pub(crate) fn put_six(buf: &mut [u8], at: usize, year: i64, s: Six) -> usize
-    requires { ⌜ AllSix (λ x. Fair year (x .total)) s ⌝ }
-    ensures { λ r. ⌜ Put (now (buf .entry)) at (sixText year s) (now (buf .exit)) r ⌝ }
+// How long a line is.
+fn line_size(year: i64, total: Pair, faces: u32) -> usize
+    requires { ⌜ Fair year total ⌝ }
+    ensures { λ r. ⌜ r ≡ length (totalText year total) + (2 * faces + 11) ⌝ }
 {
-    let x = put_axis(buf, at, year, b'x', s.x);
-    let y = put_axis(buf, x, year, b'y', s.y);
-    put_axis(buf, y, year, b'z', s.z)
+    let mut text = [0u8; 23];
+    put_total(&mut text, 0, year, total) + (2 * (faces as usize) + 11)
+}
+
+// How long the two lines of an axis are.
+fn axis_size(year: i64, e: Extremes) -> usize
+    requires { ⌜ Both (Printable year 240) e ⌝ }
+    ensures { λ r. ⌜ r ≡ length (axisText year x e) ⌝ }
+{
+    let greatest = line_size(year, e.greatest.total, e.greatest.faces);
+    greatest + line_size(year, e.least.total, e.least.faces)
+}
+
+// Whether there is room for six lines. Six of n faces are never longer than 12 n + 204 bytes, so they are seldom
+// measured.
+pub(crate) fn have_room(room: usize, year: i64, s: Six) -> bool
+    requires { ⌜ AllSix (Printable year (facesShown s)) s × (facesShown s ≤ 240) ⌝ }
+    ensures { λ r. ⌜ r ≡ leb (length (sixText year s)) room ⌝ }
+{
+    if 12 * (s.x.greatest.faces as usize) + 204 <= room {
+        return true;
+    }
+    let x = axis_size(year, s.x);
+    let y = axis_size(year, s.y);
+    x + y + axis_size(year, s.z) <= room
 }

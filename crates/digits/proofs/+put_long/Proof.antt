@@ -1,12 +1,12 @@
 -- `put_long` meets its contract. The measure is n, which falls at n / 10.
-use Prim.Native.Nat.{ℕ, _<_}
+use Prim.Native.Nat.{ℕ, _<_, _/_}
+use mathlib.Core.Path.{refl}
 use native.Mathlib.Omega.{arith}
 use borrow.Author.Needs.{needs}
 use borrow.Fn.Kinds.{In}
 use borrow.Fn.PlainCycle.{Measures, is, falls, and}
-use Rattle.page.proofs.Put.{then}
-use Rattle.page.proofs.put_byte.Reads as put-byte
-use Rattle.whole.proofs.Digits.{digits-small, digits-more}
+use Rattle.page.proofs.Put.{put-length, then}
+use Rattle.whole.proofs.Digits.{digits-small, digits-more, digits-length}
 use Rattle.digits.proofs.put_long.Reads as f
 use Rattle.digits.proofs.put_long.Kinds as f-kinds
 use Rattle.digits.proofs.+put_long.Lts-put_long as lts
@@ -14,7 +14,7 @@ use Rattle.digits.proofs.+put_long.{statement}
 use Rattle.digits.proofs.+put_long.Tie.{close}
 
 abbrev μ : Measures 1 f-kinds.ps ℕ
-μ κs a = a .1 .1 .0
+μ κs a = a .1 .0
 
 abbrev at-t : ℕ → In 1 f-kinds.ps
 at-t t = and 1 f-kinds.ps (is 1 f-kinds.ps μ t) f.Pre
@@ -23,52 +23,37 @@ abbrev below : ℕ → In 1 f-kinds.ps
 below t = and 1 f-kinds.ps (falls 1 f-kinds.ps _<_ μ t) f.Pre
 
 module _ (t : ℕ) where
-  cast-put-byte : lts.Need-cast-put-byte (put-byte.Asked, put-byte.Learnt, below t, f.Post) (at-t t) f.Post
-  cast-put-byte c = search needs
-
-  add-put-byte : lts.Need-add-put-byte (put-byte.Asked, put-byte.Learnt, below t, f.Post) (at-t t) f.Post
-  add-put-byte c = search needs
-
-  put-byte-requires : lts.Need-put-byte-requires (put-byte.Asked, put-byte.Learnt, below t, f.Post) (at-t t) f.Post
-  put-byte-requires c κs = search needs
-
-  same-length : lts.Need-same-length (put-byte.Asked, put-byte.Learnt, below t, f.Post) (at-t t) f.Post
-  same-length c = search needs
-
-  returns : lts.Need-returns (put-byte.Asked, put-byte.Learnt, below t, f.Post) (at-t t) f.Post
+  returns : lts.Need-returns (below t, f.Post) (at-t t) f.Post
   returns c =
-      let p = c .before .before in
-      let b = p .before .before in
-      rw (digits-small (b .before .before .args .n) (b .if1 .taken)) (p .put-byte .ensures)
+      let a = c .before in
+      rw (digits-small (a .args .n) (c .if1 .taken)) (record { end = omega (arith, a .pre .1); bytes = refl })
 
-  put-long-requires : lts.Need-put-long-requires (put-byte.Asked, put-byte.Learnt, below t, f.Post) (at-t t) f.Post
-  put-long-requires c κs = (omega arith, tt)
+  put-long-requires : lts.Need-put-long-requires (below t, f.Post) (at-t t) f.Post
+  put-long-requires c κs = (omega arith, c .before .before .pre .1)
 
-  cast-put-byte-2 : lts.Need-cast-put-byte-2 (put-byte.Asked, put-byte.Learnt, below t, f.Post) (at-t t) f.Post
-  cast-put-byte-2 c = search needs
+  -- a tenth of n has 19 digits at most
+  short : (c : lts.After-put-long (below t, f.Post) (at-t t) f.Post) → c .put-long .result < 20
+  short c =
+      let a = c .before .before .before in
+      omega (arith, c .put-long .ensures .end, digits-length 18 (a .args .n / 10) (omega (arith, a .good .1 .0 .1)))
 
-  add-put-byte-2 : lts.Need-add-put-byte-2 (put-byte.Asked, put-byte.Learnt, below t, f.Post) (at-t t) f.Post
-  add-put-byte-2 c = search needs
+  element-write-text-2 : lts.Need-element-write-text-2 (below t, f.Post) (at-t t) f.Post
+  element-write-text-2 c = short c
 
-  put-byte-requires-2 : lts.Need-put-byte-requires-2 (put-byte.Asked, put-byte.Learnt, below t, f.Post)
-      (at-t t) f.Post
-  put-byte-requires-2 c κs = search needs
+  add-result : lts.Need-add-result (below t, f.Post) (at-t t) f.Post
+  add-result c = omega (arith, short c)
 
-  same-length-2 : lts.Need-same-length-2 (put-byte.Asked, put-byte.Learnt, below t, f.Post) (at-t t) f.Post
-  same-length-2 c = search needs
-
-  returns-2 : lts.Need-returns-2 (put-byte.Asked, put-byte.Learnt, below t, f.Post) (at-t t) f.Post
+  returns-2 : lts.Need-returns-2 (below t, f.Post) (at-t t) f.Post
   returns-2 c =
-      let p = c .before .before in
-      let g = p .before .before .before .before in
-      let b = g .before .before in
-      rw (digits-more (b .before .before .args .n) (b .if1 .left))
-      (then (g .put-long .ensures) (p .put-byte2 .ensures))
+      let g = c .put-long .ensures in
+      let b = c .before .before in
+      rw (digits-more (b .before .args .n) (b .if1 .left))
+      (then g (record { end = omega (arith, short c, put-length g, b .before .pre .1); bytes = refl }))
 
 pub +put-long-spec : {M : Type 1} → statement M
 +put-long-spec =
     close μ
     (λ t.
-    lts.spec (put-byte.Asked, put-byte.Learnt, below t, f.Post) (at-t t) f.Post (cast-put-byte t) (add-put-byte t)
-    (put-byte-requires t) (same-length t) (returns t) (put-long-requires t) (cast-put-byte-2 t) (add-put-byte-2 t)
-    (put-byte-requires-2 t) (same-length-2 t) (returns-2 t))
+    lts.spec (below t, f.Post) (at-t t) f.Post (λ c. search needs) (λ c. search needs) (λ c. search needs) (returns t)
+    (λ c. search needs) (λ c. search needs) (put-long-requires t) (element-write-text-2 t) (add-result t)
+    (returns-2 t))

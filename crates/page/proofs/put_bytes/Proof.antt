@@ -1,45 +1,38 @@
--- `put_bytes` meets its contract: after i turns the first i bytes are put.
-use Prim.Native.Nat.{_≤_, _-_}
-use mathlib.Core.Path.{refl}
+-- `put_bytes` meets its contract: all of it is put, or what fills the room.
+use Prim.Native.Nat.{_-_}
 use native.Mathlib.Omega.{arith}
 use denote.Ref.{now}
-use lib.ListN.{length, take}
-use lib.Seq.{take-all}
-use Rattle.page.specs.Writing.{Put}
-use Rattle.page.proofs.Put.{put-length, put-more}
+use lib.ListN.{length, length-take}
+use Rattle.page.proofs.Put.{put-clipped, put-full}
 use borrow.Author.Needs.{needs}
 use Rattle.page.proofs.put_bytes.Statement.{statement}
 use Rattle.page.proofs.put_bytes.Tie as tie
 
-abbrev Inv-loop : tie.InvT-loop
-Inv-loop buf₀ at s next₀ i₀ buf next i = (i ≤ length s) × Put buf₀ at (take i s) buf next
-
-abbrev μ-loop : tie.MeasureT-loop
-μ-loop buf₀ at s next₀ i₀ buf next i = length s - i
-
-loop-holds : tie.Need-loop-holds Inv-loop μ-loop
-loop-holds c = (search needs, record { end = omega (arith, c .lesser .ensures); bytes = refl })
-
-loop-again : tie.Need-loop-again Inv-loop μ-loop
-loop-again c =
-    let p = c .before .before in
-    let l = p .before .before .before .before in (
-      search needs,
-      put-more (now (l .before .before .before .before .args .s)) (l .loop .i) (search needs) (l .loop .inv .1)
-          (p .put-byte .ensures),
-    )
-
-same-length : tie.Need-same-length Inv-loop μ-loop
-same-length c = put-length (c .before .loop .inv .1)
-
-returns : tie.Need-returns Inv-loop μ-loop
+returns : tie.Need-returns
 returns c =
-    let l = c .before in
-    rw (take-all (l .loop .i) (now (l .before .before .before .before .args .s)) (c .loop-test .left)) at
-    (l .loop .inv .1)
+    let w = c .before .before in
+    let e = w .before .before .before in
+    put-clipped (e .before .before .before .args .at) (e .lesser .ensures) (w .put-whole .ensures)
+
+slice-aggregate-put-whole : tie.Need-slice-aggregate-put-whole
+slice-aggregate-put-whole c = simp length-take (omega arith)
+
+put-whole-requires-2 : tie.Need-put-whole-requires-2
+put-whole-requires-2 c κs = simp length-take (omega (arith, c .before .before .before .lesser .ensures))
+
+returns-2 : tie.Need-returns-2
+returns-2 c =
+    let w = c .before .before in
+    let e = w .before .before .before .before in
+    let a = e .before .before .before .args in
+    let room = length (now (a .buf)) - e .lesser .result in
+    put-clipped (a .at) (e .lesser .ensures)
+    (put-full room (now (a .s))
+    (omega (arith, w .put-whole2 .ensures .end, e .lesser .ensures, length-take room (now (a .s))))
+    (w .put-whole2 .ensures))
 
 pub put-bytes-spec : {M : Type 1} → statement M
 put-bytes-spec =
     tie.close
-    (tie.spec Inv-loop μ-loop (λ c κs. search needs) loop-holds (λ c. search needs) (λ c κs. search needs)
-    (λ c. search needs) (λ c. search needs) loop-again same-length returns)
+    (tie.spec (λ c κs. search needs) (λ c. search needs) (λ c κs. search needs) (λ c. search needs) returns
+    slice-aggregate-put-whole put-whole-requires-2 (λ c. search needs) returns-2)
