@@ -22,7 +22,7 @@ ghost use Rattle.building.specs.Places as places;
 ghost use Rattle.building.specs.Test as test;
 ghost use Rattle.entry.specs.Says.{both};
 ghost use Rattle.rules.specs.Faults.{yearFaults, windFaults, internalFaults, heightFault, stepFaults};
-ghost use Rattle.rules.specs.Faults.{unmarkedWall, areaFault, offProfile, faceFaults};
+ghost use Rattle.rules.specs.Faults.{unmarkedWall, areaFault, offProfile, placeFaults, faceFaults};
 ghost use Rattle.rules.specs.Sections.{countFaults};
 
 // The ranges of an entry's numbers: the year that a sheet says, a speed, an internal coefficient, a height, a factor
@@ -134,10 +134,10 @@ pub(crate) fn unmarked_wall(g: Building, f: Face) -> bool
     false
 }
 
-fn area_fault(z: i64, next: u32) -> u32
-    ensures { λ r. ⌜ ((field : ℕ) → r ≡ cond (areaFault field z .found) 3 next) ⌝ }
+fn off_area(z: i64) -> bool
+    ensures { λ r. ⌜ ((field : ℕ) → r ≡ areaFault field z .found) ⌝ }
 {
-    fault(3, beyond(LEAST_AREA, MOST_AREA, z), next)
+    beyond(LEAST_AREA, MOST_AREA, z)
 }
 
 pub(crate) fn off_profile(b: Before, z: i64) -> bool
@@ -149,14 +149,43 @@ pub(crate) fn off_profile(b: Before, z: i64) -> bool
     false
 }
 
+// Where a face stands: its zone, its wall, its height.
+fn place_fault(b: Before, f: Face) -> u32
+    ensures { λ r. ⌜ r ≡ first (placeFaults b f) ⌝ }
+{
+    let g = b.building;
+    if !building::zone_on(g.kind, f.zone) {
+        return 6;
+    }
+    if unmarked_wall(g, f) {
+        return 6;
+    }
+    if off_profile(b, f.height) {
+        return 8;
+    }
+    0
+}
+
 pub fn face_fault(b: Before, f: Face) -> u32
     ensures { λ r. ⌜ r ≡ first (faceFaults b f) ⌝ }
 {
-    let g = b.building;
-    let height = fault(8, off_profile(b, f.height), 0);
-    let wall = fault(6, unmarked_wall(g, f), height);
-    let place = fault(6, !building::zone_on(g.kind, f.zone), wall);
-    let areas = area_fault(f.x, area_fault(f.y, area_fault(f.z, place)));
-    let mark = fault(3, !is_marked(g, f.mark), height_fault(f.height, areas));
-    fault(1, !is_zone(f.zone), mark)
+    if !is_zone(f.zone) {
+        return 1;
+    }
+    if !is_marked(b.building, f.mark) {
+        return 3;
+    }
+    if beyond(0, MOST_HEIGHT, f.height) {
+        return 3;
+    }
+    if off_area(f.x) {
+        return 3;
+    }
+    if off_area(f.y) {
+        return 3;
+    }
+    if off_area(f.z) {
+        return 3;
+    }
+    place_fault(b, f)
 }
