@@ -19,6 +19,7 @@ mod tops; // the best cell so far
 mod cells; // the sums of every internal coefficient under a wind
 mod furthest; // the furthest of all cells
 pub mod within; // whether a job can have such sums
+mod winds; // the winds of the cases that were found
 mod chosen; // the cases that were found, with their alternatives
 mod engine; // the sums of all cells, and the six extremes that they tell
 mod read; // a sheet, read and reckoned

@@ -109,7 +109,7 @@ fn with_face(
         × Filled b (now (asked .exit)) (now (first .exit)) (now (last .exit)) ⌝ }
 {
     if takes_part(f, w) {
-        let o = found(b, w, f, asked, first, last);
+        let o = found(b, w, f.zone, asked, first, last);
         let p = pressure_of(b, w, factor);
         return with_pressure(sums, f, o, p);
     }
