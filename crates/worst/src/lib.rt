@@ -14,7 +14,8 @@ mod faces; // the faces as numbers
 mod amounts; // a sum that no number of 64 bits holds
 mod speeds; // the speed of a wind at a face
 mod outside; // the outside coefficients, each looked up once
-mod sums; // the faces under a wind, added up
+mod few; // up to 24 faces under a wind, added up
+mod sums; // and all of them
 mod tops; // the best cell so far
 mod cells; // the sums of every internal coefficient under a wind
 mod furthest; // the furthest of all cells
