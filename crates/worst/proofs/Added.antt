@@ -70,6 +70,17 @@ plus-none p =
 pub plus-no-axes : (p : Axes) → plusAxes p noAxes ≡ p
 plus-no-axes p = λ j. record { x = plus-none (p .x) j; y = plus-none (p .y) j; z = plus-none (p .z) j }
 
+none-plus : (p : Sums) → plusSums noSums p ≡ p
+none-plus p =
+    λ j. record {
+      greatest = +ℤ-idl (p .greatest) j;
+      least = +ℤ-idl (p .least) j;
+      weight = +ℤ-idl (p .weight) j;
+    }
+
+pub no-axes-plus : (p : Axes) → plusAxes noAxes p ≡ p
+no-axes-plus p = λ j. record { x = none-plus (p .x) j; y = none-plus (p .y) j; z = none-plus (p .z) j }
+
 -- one face more of the others
 pub plus-face : (b : Building) (w : Wind) (k : Factor) (f : Face) (p q : Axes)
     → plusAxes p (withFace b w k f q) ≡ withFace b w k f (plusAxes p q)

@@ -143,8 +143,11 @@ abbrev pub cell : ℕ → ℕ → Cell
 cell w i = record { wind = w; internal = i }
 
 -- the best cell so far: on one side of one axis
+abbrev pub topWith : ℤ → ℕ → ℕ → Best Cell
+topWith total w i = cond (eqb w 0) none (at total (cell w i))
+
 abbrev pub topOf : Top → Best Cell
-topOf t = cond (eqb (t .wind) 0) none (at (units (t .total)) (cell (t .wind) (t .internal)))
+topOf t = topWith (units (t .total)) (t .wind) (t .internal)
 
 abbrev pub noTop : Top
 noTop = record { total = noPair; wind = 0; internal = 0 }

@@ -17,6 +17,8 @@ mod outside; // the outside coefficients, each looked up once
 mod few; // up to 24 faces under a wind, added up
 mod sums; // and all of them
 mod tops; // the best cell so far
+mod inside; // the least and the greatest internal coefficient
+mod few_tops; // the best cells of up to 24 faces
 mod cells; // the sums of every internal coefficient under a wind
 mod furthest; // the furthest of all cells
 pub mod within; // whether a job can have such sums
