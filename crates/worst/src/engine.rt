@@ -251,14 +251,21 @@ fn own_six(s: Setting, faces: u32, flat: &[i64], parts: &mut [i64], wholes: &mut
 }
 
 // Few faces need less room.
+pub(crate) fn few_six(s: Setting, faces: u32, flat: &[i64]) -> Six
+    requires { ⌜ (faces ≤ 24) × Numbered faces (now flat) × InOrder (carried (jobBy s faces (now flat))) ⌝ }
+    ensures { λ r. ⌜ r ≡ sixExtremes (carried (jobBy s faces (now (flat .entry)))) ⌝ }
+{
+    let mut parts = [1i64; 24];
+    let mut wholes = [1i64; 24];
+    own_six(s, faces, flat, &mut parts, &mut wholes)
+}
+
 pub(crate) fn six_of(s: Setting, faces: u32, flat: &[i64]) -> Six
     requires { ⌜ Numbered faces (now flat) × InOrder (carried (jobBy s faces (now flat))) ⌝ }
     ensures { λ r. ⌜ r ≡ sixExtremes (carried (jobBy s faces (now (flat .entry)))) ⌝ }
 {
     if faces <= 24 {
-        let mut parts = [1i64; 24];
-        let mut wholes = [1i64; 24];
-        return own_six(s, faces, flat, &mut parts, &mut wholes);
+        return few_six(s, faces, flat);
     }
     let mut parts = [1i64; 240];
     let mut wholes = [1i64; 240];

@@ -1,10 +1,9 @@
 // The winds of the six cases that were found, each with the coefficients that zone F has under it.
 ghost use mathlib.Core.Path.{_≡_};
-ghost use Prim.Native.Nat.{_<_};
 ghost use Rattle.building.specs.Places.{F};
 ghost use Rattle.worst.specs.declared.Axis.{Axis};
 ghost use Rattle.worst.specs.declared.Side.{Side};
-ghost use Rattle.worst.specs.Engine.{topAt, windNumbered, caseWind, sixWinds};
+ghost use Rattle.worst.specs.Engine.{topAt, caseWind, sixWinds};
 ghost use Rattle.worst.specs.Small.{Reached};
 ghost use Rattle.worst.specs.Table.{Placed, Filled};
 use crate::outside::Outside;
@@ -29,15 +28,6 @@ pub struct SixWinds {
     pub x: CaseWinds,
     pub y: CaseWinds,
     pub z: CaseWinds,
-}
-
-// The wind of a number, from 1.
-fn wind_of(winds: Winds, number: u32) -> Wind
-    requires { ⌜ (0 < number) × (number < 9) ⌝ }
-    ensures { λ r. ⌜ r ≡ windNumbered winds number ⌝ }
-{
-    let k = (number - 1) as usize;
-    winds.entry[k]
 }
 
 fn case_wind(
@@ -84,12 +74,12 @@ pub(crate) fn six_winds(
         × Filled b (now asked) (now first) (now last) ⌝ }
     ensures { λ r. ⌜ r ≡ sixWinds b winds ends ⌝ }
 {
-    let x_up = wind_of(winds, ends.x.greatest.wind);
-    let x_down = wind_of(winds, ends.x.least.wind);
-    let y_up = wind_of(winds, ends.y.greatest.wind);
-    let y_down = wind_of(winds, ends.y.least.wind);
-    let z_up = wind_of(winds, ends.z.greatest.wind);
-    let z_down = wind_of(winds, ends.z.least.wind);
+    let x_up = winds.entry[(ends.x.greatest.wind - 1) as usize];
+    let x_down = winds.entry[(ends.x.least.wind - 1) as usize];
+    let y_up = winds.entry[(ends.y.greatest.wind - 1) as usize];
+    let y_down = winds.entry[(ends.y.least.wind - 1) as usize];
+    let z_up = winds.entry[(ends.z.greatest.wind - 1) as usize];
+    let z_down = winds.entry[(ends.z.least.wind - 1) as usize];
     let x = case_winds(b, x_up, x_down, asked, first, last);
     let y = case_winds(b, y_up, y_down, asked, first, last);
     let z = case_winds(b, z_up, z_down, asked, first, last);
