@@ -9,42 +9,34 @@ use lib.IntN.{ℤ}
 use mir.Syntax.{w64}
 use mir.Val.{SFits, toZ, ofZ}
 use mir.ValLaws.{toZ-ofZ}
-use Rattle.pair.specs.declared.Pair.{Pair}
-use Rattle.pair.specs.Total.{units, noPair}
+use Rattle.pair.specs.Total.{noPair}
 use Rattle.worst.specs.declared.Side.{Side}
 use Rattle.worst.specs.declared.Side.the-variants.{Greatest, Least}
 use Rattle.worst.specs.declared.Axis.{Axis}
 use Rattle.worst.specs.declared.Axis.the-variants.{X, Y, Z}
-use Rattle.worst.specs.declared.tops.Top.{Top}
 use Rattle.worst.specs.declared.tops.Ends.{Ends}
 use Rattle.worst.specs.Best.{short, none, at, better}
-use Rattle.worst.specs.Engine.{Cell, cell, topOf, noTops, noEnds, topAt}
+use Rattle.worst.specs.Engine.{cell, topWith, topOf, noTops, noEnds, topAt}
+use Rattle.worst.specs.FewTops.{fewTopOf, fewTopAt, noFewEnds}
 use Rattle.worst.specs.Proper.{Proper, ProperTops, ProperEnds}
 
--- the later cell as the code makes it
-abbrev pub made : Pair → ℕ → ℕ → Top
-made p w i = record { total = p; wind = w; internal = i }
+-- of an earlier total, wind and internal coefficient, and a later one
+module _ (s : Side) (u : ℤ) (x k : ℕ) (v : ℤ) (w i : ℕ) where
+  module _ (some : 0 < w) where
+    made-is : topWith v w i ≡ at v (cell w i)
+    made-is = rw (ne-eqb w 0 (omega arith))
 
-module _ (s : Side) (top : Top) (p : Pair) (w i : ℕ) (some : 0 < w) where
-  abbrev v : ℤ
-  v = units p
+    pub kept-first : x ≡ 0 → topWith v w i ≡ better s (topWith u x k) (at v (cell w i))
+    unfolding better
+    kept-first e = made-is ∙ rw (eq-eqb x 0 e)
 
-  made-is : topOf (made p w i) ≡ at v (cell w i)
-  made-is = rw (ne-eqb w 0 (omega arith))
+    pub kept-later : (x ≡ 0 → ⊥) → short s u v ≡ true → topWith v w i ≡ better s (topWith u x k) (at v (cell w i))
+    unfolding better
+    kept-later e h = made-is ∙ rw (ne-eqb x 0 e, h)
 
-  pub kept-first : top .wind ≡ 0 → topOf (made p w i) ≡ better s (topOf top) (at v (cell w i))
+  pub kept-earlier : (x ≡ 0 → ⊥) → short s u v ≡ false → topWith u x k ≡ better s (topWith u x k) (at v (cell w i))
   unfolding better
-  kept-first e = made-is ∙ rw (eq-eqb (top .wind) 0 e)
-
-  pub kept-later : (top .wind ≡ 0 → ⊥) → short s (units (top .total)) v ≡ true
-      → topOf (made p w i) ≡ better s (topOf top) (at v (cell w i))
-  unfolding better
-  kept-later e h = made-is ∙ rw (ne-eqb (top .wind) 0 e, h)
-
-pub kept-earlier : (s : Side) (top : Top) (v : ℤ) (t : Cell) → (top .wind ≡ 0 → ⊥)
-    → short s (units (top .total)) v ≡ false → topOf top ≡ better s (topOf top) (at v t)
-unfolding better
-kept-earlier s top v t e h = rw (ne-eqb (top .wind) 0 e, h)
+  kept-earlier e h = rw (ne-eqb x 0 e, h)
 
 -- a test on what the machine reads back is the test on the numbers
 pub short-read : (s : Side) {x y : ℤ} → SFits w64 x → SFits w64 y
@@ -79,6 +71,14 @@ no-top Y Greatest = refl
 no-top Y Least = refl
 no-top Z Greatest = refl
 no-top Z Least = refl
+
+pub no-few-top : (axis : Axis) (s : Side) → fewTopOf (fewTopAt axis s noFewEnds) ≡ none
+no-few-top X Greatest = refl
+no-few-top X Least = refl
+no-few-top Y Greatest = refl
+no-few-top Y Least = refl
+no-few-top Z Greatest = refl
+no-few-top Z Least = refl
 
 pub no-ends-proper : ProperEnds noEnds
 no-ends-proper =

@@ -18,6 +18,7 @@ pub mod AtHeight  -- the factor at a height, and the speed there
 pub mod Climb  -- the factor within a rising profile
 pub mod Factors  -- the factors of all faces
 pub mod Kept  -- the better of an earlier and a later cell
+pub mod InsideSides  -- the furthest cell of a wind
 pub mod Table  -- the table of coefficients
 pub mod Ranges  -- how large every number can be
 -- ---- from one face to all cells

@@ -3,6 +3,7 @@
 // and at the end the alternatives of the six cases that were found. The faces are numbers that are read where they
 // stand.
 ghost use mathlib.Core.Path.{_≡_};
+ghost use Prim.Native.Nat.{_≤_};
 ghost use Rattle.job.specs.Carried.{carried};
 ghost use Rattle.job.specs.InOrder.{InOrder};
 ghost use Rattle.worst.specs.declared.Axis.{Axis};
@@ -19,8 +20,13 @@ use crate::Stored;
 use crate::cells::none_stored;
 use crate::cells::of_wind;
 use crate::chosen::shown;
+use crate::few::few_added;
+use crate::few_tops::no_few_ends;
+use crate::few_tops::settled_ends;
+use crate::few_tops::with_few_sums;
 use crate::furthest::over_internals;
 use crate::furthest::over_winds;
+use crate::inside::insides_of;
 use crate::speeds::fill;
 use crate::sums::added;
 use crate::tops::Ends;
@@ -102,6 +108,67 @@ fn best_cells(
     ends
 }
 
+// The same of up to 24 faces.
+fn few_best(
+    s: Setting,
+    faces: u32,
+    flat: &[i64],
+    parts: &[i64],
+    wholes: &[i64],
+    asked: &mut [bool; 40],
+    first: &mut [i64; 40],
+    last: &mut [i64; 40],
+) -> Ends
+    requires { ⌜ (faces ≤ 24) × Lent faces (now flat) (now parts) (now wholes)
+        × InOrder (carried (jobBy s faces (now flat)))
+        × FactorsStand (profileOf (jobBy s faces (now flat))) (facesBy faces (now flat)) (now parts) (now wholes)
+        × Filled (s .building) (now asked) (now first) (now last) ⌝ }
+    ensures { λ r. ⌜ ((axis : Axis) (side : Side) → topOf (topAt axis side r)
+        ≡ bestUpTo axis side (storedOf (carried (jobBy s faces (now (flat .entry))))) (s .internals .count)
+        (s .winds .count))
+        × ProperEnds r × Filled (s .building) (now (asked .exit)) (now (first .exit)) (now (last .exit)) ⌝ }
+{
+    let b = s.building;
+    let winds = s.winds;
+    let insides = insides_of(s.internals);
+    let count = winds.count;
+    let to = faces as usize;
+    let mut ends = no_few_ends();
+    let mut w: u32 = 0;
+    while w < count {
+        let wind = winds.entry[w as usize];
+        let few = few_added(b, flat, parts, wholes, 0, to, wind, asked, first, last);
+        w += 1;
+        ends = with_few_sums(ends, few, insides, w);
+    }
+    settled_ends(ends)
+}
+
+// The furthest cells: few faces take less.
+fn best(
+    s: Setting,
+    faces: u32,
+    flat: &[i64],
+    parts: &[i64],
+    wholes: &[i64],
+    asked: &mut [bool; 40],
+    first: &mut [i64; 40],
+    last: &mut [i64; 40],
+) -> Ends
+    requires { ⌜ Lent faces (now flat) (now parts) (now wholes) × InOrder (carried (jobBy s faces (now flat)))
+        × FactorsStand (profileOf (jobBy s faces (now flat))) (facesBy faces (now flat)) (now parts) (now wholes)
+        × Filled (s .building) (now asked) (now first) (now last) ⌝ }
+    ensures { λ r. ⌜ ((axis : Axis) (side : Side) → topOf (topAt axis side r)
+        ≡ bestUpTo axis side (storedOf (carried (jobBy s faces (now (flat .entry))))) (s .internals .count)
+        (s .winds .count))
+        × ProperEnds r × Filled (s .building) (now (asked .exit)) (now (first .exit)) (now (last .exit)) ⌝ }
+{
+    if faces <= 24 {
+        return few_best(s, faces, flat, parts, wholes, asked, first, last);
+    }
+    best_cells(s, faces, flat, parts, wholes, asked, first, last)
+}
+
 // The sums of a job that is in order.
 pub(crate) fn sums_of(s: Setting, faces: u32, flat: &[i64]) -> Stored
     requires { ⌜ Numbered faces (now flat) × InOrder (carried (jobBy s faces (now flat))) ⌝ }
@@ -160,7 +227,7 @@ fn own_six(s: Setting, faces: u32, flat: &[i64], parts: &mut [i64], wholes: &mut
     let mut asked = [false; 40];
     let mut first = [0i64; 40];
     let mut last = [0i64; 40];
-    let ends = best_cells(
+    let ends = best(
         s,
         faces,
         flat,
@@ -184,14 +251,21 @@ fn own_six(s: Setting, faces: u32, flat: &[i64], parts: &mut [i64], wholes: &mut
 }
 
 // Few faces need less room.
+pub(crate) fn few_six(s: Setting, faces: u32, flat: &[i64]) -> Six
+    requires { ⌜ (faces ≤ 24) × Numbered faces (now flat) × InOrder (carried (jobBy s faces (now flat))) ⌝ }
+    ensures { λ r. ⌜ r ≡ sixExtremes (carried (jobBy s faces (now (flat .entry)))) ⌝ }
+{
+    let mut parts = [1i64; 24];
+    let mut wholes = [1i64; 24];
+    own_six(s, faces, flat, &mut parts, &mut wholes)
+}
+
 pub(crate) fn six_of(s: Setting, faces: u32, flat: &[i64]) -> Six
     requires { ⌜ Numbered faces (now flat) × InOrder (carried (jobBy s faces (now flat))) ⌝ }
     ensures { λ r. ⌜ r ≡ sixExtremes (carried (jobBy s faces (now (flat .entry)))) ⌝ }
 {
     if faces <= 24 {
-        let mut parts = [1i64; 24];
-        let mut wholes = [1i64; 24];
-        return own_six(s, faces, flat, &mut parts, &mut wholes);
+        return few_six(s, faces, flat);
     }
     let mut parts = [1i64; 240];
     let mut wholes = [1i64; 240];

@@ -33,8 +33,8 @@ fill-requires c κs =
 abbrev filled : tie.After-last → tie.After-fill
 filled c = c .before .before .before .before .before .before .before
 
-best-cells-requires : tie.Need-best-cells-requires
-best-cells-requires c κs =
+best-requires : tie.Need-best-requires
+best-requires c κs =
     let f = filled c in
     let a = f .before .before .before in
     let lent = a .pre .0 in (
@@ -49,7 +49,7 @@ best-cells-requires c κs =
     )
 
 -- what was found, as the best of the job's own sums
-module _ (c : tie.After-best-cells) where
+module _ (c : tie.After-best) where
   abbrev f : tie.After-fill
   f = filled (c .before)
 
@@ -57,10 +57,10 @@ module _ (c : tie.After-best-cells) where
   a = f .before .before .before
 
   top : (axis : Axis) (s : Side)
-      → IsTop axis s (storedOf (carried (job a))) (job a) (ready a) (topAt axis s (c .best-cells .result))
+      → IsTop axis s (storedOf (carried (job a))) (job a) (ready a) (topAt axis s (c .best .result))
   top axis s =
-      is-top axis s (storedOf (carried (job a))) (job a) (ready a) (topAt axis s (c .best-cells .result))
-      (c .best-cells .ensures .0 axis s)
+      is-top axis s (storedOf (carried (job a))) (job a) (ready a) (topAt axis s (c .best .result))
+      (c .best .ensures .0 axis s)
 
 shown-requires : tie.Need-shown-requires
 shown-requires c κs =
@@ -75,7 +75,7 @@ shown-requires c κs =
       λ i t. subst Fraction (sym (f d .fill .ensures i t)) (ready (a d) .factors i t),
       f d .fill .ensures,
       λ axis s. top d axis s .onJob,
-      d .best-cells .ensures .2,
+      d .best .ensures .2,
     )
 
 returns : tie.Need-returns
@@ -84,14 +84,14 @@ returns c =
     let j = job (a d) in
     let o = a d .pre .2 in
     c .shown .ensures
-    ∙ six-are j (last-reading j o) (given-sound (carried j) o) (storedOf (carried j)) (d .best-cells .result)
-    (d .best-cells .ensures .1) (λ axis s. top d axis s .best)
+    ∙ six-are j (last-reading j o) (given-sound (carried j) o) (storedOf (carried j)) (d .best .result)
+    (d .best .ensures .1) (λ axis s. top d axis s .best)
     ∙ own-six j o
 
 pub own-six-spec : {M : Type 1} → statement M
 own-six-spec =
     tie.close
-    (tie.spec fill-requires best-cells-requires shown-requires (λ c. omega (
+    (tie.spec fill-requires best-requires shown-requires (λ c. omega (
       arith,
       f (c .before .before .before .before
           .before .before) .fill .kept,

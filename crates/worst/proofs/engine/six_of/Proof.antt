@@ -7,16 +7,6 @@ use Rattle.worst.proofs.engine.six_of.Tie as tie
 
 own-six-requires : tie.Need-own-six-requires
 own-six-requires c κs =
-    let t = c .before .before in
-    let a = t .before in
-    let few = t .if1 .taken in (
-      record { numbered = a .pre .0; parts-room = omega arith; wholes-room = omega arith },
-      (refl, refl),
-      a .pre .1,
-    )
-
-own-six-requires-2 : tie.Need-own-six-requires-2
-own-six-requires-2 c κs =
     let a = c .before .before .before in
     let few = a .pre .0 .few in (
       record { numbered = a .pre .0; parts-room = omega arith; wholes-room = omega arith },
@@ -27,5 +17,5 @@ own-six-requires-2 c κs =
 pub six-of-spec : {M : Type 1} → statement M
 six-of-spec =
     tie.close
-    (tie.spec (λ c. search needs) (λ c. search needs) own-six-requires (λ c. c .before .before .own-six .ensures)
-    (λ c. search needs) (λ c. search needs) own-six-requires-2 (λ c. c .before .before .own-six2 .ensures))
+    (tie.spec (λ c κs. let a = c .before in (c .if1 .taken, a .pre .0, a .pre .1)) (λ c. c .few-six .ensures)
+    (λ c. search needs) (λ c. search needs) own-six-requires (λ c. c .before .before .own-six .ensures))

@@ -69,8 +69,9 @@ module _ (c : tie.After-flat3) where
   room : 6 * r .read-into .result .faces ≤ 144
   room = omega (arith, few .if2 .left)
 
-six-of-requires : tie.Need-six-of-requires
-six-of-requires c κs = (
+few-six-requires : tie.Need-few-six-requires
+few-six-requires c κs = (
+  omega (arith, room c),
   record { few = st c .few; stand = omega (arith, room c, r c .read-into .kept) },
   subst InOrder (sym (st c .same (room c))) (st c .in-order),
 )
@@ -86,11 +87,11 @@ returns-3 c =
     ∙ ap₂ told
     (returned w64 (h .setting .year) (t .struct-told .given .0 .1) .same
     ∙ ap (λ (k : Head). k .setting .year) (st f .head))
-    (s .six-of .ensures ∙ ap sixExtremes (st f .same (room f)))
+    (s .few-six .ensures ∙ ap sixExtremes (st f .same (room f)))
     ∙ ap reckoned (sym (st f .reads))
 
 pub read-six-spec : {M : Type 1} → statement M
 read-six-spec =
     tie.close
     (tie.spec (λ c. search needs) (λ c κs. search needs) (λ c κs. search needs) returns (λ c κs. search needs)
-    (λ c. c .read-long .ensures) (λ c. search needs) six-of-requires (λ c κs. search needs) returns-3)
+    (λ c. c .read-long .ensures) (λ c. search needs) few-six-requires (λ c κs. search needs) returns-3)
