@@ -19,8 +19,7 @@ use Rattle.worst.specs.declared.Side.{Side}
 use Rattle.worst.specs.declared.Side.the-variants.{Greatest, Least}
 use Rattle.worst.specs.declared.Axis.{Axis}
 use Rattle.worst.specs.declared.Axis.the-variants.{X, Y, Z}
-use Rattle.worst.specs.Sums.{Sums}
-use Rattle.worst.specs.Sums.{Axes}
+use Rattle.worst.specs.Sums.{Sums, Axes, noSums, noAxes, plusSums, plusAxes}
 use Rattle.worst.specs.declared.speeds.Factor.{Factor}
 use Rattle.worst.specs.declared.outside.Outside.{Outside}
 use Rattle.worst.specs.Quick.{sum}
@@ -57,6 +56,39 @@ module _ (b : Building) (w : Wind) (k : Factor) (f : Face) (p : Axes) where
             least = nothing Least (q .least) j;
             weight = sym (+ℤ-idr (q .weight)) j;
           }
+
+-- ---- sums of some faces and of others
+
+plus-none : (p : Sums) → plusSums p noSums ≡ p
+plus-none p =
+    λ j. record {
+      greatest = +ℤ-idr (p .greatest) j;
+      least = +ℤ-idr (p .least) j;
+      weight = +ℤ-idr (p .weight) j;
+    }
+
+pub plus-no-axes : (p : Axes) → plusAxes p noAxes ≡ p
+plus-no-axes p = λ j. record { x = plus-none (p .x) j; y = plus-none (p .y) j; z = plus-none (p .z) j }
+
+-- one face more of the others
+pub plus-face : (b : Building) (w : Wind) (k : Factor) (f : Face) (p q : Axes)
+    → plusAxes p (withFace b w k f q) ≡ withFace b w k f (plusAxes p q)
+plus-face b w k f p q =
+    λ j. record {
+      x = on (weight X b w k f) (p .x) (q .x) j;
+      y = on (weight Y b w k f) (p .y) (q .y) j;
+      z = on (weight Z b w k f) (p .z) (q .z) j;
+    }
+  where
+    on : (z : ℤ) (u v : Sums) → plusSums u (withWeight (outsideAt b (w .direction) (f .zone)) z v)
+        ≡ withWeight (outsideAt b (w .direction) (f .zone)) z (plusSums u v)
+    on z u v =
+        let o = outsideAt b (w .direction) (f .zone) in
+        λ j. record {
+          greatest = sym (+ℤ-assoc (u .greatest) (v .greatest) (reach Greatest o z)) j;
+          least = sym (+ℤ-assoc (u .least) (v .least) (reach Least o z)) j;
+          weight = sym (+ℤ-assoc (u .weight) (v .weight) z) j;
+        }
 
 -- ---- a zone other than F has one coefficient, and so its face the first alternative
 

@@ -54,6 +54,11 @@ lent-faces fs l h =
     let e : i ≡ 0 + i = omega arith in
     firstOf-getD noFace n i (fs .entry) below ∙ sym (h i below) ∙ ap (faceIn l) e))
 
+-- the first n of more
+pub faces-fewer : (n m : ℕ) (l : List ℤ) → n ≤ m → facesIn n l ≡ firstOf noFace n (facesIn m l)
+faces-fewer n m l h =
+    lent-faces (record { count = n; entry = facesIn m l }) l (λ i t. sym (face-at m l i (omega arith)))
+
 pub lent-carried : (j : Job) (l : List ℤ) → Laid (j .faces) l
     → carried (jobBy (settingIn j) (j .faces .count) l) ≡ carried j
 unfolding carried

@@ -23,15 +23,15 @@ use Rattle.worst.specs.Amounts.{amountIn, AmountSmall, AmountFits}
 abbrev pub amount : ℤ → ℤ → Amount
 amount n u = record { newtons = n; units = u }
 
--- ---- one force more: 200,000,000 N move over, up, or down, or none do
+-- ---- one part more: 220,000,000 N move over, up, or down, or none do
 
 abbrev pub moved : ℤ
-moved = pos 200000000
+moved = pos 220000000
 
 abbrev pub movedUnits : ℤ
-movedUnits = pos 4000000000000000000
+movedUnits = pos 4400000000000000000
 
--- these newtons and units are the amount and the force, and one face larger at most
+-- these newtons and units are the amount and the part, and one larger at most
 abbrev pub Grown : Amount → ℤ → ℤ → ℤ → Type 0
 Grown a f n u =
     (amountIn (amount n u) ≡ amountIn a +ℤ f) × ((k : ℕ) → AmountSmall k a → AmountSmall (k + 1) (amount n u))
@@ -89,9 +89,9 @@ module _ (a : Amount) (f : ℤ) where
         add-law (a .newtons *ℤ pos newton +ℤ a .units) f,
       ))
 
-  -- a force is so small that what remains is below what moved
-  module _ (h : natAbs f ≤ 180000000000000000) where
-    small : natAbs moved ≤ 200000000
+  -- a part is so small that what remains is below what moved
+  module _ (h : natAbs f ≤ 4320000000000000000) where
+    small : natAbs moved ≤ 220000000
     small = omega arith
 
     pub grown-up : movedUnits <ℤ sum → Grown a f (a .newtons +ℤ moved) (sum -ℤ movedUnits)
@@ -109,7 +109,7 @@ module _ (a : Amount) (f : ℤ) where
           },
     )
 
-    pub grown-down : sum <ℤ negsuc 3999999999999999999
+    pub grown-down : sum <ℤ negsuc 4399999999999999999
         → Grown a f (a .newtons -ℤ moved) (sum +ℤ movedUnits)
     grown-down t = (
       down-same,
@@ -125,7 +125,7 @@ module _ (a : Amount) (f : ℤ) where
           },
     )
 
-  pub grown-stay : sum ≤ℤ movedUnits → negsuc 3999999999999999999 ≤ℤ sum → Grown a f (a .newtons) sum
+  pub grown-stay : sum ≤ℤ movedUnits → negsuc 4399999999999999999 ≤ℤ sum → Grown a f (a .newtons) sum
   grown-stay t v = (
     stay-same,
     λ k s.

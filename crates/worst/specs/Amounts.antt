@@ -22,8 +22,8 @@ axesIn a = record { x = sumsIn (a .x); y = sumsIn (a .y); z = sumsIn (a .z) }
 -- ---- how large they are, after n faces
 
 pub record AmountSmall (n : ℕ) (a : Amount) : Type 0 where
-  pub newtons : natAbs (a .newtons) ≤ n * 200000000
-  pub units : natAbs (a .units) ≤ 4000000000000000000
+  pub newtons : natAbs (a .newtons) ≤ n * 220000000
+  pub units : natAbs (a .units) ≤ 4400000000000000000
 
 pub record AxisSumsSmall (n : ℕ) (a : AxisSums) : Type 0 where
   pub greatest : AmountSmall n (a .greatest)

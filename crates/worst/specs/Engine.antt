@@ -8,6 +8,7 @@ use lib.ListN.{length, getD}
 use lib.Dec.{eqb}
 use Rattle.whole.specs.Lists.{firstOf, numbers}
 use Rattle.building.specs.declared.Building.{Building}
+use Rattle.building.specs.Places.{F}
 use Rattle.job.specs.declared.Job.{Job}
 use Rattle.job.specs.declared.Winds.{Winds}
 use Rattle.job.specs.declared.Internals.{Internals}
@@ -31,6 +32,9 @@ use Rattle.worst.specs.declared.outside.Outside.{Outside}
 use Rattle.worst.specs.declared.tops.Top.{Top}
 use Rattle.worst.specs.declared.tops.Tops.{Tops}
 use Rattle.worst.specs.declared.tops.Ends.{Ends}
+use Rattle.worst.specs.declared.winds.CaseWind.{CaseWind}
+use Rattle.worst.specs.declared.winds.CaseWinds.{CaseWinds}
+use Rattle.worst.specs.declared.winds.SixWinds.{SixWinds}
 use Rattle.pair.specs.Total.{pairOf, units, noPair}
 use Rattle.worst.specs.Sums.{Sums, Axes}
 use Rattle.worst.specs.Best.{short, Best, none, at}
@@ -205,6 +209,21 @@ fourBest axis s four internals w =
 abbrev pub bestUpTo : Axis → Side → Stored → ℕ → ℕ → Best Cell
 bestUpTo axis s t internals n = over s (windBest axis s t internals) (numbers n 1)
 
+-- ---- the winds of the cells that were found, each with the coefficients of zone F under it
+
+abbrev pub caseWind : Building → Wind → CaseWind
+caseWind b w = record { wind = w; outside = outsideAt b (w .direction) F }
+
+abbrev pub caseWinds : Building → Winds → Tops → CaseWinds
+caseWinds b ws t =
+    record {
+      greatest = caseWind b (windNumbered ws (t .greatest .wind));
+      least = caseWind b (windNumbered ws (t .least .wind));
+    }
+
+abbrev pub sixWinds : Building → Winds → Ends → SixWinds
+sixWinds b ws e = record { x = caseWinds b ws (e .x); y = caseWinds b ws (e .y); z = caseWinds b ws (e .z) }
+
 -- ---- the cell that was found, as it is shown
 
 abbrev pub alternativesOf : Axis → Side → Building → List Step → Wind → List Face → List ℕ
@@ -218,6 +237,14 @@ extremeWith t faces chosen =
 abbrev pub withAlternatives : Tops → ℕ → List ℕ → List ℕ → Extremes
 withAlternatives t faces high low =
     record { greatest = extremeWith (t .greatest) faces high; least = extremeWith (t .least) faces low }
+
+abbrev pub sixWith : Ends → ℕ → (xHigh xLow yHigh yLow zHigh zLow : List ℕ) → Six
+sixWith e faces xHigh xLow yHigh yLow zHigh zLow =
+    record {
+      x = withAlternatives (e .x) faces xHigh xLow;
+      y = withAlternatives (e .y) faces yHigh yLow;
+      z = withAlternatives (e .z) faces zHigh zLow;
+    }
 
 -- those of a job's faces, in the case of a top
 abbrev pub alternativesAt : Axis → Side → Job → Top → List ℕ

@@ -8,6 +8,7 @@ use lib.ListN.{getD}
 use Rattle.building.specs.declared.Building.{Building}
 use Rattle.building.specs.Places.{F}
 use Rattle.job.specs.declared.Job.{Job}
+use Rattle.job.specs.declared.Winds.{Winds}
 use Rattle.job.specs.declared.Internals.{Internals}
 use Rattle.job.specs.declared.Faces.{Faces}
 use Rattle.entry.specs.declared.Wind.{Wind}
@@ -16,6 +17,7 @@ use Rattle.job.specs.Carried.{noWind, noFace}
 use Rattle.worst.specs.declared.outside.Outside.{Outside}
 use Rattle.worst.specs.declared.tops.Top.{Top}
 use Rattle.worst.specs.Forces.{acts, factorOf}
+use Rattle.worst.specs.Engine.{windNumbered}
 use Rattle.worst.specs.Factors.{Fraction, Profiled, profileOf}
 use Rattle.worst.specs.Table.{outsideAt, Placed}
 
@@ -73,3 +75,9 @@ pub record Ready (j : Job) : Type 0 where
 pub record OnJob (j : Job) (t : Top) : Type 0 where
   pub wind : 0 < t .wind
   pub wind≤ : t .wind ≤ j .winds .count
+
+-- the wind of a cell has a number of one that can stand, and zone F a place under it
+pub record Reached (ws : Winds) (t : Top) : Type 0 where
+  pub some : 0 < t .wind
+  pub few : t .wind < 9
+  pub placed : Placed (windNumbered ws (t .wind) .direction) F

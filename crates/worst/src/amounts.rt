@@ -1,5 +1,6 @@
 // A sum over up to 240 faces, which no number of 64 bits holds: newtons, and beside them units of either sign. Units
-// move over to the newtons only where they come to 200,000,000 N, so that one force more costs two comparisons.
+// move over to the newtons only where they come to 220,000,000 N, so that the sum of 24 forces more costs two
+// comparisons.
 ghost use mathlib.Core.Path.{_≡_};
 ghost use Prim.Native.Nat.{ℕ, _+_, _≤_, _<_};
 ghost use lib.IntN.{natAbs, _+ℤ_, _-ℤ_, _*ℤ_};
@@ -13,17 +14,17 @@ pub struct Amount {
 }
 
 // So many newtons move over at a time, and so many units are they.
-const MOVED: i64 = 200_000_000;
+const MOVED: i64 = 220_000_000;
 
-const MOVED_UNITS: i64 = 4_000_000_000_000_000_000;
+const MOVED_UNITS: i64 = 4_400_000_000_000_000_000;
 
-// One force more.
-pub(crate) fn plus(a: Amount, force: i64) -> Amount
-    requires { ⌜ AmountSmall 239 a × (natAbs force ≤ 180000000000000000) ⌝ }
-    ensures { λ r. ⌜ (amountIn r ≡ amountIn a +ℤ force)
+// One part more: the sum of up to 24 forces.
+pub(crate) fn plus(a: Amount, part: i64) -> Amount
+    requires { ⌜ AmountSmall 239 a × (natAbs part ≤ 4320000000000000000) ⌝ }
+    ensures { λ r. ⌜ (amountIn r ≡ amountIn a +ℤ part)
         × ((n : ℕ) → AmountSmall n a → AmountSmall (n + 1) r) ⌝ }
 {
-    let units = a.units + force;
+    let units = a.units + part;
     if units > MOVED_UNITS {
         return Amount {
             newtons: a.newtons + MOVED,

@@ -1,13 +1,17 @@
-// The six cases that were found, with their alternatives: under its wind each face goes as far as it can.
+// The six cases that were found, with their alternatives: under its wind each face goes as far as it can. Zone F alone
+// has two to choose from.
 ghost use mathlib.Core.Path.{_≡_};
-ghost use Prim.Native.Nat.{_<_};
+ghost use Prim.Native.Nat.{ℕ, _≤_, _<_};
+ghost use lib.ListN.{replicate};
+ghost use Rattle.building.specs.Places.{F};
+ghost use Rattle.entry.specs.Flat.{faceIn};
 ghost use Rattle.worst.specs.declared.Axis.{Axis};
 ghost use Rattle.worst.specs.declared.Side.{Side};
 ghost use Rattle.worst.specs.Forces.{area};
-ghost use Rattle.worst.specs.Engine.{pick, pickOf, endOf, topAt, windNumbered, withAlternatives, extremesOf};
-ghost use Rattle.worst.specs.Engine.{sixOf};
+ghost use Rattle.worst.specs.Shown.{padded};
+ghost use Rattle.worst.specs.Engine.{pick, pickOf, topAt, extremeWith, sixWith, caseWind, sixWinds, sixOf};
 ghost use Rattle.worst.specs.Small.{OutsideSmall, Weight, Met, Ready, OnJob};
-ghost use Rattle.worst.specs.Lent.{facesBy, jobBy, Lent};
+ghost use Rattle.worst.specs.Lent.{facesBy, jobBy, Numbered, Lent};
 ghost use Rattle.worst.specs.Table.{Filled};
 ghost use Rattle.worst.specs.Factors.{profileOf, Fraction, FactorsStand, Fractions};
 use crate::Axis;
@@ -16,20 +20,21 @@ use crate::Extremes;
 use crate::Side;
 use crate::Six;
 use crate::faces::face_in;
+use crate::faces::zone_in;
 use crate::outside::Outside;
-use crate::outside::found;
 use crate::outside::takes_part;
 use crate::speeds::Factor;
 use crate::speeds::factor_in;
 use crate::sums::pressure_of;
 use crate::tops::Ends;
-use crate::tops::Tops;
+use crate::tops::Top;
 use crate::tops::falls_short;
+use crate::winds::CaseWind;
+use crate::winds::SixWinds;
+use crate::winds::six_winds;
 use building::Building;
 use entry::Face;
-use entry::Wind;
 use job::Setting;
-use job::Winds;
 
 fn area_on(axis: Axis, f: Face) -> i64
     ensures { λ r. ⌜ r ≡ area axis f ⌝ }
@@ -54,127 +59,148 @@ fn picked(side: Side, o: Outside, weight: i64) -> u8
     1
 }
 
-// That of a face in the case of an axis and a side, under the wind of that case.
-fn one_of_two(
-    axis: Axis,
-    side: Side,
-    b: Building,
-    w: Wind,
-    factor: Factor,
-    f: Face,
-    asked: &mut [bool; 40],
-    first: &mut [i64; 40],
-    last: &mut [i64; 40],
-) -> u8
-    requires { ⌜ Met b w f × Fraction factor × Filled b (now asked) (now first) (now last) ⌝ }
-    ensures { λ r. ⌜ (r ≡ pickOf side axis b w factor f)
-        × Filled b (now (asked .exit)) (now (first .exit)) (now (last .exit)) ⌝ }
+// That of a face of zone F in the case of an axis and a side, under the wind of that case.
+fn one_of_two(axis: Axis, side: Side, b: Building, under: CaseWind, factor: Factor, f: Face) -> u8
+    requires { ⌜ Met b (under .wind) f × Fraction factor × (f .zone ≡ F) × (under ≡ caseWind b (under .wind)) ⌝ }
+    ensures { λ r. ⌜ r ≡ pickOf side axis b (under .wind) factor f ⌝ }
 {
+    let w = under.wind;
     if takes_part(f, w) {
-        let o = found(b, w, f, asked, first, last);
-        if o.first == o.last {
-            return 1;
-        }
         let p = pressure_of(b, w, factor);
-        return picked(side, o, p * area_on(axis, f));
+        return picked(side, under.outside, p * area_on(axis, f));
     }
     1
 }
 
-// A face's alternative in that case: zone F alone has two.
-fn alternative(
-    axis: Axis,
-    side: Side,
-    b: Building,
-    w: Wind,
-    factor: Factor,
-    f: Face,
-    asked: &mut [bool; 40],
-    first: &mut [i64; 40],
-    last: &mut [i64; 40],
-) -> u8
-    requires { ⌜ Met b w f × Fraction factor × Filled b (now asked) (now first) (now last) ⌝ }
-    ensures { λ r. ⌜ (r ≡ pickOf side axis b w factor f)
-        × Filled b (now (asked .exit)) (now (first .exit)) (now (last .exit)) ⌝ }
+// A case with its alternatives, and all six.
+fn extreme(top: Top, faces: u32, alternative: [u8; 240]) -> Extreme
+    ensures { λ r. ⌜ r ≡ extremeWith top faces alternative ⌝ }
 {
-    if f.zone != b'F' {
-        return 1;
+    let total = top.total;
+    Extreme {
+        total,
+        wind: top.wind,
+        internal: top.internal,
+        faces,
+        alternative,
     }
-    one_of_two(axis, side, b, w, factor, f, asked, first, last)
 }
 
-// The wind of a number, from 1.
-fn wind_of(winds: Winds, number: u32) -> Wind
-    requires { ⌜ (0 < number) × (number < 9) ⌝ }
-    ensures { λ r. ⌜ r ≡ windNumbered winds number ⌝ }
+fn six_cases(
+    ends: Ends,
+    faces: u32,
+    x_high: [u8; 240],
+    x_low: [u8; 240],
+    y_high: [u8; 240],
+    y_low: [u8; 240],
+    z_high: [u8; 240],
+    z_low: [u8; 240],
+) -> Six
+    ensures { λ r. ⌜ r ≡ sixWith ends faces «x_high» «x_low» «y_high» «y_low» «z_high» «z_low» ⌝ }
 {
-    let k = (number - 1) as usize;
-    winds.entry[k]
+    let x_most = extreme(ends.x.greatest, faces, x_high);
+    let x_least = extreme(ends.x.least, faces, x_low);
+    let y_most = extreme(ends.y.greatest, faces, y_high);
+    let y_least = extreme(ends.y.least, faces, y_low);
+    let z_most = extreme(ends.z.greatest, faces, z_high);
+    let z_least = extreme(ends.z.least, faces, z_low);
+    let x = Extremes {
+        greatest: x_most,
+        least: x_least,
+    };
+    let y = Extremes {
+        greatest: y_most,
+        least: y_least,
+    };
+    let z = Extremes {
+        greatest: z_most,
+        least: z_least,
+    };
+    Six { x, y, z }
 }
 
-// The two cases of an axis, with the alternatives of each.
-fn extremes(tops: Tops, faces: u32, high: [u8; 240], low: [u8; 240]) -> Extremes
-    ensures { λ r. ⌜ r ≡ withAlternatives tops faces high low ⌝ }
+// The first alternative for so many faces.
+fn firsts(count: usize) -> [u8; 240]
+    requires { ⌜ count ≤ 240 ⌝ }
+    ensures { λ r. ⌜ r ≡ padded 240 (replicate count 1) ⌝ }
 {
-    let most = tops.greatest.total;
-    let fewest = tops.least.total;
-    let greatest = Extreme {
-        total: most,
-        wind: tops.greatest.wind,
-        internal: tops.greatest.internal,
-        faces,
-        alternative: high,
-    };
-    let least = Extreme {
-        total: fewest,
-        wind: tops.least.wind,
-        internal: tops.least.internal,
-        faces,
-        alternative: low,
-    };
-    Extremes { greatest, least }
+    let mut all = [0u8; 240];
+    let mut i = 0;
+    while i < count {
+        all[i] = 1;
+        i += 1;
+    }
+    all
 }
 
-// The two cases of one axis, in one pass over the faces.
-fn extremes_on(
-    axis: Axis,
+// How many faces stand before the first of zone F: all, where there is none.
+fn before_f(faces: u32, flat: &[i64]) -> usize
+    requires { ⌜ Numbered faces (now flat) ⌝ }
+    ensures { λ r. ⌜ (r ≤ faces) × ((k : ℕ) → k < r → faceIn (now (flat .entry)) k .zone ≡ F → ⊥)
+        × (r < faces → faceIn (now (flat .entry)) r .zone ≡ F) ⌝ }
+{
+    let count = faces as usize;
+    let mut i = 0;
+    while i < count {
+        if zone_in(flat, i) == b'F' {
+            return i;
+        }
+        i += 1;
+    }
+    i
+}
+
+// All six in one pass over the faces.
+fn all_chosen(
     s: Setting,
     faces: u32,
     flat: &[i64],
-    tops: Tops,
+    ends: Ends,
+    under: SixWinds,
     parts: &[i64],
     wholes: &[i64],
-    asked: &mut [bool; 40],
-    first: &mut [i64; 40],
-    last: &mut [i64; 40],
-) -> Extremes
+) -> Six
     requires { ⌜ Lent faces (now flat) (now parts) (now wholes) × Ready (jobBy s faces (now flat))
         × Fractions (facesBy faces (now flat)) (now parts) (now wholes)
         × FactorsStand (profileOf (jobBy s faces (now flat))) (facesBy faces (now flat)) (now parts) (now wholes)
-        × ((side : Side) → OnJob (jobBy s faces (now flat)) (endOf side tops))
-        × Filled (s .building) (now asked) (now first) (now last) ⌝ }
-    ensures { λ r. ⌜ (r ≡ extremesOf axis (jobBy s faces (now (flat .entry))) tops)
-        × Filled (s .building) (now (asked .exit)) (now (first .exit)) (now (last .exit)) ⌝ }
+        × ((axis : Axis) (side : Side) → OnJob (jobBy s faces (now flat)) (topAt axis side ends))
+        × (under ≡ sixWinds (s .building) (s .winds) ends) ⌝ }
+    ensures { λ r. ⌜ r ≡ sixOf (jobBy s faces (now (flat .entry))) ends ⌝ }
 {
     let b = s.building;
-    let winds = s.winds;
     let count = faces as usize;
-    let up = wind_of(winds, tops.greatest.wind);
-    let down = wind_of(winds, tops.least.wind);
-    let mut high = [0u8; 240];
-    let mut low = [0u8; 240];
+    let mut x_high = [0u8; 240];
+    let mut x_low = [0u8; 240];
+    let mut y_high = [0u8; 240];
+    let mut y_low = [0u8; 240];
+    let mut z_high = [0u8; 240];
+    let mut z_low = [0u8; 240];
     let mut i = 0;
     while i < count {
+        if zone_in(flat, i) != b'F' {
+            x_high[i] = 1;
+            x_low[i] = 1;
+            y_high[i] = 1;
+            y_low[i] = 1;
+            z_high[i] = 1;
+            z_low[i] = 1;
+            i += 1;
+            continue;
+        }
         let f = face_in(flat, i);
         let k = factor_in(parts, wholes, i);
-        high[i] = alternative(axis, Side::Greatest, b, up, k, f, asked, first, last);
-        low[i] = alternative(axis, Side::Least, b, down, k, f, asked, first, last);
+        x_high[i] = one_of_two(Axis::X, Side::Greatest, b, under.x.greatest, k, f);
+        x_low[i] = one_of_two(Axis::X, Side::Least, b, under.x.least, k, f);
+        y_high[i] = one_of_two(Axis::Y, Side::Greatest, b, under.y.greatest, k, f);
+        y_low[i] = one_of_two(Axis::Y, Side::Least, b, under.y.least, k, f);
+        z_high[i] = one_of_two(Axis::Z, Side::Greatest, b, under.z.greatest, k, f);
+        z_low[i] = one_of_two(Axis::Z, Side::Least, b, under.z.least, k, f);
         i += 1;
     }
-    extremes(tops, faces, high, low)
+    six_cases(ends, faces, x_high, x_low, y_high, y_low, z_high, z_low)
 }
 
-// All six.
+// The six cases: without a face of zone F nothing is chosen.
 pub(crate) fn shown(
     s: Setting,
     faces: u32,
@@ -193,41 +219,12 @@ pub(crate) fn shown(
         × Filled (s .building) (now asked) (now first) (now last) ⌝ }
     ensures { λ r. ⌜ r ≡ sixOf (jobBy s faces (now (flat .entry))) ends ⌝ }
 {
-    let x = extremes_on(
-        Axis::X,
-        s,
-        faces,
-        flat,
-        ends.x,
-        parts,
-        wholes,
-        asked,
-        first,
-        last,
-    );
-    let y = extremes_on(
-        Axis::Y,
-        s,
-        faces,
-        flat,
-        ends.y,
-        parts,
-        wholes,
-        asked,
-        first,
-        last,
-    );
-    let z = extremes_on(
-        Axis::Z,
-        s,
-        faces,
-        flat,
-        ends.z,
-        parts,
-        wholes,
-        asked,
-        first,
-        last,
-    );
-    Six { x, y, z }
+    let count = faces as usize;
+    let before = before_f(faces, flat);
+    if before == count {
+        let all = firsts(count);
+        return six_cases(ends, faces, all, all, all, all, all, all);
+    }
+    let under = six_winds(s.building, s.winds, ends, asked, first, last);
+    all_chosen(s, faces, flat, ends, under, parts, wholes)
 }

@@ -8,7 +8,16 @@ ghost use Rattle.job.specs.Carried.{noFace};
 use entry::Face;
 use job::Faces;
 
-// Face i, from 0.
+// The zone of face i, from 0.
+pub(crate) fn zone_in(flat: &[i64], i: usize) -> u8
+    requires { ⌜ 6 * i + 5 < length (now flat) ⌝ }
+    ensures { λ r. ⌜ r ≡ faceIn (now (flat .entry)) i .zone ⌝ }
+{
+    let zone = flat[6 * i];
+    (whole::magnitude(zone) % 256) as u8
+}
+
+// The whole face.
 pub(crate) fn face_in(flat: &[i64], i: usize) -> Face
     requires { ⌜ 6 * i + 5 < length (now flat) ⌝ }
     ensures { λ r. ⌜ r ≡ faceIn (now (flat .entry)) i ⌝ }

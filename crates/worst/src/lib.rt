@@ -14,11 +14,13 @@ mod faces; // the faces as numbers
 mod amounts; // a sum that no number of 64 bits holds
 mod speeds; // the speed of a wind at a face
 mod outside; // the outside coefficients, each looked up once
-mod sums; // the faces under a wind, added up
+mod few; // up to 24 faces under a wind, added up
+mod sums; // and all of them
 mod tops; // the best cell so far
 mod cells; // the sums of every internal coefficient under a wind
 mod furthest; // the furthest of all cells
 pub mod within; // whether a job can have such sums
+mod winds; // the winds of the cases that were found
 mod chosen; // the cases that were found, with their alternatives
 mod engine; // the sums of all cells, and the six extremes that they tell
 mod read; // a sheet, read and reckoned

@@ -31,12 +31,12 @@ pub(crate) fn takes_part(f: Face, w: Wind) -> bool
 }
 
 // The zones A to H under direction 0, then under 45, and so on to 180.
-fn place_of(w: Wind, f: Face) -> usize
-    requires { ⌜ Placed (w .direction) (f .zone) ⌝ }
-    ensures { λ r. ⌜ (r ≡ placeOf (w .direction) (f .zone)) × (r < places) ⌝ }
+fn place_of(w: Wind, zone: u8) -> usize
+    requires { ⌜ Placed (w .direction) zone ⌝ }
+    ensures { λ r. ⌜ (r ≡ placeOf (w .direction) zone) × (r < places) ⌝ }
 {
     let turn = (whole::magnitude(w.direction) / 45) as usize;
-    turn * 8 + ((f.zone - 65) as usize)
+    turn * 8 + ((zone - 65) as usize)
 }
 
 fn of_pair(first: i32, last: i32) -> Outside
@@ -58,14 +58,14 @@ fn of_values(values: Values) -> Outside
 }
 
 // The year does not change what a building in order has: each is asked for by the last year's reading.
-fn looked_up(b: Building, w: Wind, f: Face) -> Outside
-    ensures { λ r. ⌜ r ≡ outsideAt b (w .direction) (f .zone) ⌝ }
+fn looked_up(b: Building, w: Wind, zone: u8) -> Outside
+    ensures { λ r. ⌜ r ≡ outsideAt b (w .direction) zone ⌝ }
 {
     let d = Dated {
         year: LAST_YEAR,
         building: b,
     };
-    let answer = book::outside(d, w.direction, f.zone);
+    let answer = book::outside(d, w.direction, zone);
     match answer {
         Answer::Answered(c) => {
             let values = c.values;
@@ -75,26 +75,26 @@ fn looked_up(b: Building, w: Wind, f: Face) -> Outside
     }
 }
 
-// The coefficients of a face under a wind, which stand in the table from then on.
+// The coefficients of a zone under a wind, which stand in the table from then on.
 pub(crate) fn found(
     b: Building,
     w: Wind,
-    f: Face,
+    zone: u8,
     asked: &mut [bool; 40],
     first: &mut [i64; 40],
     last: &mut [i64; 40],
 ) -> Outside
-    requires { ⌜ Placed (w .direction) (f .zone) × Filled b (now asked) (now first) (now last) ⌝ }
-    ensures { λ r. ⌜ (r ≡ outsideAt b (w .direction) (f .zone))
+    requires { ⌜ Placed (w .direction) zone × Filled b (now asked) (now first) (now last) ⌝ }
+    ensures { λ r. ⌜ (r ≡ outsideAt b (w .direction) zone)
         × Filled b (now (asked .exit)) (now (first .exit)) (now (last .exit)) ⌝ }
 {
-    let k = place_of(w, f);
+    let k = place_of(w, zone);
     if asked[k] {
         let v = first[k];
         let u = last[k];
         return Outside { first: v, last: u };
     }
-    let o = looked_up(b, w, f);
+    let o = looked_up(b, w, zone);
     let v = o.first;
     let u = o.last;
     asked[k] = true;

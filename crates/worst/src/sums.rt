@@ -1,36 +1,29 @@
-// The faces under one wind, added up. A face's weight on an axis is its pressure number × its projected area. An
-// internal coefficient is one for all faces: it changes no choice of alternatives, and meets the sum of the weights.
+// The faces under one wind, added up: those of up to 24 faces at a time, whose sums move over into amounts.
 ghost use mathlib.Core.Path.{_≡_};
 ghost use mathlib.Core.List.{List};
-ghost use Prim.Native.Nat.{ℕ, _+_};
+ghost use Prim.Native.Nat.{ℕ, _+_, _≤_, _<_};
 ghost use Rattle.entry.specs.declared.Step.{Step};
 ghost use Rattle.worst.specs.Speed.{speedAt};
 ghost use Rattle.worst.specs.Forces.{pressure};
 ghost use Rattle.worst.specs.Table.{Filled};
-ghost use Rattle.worst.specs.Sums.{noAxes};
+ghost use Rattle.worst.specs.Sums.{noAxes, plusSums, plusAxes};
+ghost use Rattle.worst.specs.Few.{fewIn, fewAxes, FewAxisSmall, FewSmall};
 ghost use Rattle.worst.specs.Amounts.{sumsIn, axesIn, AxisSumsSmall, AllSumsSmall};
 ghost use Rattle.worst.specs.Lent.{facesBy, Lent};
-ghost use Rattle.worst.specs.Engine.{further, facesOf, withWeight, withPressure, withFace, axesOf};
-ghost use Rattle.worst.specs.Small.{OutsideSmall, FaceSmall, Pressure, Weight};
-ghost use Rattle.worst.specs.Small.{Dense, Slow, Met, AllMet};
+ghost use Rattle.worst.specs.Engine.{facesOf, axesOf};
+ghost use Rattle.worst.specs.Small.{Dense, Slow, AllMet};
 ghost use Rattle.worst.specs.Factors.{Fraction, FactorsStand, Fractions};
-use crate::Side;
 use crate::amounts::Amount;
 use crate::amounts::plus;
-use crate::faces::face_in;
-use crate::outside::Outside;
-use crate::outside::found;
-use crate::outside::takes_part;
+use crate::few::FewAxis;
+use crate::few::FewSums;
+use crate::few::few_added;
 use crate::speeds::Factor;
-use crate::speeds::factor_in;
 use crate::speeds::speed_at;
-use crate::tops::falls_short;
 use building::Building;
-use entry::Face;
 use entry::Wind;
 
-// On one axis, of the products of outside coefficient and weight the greatest and the least sum; and the sum of the
-// weights.
+// On one axis, and on all.
 pub struct AxisSums {
     pub greatest: Amount,
     pub least: Amount,
@@ -52,68 +45,30 @@ pub(crate) fn pressure_of(b: Building, w: Wind, factor: Factor) -> i64
     b.density * (speed * speed)
 }
 
-// The further out of two, the first where they are alike.
-fn the_further(side: Side, first: i64, last: i64) -> i64
-    ensures { λ r. ⌜ r ≡ further side first last ⌝ }
+// Some faces more: on one axis, and on all.
+fn with_few(sums: AxisSums, few: FewAxis) -> AxisSums
+    requires { ⌜ AxisSumsSmall 239 sums × FewAxisSmall 24 few ⌝ }
+    ensures { λ r. ⌜ (sumsIn r ≡ plusSums (sumsIn sums) (fewIn few))
+        × ((n m : ℕ) → AxisSumsSmall n sums → FewAxisSmall (m + 1) few → AxisSumsSmall (n + (m + 1)) r) ⌝ }
 {
-    if falls_short(side, first, last) {
-        return last;
-    }
-    first
-}
-
-// One face more on one axis, at its weight there.
-fn with_weight(sums: AxisSums, o: Outside, weight: i64) -> AxisSums
-    requires { ⌜ AxisSumsSmall 239 sums × OutsideSmall o × Weight weight ⌝ }
-    ensures { λ r. ⌜ (sumsIn r ≡ withWeight o weight (sumsIn sums))
-        × ((n : ℕ) → AxisSumsSmall n sums → AxisSumsSmall (n + 1) r) ⌝ }
-{
-    let first = o.first * weight;
-    let last = o.last * weight;
-    let greatest = plus(sums.greatest, the_further(Side::Greatest, first, last));
-    let least = plus(sums.least, the_further(Side::Least, first, last));
+    let greatest = plus(sums.greatest, few.greatest);
+    let least = plus(sums.least, few.least);
     AxisSums {
         greatest,
         least,
-        weight: sums.weight + weight,
+        weight: sums.weight + few.weight,
     }
 }
 
-// One face more on every axis, at its pressure number.
-fn with_pressure(sums: AllSums, f: Face, o: Outside, pressure: i64) -> AllSums
-    requires { ⌜ AllSumsSmall 239 sums × FaceSmall f × OutsideSmall o × Pressure pressure ⌝ }
-    ensures { λ r. ⌜ (axesIn r ≡ withPressure f o pressure (axesIn sums))
-        × ((n : ℕ) → AllSumsSmall n sums → AllSumsSmall (n + 1) r) ⌝ }
+fn with_all_few(sums: AllSums, few: FewSums) -> AllSums
+    requires { ⌜ AllSumsSmall 239 sums × FewSmall 24 few ⌝ }
+    ensures { λ r. ⌜ (axesIn r ≡ plusAxes (axesIn sums) (fewAxes few))
+        × ((n m : ℕ) → AllSumsSmall n sums → FewSmall (m + 1) few → AllSumsSmall (n + (m + 1)) r) ⌝ }
 {
-    let x = with_weight(sums.x, o, pressure * f.x);
-    let y = with_weight(sums.y, o, pressure * f.y);
-    let z = with_weight(sums.z, o, pressure * f.z);
+    let x = with_few(sums.x, few.x);
+    let y = with_few(sums.y, few.y);
+    let z = with_few(sums.z, few.z);
     AllSums { x, y, z }
-}
-
-// One face more under a wind, at its factor. One that does not take part adds nothing, and nothing is looked up for
-// it.
-fn with_face(
-    sums: AllSums,
-    b: Building,
-    w: Wind,
-    factor: Factor,
-    f: Face,
-    asked: &mut [bool; 40],
-    first: &mut [i64; 40],
-    last: &mut [i64; 40],
-) -> AllSums
-    requires { ⌜ AllSumsSmall 239 sums × Met b w f × Fraction factor × Filled b (now asked) (now first) (now last) ⌝ }
-    ensures { λ r. ⌜ (axesIn r ≡ withFace b w factor f (axesIn sums))
-        × ((n : ℕ) → AllSumsSmall n sums → AllSumsSmall (n + 1) r)
-        × Filled b (now (asked .exit)) (now (first .exit)) (now (last .exit)) ⌝ }
-{
-    if takes_part(f, w) {
-        let o = found(b, w, f, asked, first, last);
-        let p = pressure_of(b, w, factor);
-        return with_pressure(sums, f, o, p);
-    }
-    sums
 }
 
 fn nothing() -> AllSums
@@ -133,6 +88,17 @@ fn nothing() -> AllSums
         y: none,
         z: none,
     }
+}
+
+// Where the next 24 end, or all.
+fn end_of_few(from: usize, count: usize) -> usize
+    requires { ⌜ (from < count) × (count ≤ 240) ⌝ }
+    ensures { λ r. ⌜ (from < r) × (r ≤ count) × (r ≤ from + 24) ⌝ }
+{
+    if from + 24 < count {
+        return from + 24;
+    }
+    count
 }
 
 // All faces under a wind, each at its factor: they are those of whatever profile has these factors at their heights.
@@ -160,10 +126,10 @@ pub(crate) fn added(
     let mut sums = nothing();
     let mut i = 0;
     while i < count {
-        let f = face_in(flat, i);
-        let factor = factor_in(parts, wholes, i);
-        sums = with_face(sums, b, w, factor, f, asked, first, last);
-        i += 1;
+        let to = end_of_few(i, count);
+        let few = few_added(b, flat, parts, wholes, i, to, w, asked, first, last);
+        sums = with_all_few(sums, few);
+        i = to;
     }
     sums
 }

@@ -1,33 +1,111 @@
--- `chosen::shown` meets its contract: the two cases of each axis.
+-- `chosen::shown` meets its contract: without a face of zone F every alternative is the first, and with one zone F has
+-- a place under every wind.
+use mathlib.Core.Path.{_≡_, sym, ap, _∙_, subst}
+use mathlib.Core.List.{List}
+use Prim.Native.Nat.{ℕ, _-_, _<_}
+use native.Mathlib.Omega.{arith}
+use borrow.Author.Needs.{needs}
+use denote.Ref.{now}
+use lib.ListN.{getD, replicate}
+use Rattle.building.specs.Places.{F}
+use Rattle.entry.specs.declared.Wind.{Wind}
+use Rattle.entry.specs.declared.Face.{Face}
+use Rattle.entry.specs.Flat.{faceIn, facesIn}
+use Rattle.job.specs.declared.Job.{Job}
+use Rattle.job.specs.Carried.{noFace}
+use Rattle.worst.specs.declared.Axis.{Axis}
 use Rattle.worst.specs.declared.Axis.the-variants.{X, Y, Z}
+use Rattle.worst.specs.declared.Side.{Side}
+use Rattle.worst.specs.declared.Side.the-variants.{Greatest, Least}
+use Rattle.worst.specs.declared.speeds.Factor.{Factor}
+use Rattle.worst.specs.Shown.{padded}
+use Rattle.worst.specs.Forces.{factorOf}
+use Rattle.worst.specs.Engine.{pickOf, topAt, windNumbered, alternativesAt, sixWith}
+use Rattle.worst.specs.Factors.{profileOf}
+use Rattle.worst.specs.Small.{Met, Reached}
+use Rattle.worst.specs.Table.{Placed}
+use Rattle.worst.specs.Lent.{jobBy}
+use Rattle.worst.proofs.LentFaces.{face-at}
+use Rattle.worst.proofs.Padded.{all-one}
+use Rattle.worst.proofs.Added.{alone-pick}
 use Rattle.worst.proofs.chosen.shown.Statement.{statement}
 use Rattle.worst.proofs.chosen.shown.Tie as tie
 
-on-x : tie.Need-extremes-on-requires
-on-x c κs = let p = c .before .before .before .pre in (p .0, p .1, p .2, p .3, p .4 X, p .5)
+-- the case of an axis and a side
+module _ (a : tie.Start) (axis : Axis) (s : Side) where
+  abbrev job : Job
+  job = jobBy (a .args .s) (a .args .faces) (now (a .args .flat))
 
-on-y : tie.Need-extremes-on-requires-2
-on-y c κs =
-    let x = c .before .before .before in
-    let p = x .before .before .before .before .pre in
-    (p .0, p .1, p .2, p .3, p .4 Y, x .extremes-on .ensures .1)
+  abbrev number : ℕ
+  number = topAt axis s (a .args .ends) .wind
 
-on-z : tie.Need-extremes-on-requires-3
-on-z c κs =
-    let y = c .before .before .before in
-    let x = y .before .before .before .before in
-    let p = x .before .before .before .before .pre in
-    (p .0, p .1, p .2, p .3, p .4 Z, y .extremes-on2 .ensures .1)
+  abbrev wind : Wind
+  wind = windNumbered (job .winds) number
+
+  abbrev face : ℕ → Face
+  face k = getD (job .faces .entry) k noFace
+
+  zone : (k : ℕ) → k < a .args .faces → face k .zone ≡ faceIn (now (a .args .flat)) k .zone
+  zone k h = ap (λ f. f .zone) (face-at (a .args .faces) (now (a .args .flat)) k h)
+
+  met : (k : ℕ) → k < a .args .faces → Met (job .building) wind (face k)
+  met k h =
+      let on = a .pre .4 axis s in
+      let some = on .wind in
+      let counts : number - 1 < job .winds .count = omega (arith, on .wind≤) in
+      a .pre .1 .met (number - 1) counts .each k h
+
+  -- no face is of zone F
+  firsts : {l : List ℕ} (none : (k : ℕ) → k < a .args .faces → faceIn (now (a .args .flat)) k .zone ≡ F → ⊥)
+      → l ≡ padded 240 (replicate (a .args .faces) 1) → l ≡ alternativesAt axis s job (topAt axis s (a .args .ends))
+  firsts none e =
+      let k : Face → Factor = factorOf (profileOf job) in
+      e
+      ∙ ap (padded 240)
+      (sym (all-one (λ f. pickOf s axis (job .building) wind (k f) f) noFace (a .args .faces) (job .faces .entry)
+      (λ i h.
+      alone-pick s axis (job .building) wind (k (face i)) (face i) (met i h) (λ z. none i h (sym (zone i h) ∙ z)))))
+
+  -- face k is
+  reached : (k : ℕ) → k < a .args .faces → faceIn (now (a .args .flat)) k .zone ≡ F
+      → Reached (job .winds) (topAt axis s (a .args .ends))
+  reached k h e =
+      let on = a .pre .4 axis s in
+      record {
+        some = on .wind;
+        few = omega (arith, on .wind≤, a .pre .1 .winds);
+        placed = subst (Placed (wind .direction)) (zone k h ∙ e) (met k h .placed);
+      }
 
 returns : tie.Need-returns
 returns c =
-    let y = c .before .before .before .before in
-    let x = y .before .before .before .before in
-    λ j. record {
-      x = x .extremes-on .ensures .0 j;
-      y = y .extremes-on2 .ensures .0 j;
-      z = c .extremes-on3 .ensures .0 j;
-    }
+    let f = c .before in
+    let b = f .before .before in
+    let a = b .before in
+    let t = f .before .if1 .taken in
+    let told = b .before-f .ensures in
+    let none : (k : ℕ) → k < a .args .faces → faceIn (now (a .args .flat)) k .zone ≡ F → ⊥ =
+    λ k h. told .1 k (omega arith) in
+    let e : (axis : Axis) (s : Side)
+    → f .firsts .result ≡ alternativesAt axis s (job a axis s) (topAt axis s (a .args .ends)) =
+    λ axis s. firsts a axis s none (f .firsts .ensures) in
+    c .six-cases .ensures
+    ∙ (λ j.
+    sixWith (a .args .ends) (a .args .faces) (e X Greatest j) (e X Least j) (e Y Greatest j) (e Y Least j)
+    (e Z Greatest j) (e Z Least j))
+
+six-winds-requires : tie.Need-six-winds-requires
+six-winds-requires c κs =
+    let e = c .before .before .before in
+    let b = e .before in
+    let a = b .before in
+    let t = e .if1 .left in
+    let told = b .before-f .ensures in
+    let some : b .before-f .result < a .args .faces = omega (arith, told .0) in
+    ((λ axis s. reached a axis s (b .before-f .result) some (told .2 some)), a .pre .5)
 
 pub shown-spec : {M : Type 1} → statement M
-shown-spec = tie.close (tie.spec on-x on-y on-z returns)
+shown-spec =
+    tie.close
+    (tie.spec (λ c κs. search needs) (λ c κs. search needs) (λ c κs. search needs) returns six-winds-requires
+    (λ c κs. search needs) (λ c. search needs))

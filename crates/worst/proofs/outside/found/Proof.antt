@@ -27,7 +27,7 @@ returns c =
     let stands = subst (Stands (a .b) f l) place (filled .stand k (c .before .before .if1 .taken)) in (
       (λ j. record { first = toZ-ofZ w64 _ v j; last = toZ-ofZ w64 _ u j })
           ∙ ap (standing f l) place
-          ∙ stands-for (a .b) f l (a .w .direction) (a .f .zone) (p .before .pre .0) stands,
+          ∙ stands-for (a .b) f l (a .w .direction) (a .zone) (p .before .pre .0) stands,
       filled,
     )
 
@@ -41,7 +41,7 @@ returns-2 c =
     let read : _≡_ {A = Outside} _ (o .looked-up .result) =
     λ j. record { first = toZ-ofZ w64 _ v j; last = toZ-ofZ w64 _ u j } in
     let s =
-    stored (a .b) (now (a .asked)) (now (a .first)) (now (a .last)) (p .before .pre .1) (a .w .direction) (a .f .zone)
+    stored (a .b) (now (a .asked)) (now (a .first)) (now (a .last)) (p .before .pre .1) (a .w .direction) (a .zone)
     (p .before .pre .0) _ (read ∙ o .looked-up .ensures) (p .place-of .result) (p .place-of .ensures .0) in
     (o .looked-up .ensures, s)
 

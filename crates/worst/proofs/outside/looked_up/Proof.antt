@@ -15,11 +15,11 @@ use Rattle.worst.proofs.outside.looked_up.Tie as tie
 -- what an answer comes to is what the question's answer comes to
 asked : (c : tie.After-outside) (a : Answer) → c .outside .result ≡ a
     → let s = c .before .before .args in
-    firstAndLast (valuesOf a) ≡ outsideAt (s .b) (s .w .direction) (s .f .zone)
+    firstAndLast (valuesOf a) ≡ outsideAt (s .b) (s .w .direction) (s .zone)
 asked c a e =
     let s = c .before .before .args in
     let q =
-    said (λ (d : ℤ). outsideOf (pos lastYear) (s .b) d (s .f .zone)) (s .w .direction) (c .outside .ensures)
+    said (λ (d : ℤ). outsideOf (pos lastYear) (s .b) d (s .zone)) (s .w .direction) (c .outside .ensures)
     (c .before .struct-told .given .0 .1) in
     ap (λ (x : Answer). firstAndLast (valuesOf x)) (sym e ∙ q)
 

@@ -26,14 +26,13 @@ mul-result : tie.Need-mul-result
 mul-result c = omega (arith, steps c, start c .pre .few)
 
 add-result : tie.Need-add-result
-add-result c = let m = c .before in omega (arith, steps m, start m .pre .few, start m .pre .from, start m .pre .to)
+add-result c = omega (arith, steps c, start c .pre .few, start c .pre .from, start c .pre .to)
 
 returns : tie.Need-returns
 returns c =
-    let m = c .before in
-    let s = start m in
-    let e = ap (λ (n : ℕ). n / 45 * 8 + (s .args .f .zone - A)) (read m) in
-    (e, subst (λ (n : ℕ). n < places) (sym e) (place-below (s .args .w .direction) (s .args .f .zone) (s .pre)))
+    let s = start c in
+    let e = ap (λ (n : ℕ). n / 45 * 8 + (s .args .zone - A)) (read c) in
+    (e, subst (λ (n : ℕ). n < places) (sym e) (place-below (s .args .w .direction) (s .args .zone) (s .pre)))
 
 pub place-of-spec : {M : Type 1} → statement M
 place-of-spec =

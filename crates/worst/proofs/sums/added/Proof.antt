@@ -1,27 +1,29 @@
--- `sums::added` meets its contract: after i faces the sums are those of the first i.
+-- `sums::added` meets its contract: after some parts that end at face i the sums are those of the first i.
 use mathlib.Core.Path.{_≡_, sym, ap, _∙_, subst}
 use mathlib.Core.List.{List}
-use Prim.Native.Nat.{ℕ, _≤_, _<_, _-_}
+use Prim.Native.Nat.{ℕ, _+_, _-_, _≤_, _<_}
 use native.Mathlib.Omega.{arith}
 use borrow.Author.Needs.{needs}
 use denote.Ref.{now}
 use lib.ListN.{getD}
 use Rattle.whole.specs.Lists.{firstOf}
+use Rattle.whole.proofs.Lists.{firstOf-fewer}
 use Rattle.entry.specs.declared.Step.{Step}
 use Rattle.entry.specs.declared.Face.{Face}
 use Rattle.entry.specs.Flat.{facesIn}
 use Rattle.job.specs.Carried.{noFace}
 use Rattle.worst.specs.Quick.{sum}
+use Rattle.worst.specs.Sums.{plusAxes}
 use Rattle.worst.specs.Table.{Filled}
+use Rattle.worst.specs.Few.{fewAxes}
 use Rattle.worst.specs.Amounts.{axesIn, AllSumsSmall}
-use Rattle.worst.specs.Engine.{axesOf, withFace}
+use Rattle.worst.specs.Engine.{axesOf}
 use Rattle.worst.specs.Forces.{factorOf}
 use Rattle.worst.specs.Lent.{facesBy}
-use Rattle.worst.specs.Factors.{FactorsStand, Fraction}
+use Rattle.worst.specs.Factors.{FactorsStand}
 use Rattle.worst.specs.Small.{Met}
-use Rattle.worst.proofs.LentFaces.{face-at}
-use Rattle.worst.proofs.SumsGrow.{all-more}
-use Rattle.worst.proofs.Added.{axes-next}
+use Rattle.worst.proofs.LentFaces.{face-at, faces-fewer}
+use Rattle.worst.proofs.SumsGrow.{all-more, few-more}
 use Rattle.worst.proofs.sums.added.Statement.{statement}
 use Rattle.worst.proofs.sums.added.Tie as tie
 
@@ -41,76 +43,95 @@ loop-holds c =
     let e = c .nothing .ensures in
     (search needs, e .1, λ profile h. e .0, c .before .pre .3)
 
--- face i
-module _ (d : tie.In-loop Inv-loop μ-loop) where
+-- the faces up to where the next part ends
+module _ (c : tie.After-end-of-few Inv-loop μ-loop) where
   abbrev a : tie.Start Inv-loop μ-loop
-  a = d .before .before .before
+  a = c .before .before .before .before
 
   abbrev i : ℕ
-  i = d .before .loop .i
+  i = c .before .before .loop .i
 
-  counted : i < a .args .faces
-  counted = d .loop-test .taken
+  abbrev to : ℕ
+  to = c .end-of-few .result
 
-  few : i < 240
-  few = let t = counted in omega (arith, a .pre .0 .numbered .few)
+  some : i < to
+  some = c .end-of-few .ensures .0
 
-  abbrev face : Face
-  face = getD (facesIn (a .args .faces) (now (a .args .flat))) i noFace
+  counted : to ≤ a .args .faces
+  counted = c .end-of-few .ensures .1
 
-face-in-requires : tie.Need-face-in-requires Inv-loop μ-loop
-face-in-requires d κs = let t = counted d in omega (arith, a d .pre .0 .numbered .stand)
+  few : to ≤ i + 24
+  few = c .end-of-few .ensures .2
 
-factor-in-requires : tie.Need-factor-in-requires Inv-loop μ-loop
-factor-in-requires c κs =
-    let d = c .before in
-    let t = counted d in
-    (omega (arith, a d .pre .0 .parts-room), omega (arith, a d .pre .0 .wholes-room))
+  abbrev l : List Face
+  l = facesIn (a .args .faces) (now (a .args .flat))
 
--- with its factor
-abbrev asking : tie.After-with-face-arg3 Inv-loop μ-loop → tie.After-factor-in Inv-loop μ-loop
-asking c = c .before .before .before
+  -- they are the same as of all
+  same : (k : ℕ) → k < to → getD l k noFace ≡ getD (facesIn to (now (a .args .flat))) k noFace
+  same k t =
+      let h = counted in
+      face-at (a .args .faces) (now (a .args .flat)) k (omega arith) ∙ sym (face-at to (now (a .args .flat)) k t)
 
-module _ (k : tie.After-factor-in Inv-loop μ-loop) where
-  abbrev d : tie.In-loop Inv-loop μ-loop
-  d = k .before .before
+  first : (n : ℕ) → n ≤ to → firstOf noFace n (facesIn to (now (a .args .flat))) ≡ firstOf noFace n l
+  first n h =
+      ap (firstOf noFace n) (faces-fewer to (a .args .faces) (now (a .args .flat)) counted)
+      ∙ firstOf-fewer noFace n to l h
 
-  read : k .before .face-in .result ≡ face d
-  read =
-      k .before .face-in .ensures ∙ sym (face-at (a d .args .faces) (now (a d .args .flat)) (i d) (counted d))
+few-added-requires : tie.Need-few-added-requires Inv-loop μ-loop
+few-added-requires d κs =
+    let c = d .before .before .before in
+    let lent = a c .pre .0 in
+    let s = some c in
+    let h = counted c in
+    let r = lent .numbered in (
+      record {
+        numbered = record { few = omega (arith, r .few); stand = omega (arith, r .stand) };
+        parts-room = omega (arith, lent .parts-room);
+        wholes-room = omega (arith, lent .wholes-room);
+      },
+      omega arith,
+      few c,
+      record {
+        few = omega (arith, r .few);
+        each = λ k t. subst (Met (a c .args .b) (a c .args .w)) (same c k t) (a c .pre .1 .each k (omega arith));
+      },
+      (λ k t. a c .pre .2 k (omega arith)),
+      c .before .before .loop .inv .3,
+    )
 
-  fraction : Fraction (k .factor-in .result)
-  fraction = subst Fraction (sym (k .factor-in .ensures)) (a d .pre .2 (i d) (counted d))
+abbrev ended : tie.After-few-added Inv-loop μ-loop → tie.After-end-of-few Inv-loop μ-loop
+ended f = f .before .before .before .before
 
-  met : Met (a d .args .b) (a d .args .w) (k .before .face-in .result)
-  met = subst (Met (a d .args .b) (a d .args .w)) (sym read) (a d .pre .1 .each (i d) (counted d))
-
-with-face-requires : tie.Need-with-face-requires Inv-loop μ-loop
-with-face-requires c κs =
-    let k = asking c in
-    let inv = d k .before .loop .inv in
-    let below = few (d k) in
-    (all-more (i (d k)) 239 _ (omega arith) (inv .1), met k, fraction k, inv .3)
+with-all-few-requires : tie.Need-with-all-few-requires Inv-loop μ-loop
+with-all-few-requires f κs =
+    let c = ended f in
+    let s = some c in
+    let h = counted c in
+    let few = few c in (
+      all-more (i c) 239 _ (omega (arith, a c .pre .0 .numbered .few)) (c .before .before .loop .inv .1),
+      few-more (to c - i c) 24 _ (omega arith) (f .few-added .ensures .0),
+    )
 
 loop-again : tie.Need-loop-again Inv-loop μ-loop
-loop-again c =
-    let k = asking (c .before) in
-    let n = i (d k) in
-    let inv = d k .before .loop .inv in
-    let t = counted (d k) in
-    let s = a (d k) .args in
-    let l = facesIn (s .faces) (now (s .flat)) in
-    let e = c .with-face .ensures in
-    let factor : (profile : List Step)
-    → FactorsStand profile (facesBy (s .faces) (now (s .flat))) (now (s .parts)) (now (s .wholes))
-    → k .factor-in .result ≡ factorOf profile (face (d k)) =
-    λ profile h. k .factor-in .ensures ∙ h n t in (
-      omega arith,
-      e .1 n (inv .1),
-      λ profile h. e .0
-          ∙ (λ j. withFace (s .b) (s .w) (factor profile h j) (read k j) (inv .2 profile h j))
-          ∙ axes-next (s .b) profile (s .w) l n,
-      e .2,
+loop-again r =
+    let f = r .before in
+    let c = ended f in
+    let inv = c .before .before .loop .inv in
+    let s = some c in
+    let h = counted c in
+    let args = a c .args in
+    let e = r .with-all-few .ensures in
+    let m = to c - i c - 1 in (
+      counted c,
+      all-more (i c + (m + 1)) (to c) _ (omega arith)
+          (e .1 (i c) m (inv .1) (few-more (to c - i c) (m + 1) _ (omega arith) (f .few-added .ensures .0))),
+      λ profile q.
+          e .0
+          ∙ ap (λ p. plusAxes p (fewAxes (f .few-added .result)))
+          (inv .2 profile q ∙ ap (axesOf (args .b) profile (args .w)) (sym (first c (i c) (omega arith))))
+          ∙ f .few-added .ensures .1 profile (λ k t. q k (omega arith) ∙ ap (factorOf profile) (same c k t))
+          ∙ ap (axesOf (args .b) profile (args .w)) (first c (to c) (omega arith)),
+      f .few-added .ensures .2,
     )
 
 returns : tie.Need-returns Inv-loop μ-loop
@@ -129,6 +150,7 @@ returns c =
 pub added-spec : {M : Type 1} → statement M
 added-spec =
     tie.close
-    (tie.spec Inv-loop μ-loop (λ c κs. search needs) loop-holds face-in-requires factor-in-requires
-    with-face-requires (λ c. record { fits = omega (arith, few (d (asking (c .before)))) })
-    (λ c. let t = counted (d (asking (c .before))) in omega arith) loop-again returns)
+    (tie.spec Inv-loop μ-loop (λ c κs. search needs) loop-holds
+    (λ c κs. (c .loop-test .taken, c .before .before .before .pre .0 .numbered .few)) few-added-requires
+    with-all-few-requires (λ r. let s = some (ended (r .before)) in let h = counted (ended (r .before)) in omega arith)
+    loop-again returns)

@@ -1,4 +1,4 @@
--- `sums::the_further` meets its contract: the test is on the two numbers.
+-- `few::the_further` meets its contract: the test is on the two numbers.
 use mathlib.Core.Path.{_≡_, sym, _∙_}
 use mir.Syntax.{w64}
 use mir.ValLaws.{toZ-ofZ}
@@ -6,8 +6,8 @@ use borrow.Author.Needs.{needs}
 use Rattle.worst.specs.Best.{short}
 use Rattle.worst.specs.Engine.{further}
 use Rattle.worst.proofs.Kept.{short-read}
-use Rattle.worst.proofs.sums.the_further.Statement.{statement}
-use Rattle.worst.proofs.sums.the_further.Tie as tie
+use Rattle.worst.proofs.few.the_further.Statement.{statement}
+use Rattle.worst.proofs.few.the_further.Tie as tie
 
 tested : (c : tie.After-falls-short)
     → c .falls-short .result ≡ short (c .before .args .side) (c .before .args .first) (c .before .args .last)

@@ -1,13 +1,13 @@
--- `sums::with_pressure` meets its contract: a call for each axis, at the weight there.
+-- `few::with_pressure` meets its contract: a call for each axis, at the weight there.
 use mathlib.Core.Path.{_∙_}
 use Prim.Native.Nat.{_≤_}
 use lib.IntN.{ℤ, natAbs}
 use mir.Syntax.{w64}
 use Rattle.whole.proofs.Size.{Num, num≤, back, fit, bound, _⊗_}
-use Rattle.worst.specs.Amounts.{sumsIn}
+use Rattle.worst.specs.Few.{fewIn}
 use Rattle.worst.specs.Engine.{withWeight}
-use Rattle.worst.proofs.sums.with_pressure.Statement.{statement}
-use Rattle.worst.proofs.sums.with_pressure.Tie as tie
+use Rattle.worst.proofs.few.with_pressure.Statement.{statement}
+use Rattle.worst.proofs.few.with_pressure.Tie as tie
 
 -- the weights, as the code makes them
 module _ (a : tie.Start) where
@@ -62,9 +62,9 @@ returns c =
     let gone-y = y-done .with-weight2 .ensures in
     let gone-z = c .with-weight3 .ensures in (
       (λ j. record {
-        x = (gone-x .0 ∙ (λ k. withWeight o (back w64 (x a) tt .same k) (sumsIn (sums .x)))) j;
-        y = (gone-y .0 ∙ (λ k. withWeight o (back w64 (y a) tt .same k) (sumsIn (sums .y)))) j;
-        z = (gone-z .0 ∙ (λ k. withWeight o (back w64 (z a) tt .same k) (sumsIn (sums .z)))) j;
+        x = (gone-x .0 ∙ (λ k. withWeight o (back w64 (x a) tt .same k) (fewIn (sums .x)))) j;
+        y = (gone-y .0 ∙ (λ k. withWeight o (back w64 (y a) tt .same k) (fewIn (sums .y)))) j;
+        z = (gone-z .0 ∙ (λ k. withWeight o (back w64 (z a) tt .same k) (fewIn (sums .z)))) j;
       }),
       λ n h. record { x = gone-x .1 n (h .x); y = gone-y .1 n (h .y); z = gone-z .1 n (h .z) },
     )

@@ -1,4 +1,4 @@
--- `sums::with_face` meets its contract: a face that takes part is added at its pressure number, and another leaves
+-- `few::with_face` meets its contract: a face that takes part is added at its pressure number, and another leaves
 -- all as it is.
 use mathlib.Core.Path.{_≡_, sym, _∙_, subst}
 use mathlib.Core.Bool.{true}
@@ -8,15 +8,15 @@ use borrow.Author.Needs.{needs}
 use Rattle.whole.proofs.Size.{Num, bound}
 use Rattle.worst.specs.Speed.{speedAt}
 use Rattle.worst.specs.Forces.{acts, pressure}
-use Rattle.worst.specs.Amounts.{axesIn}
+use Rattle.worst.specs.Few.{fewAxes}
 use Rattle.worst.specs.Engine.{withPressure}
 use Rattle.worst.specs.Small.{OutsideSmall}
 use Rattle.worst.proofs.ReadBack.{read-back}
 use Rattle.worst.proofs.Ranges.{pressure-small}
-use Rattle.worst.proofs.SumsGrow.{all-more}
+use Rattle.worst.proofs.SumsGrow.{few-more}
 use Rattle.worst.proofs.Added.{face-acts, face-aside}
-use Rattle.worst.proofs.sums.with_face.Statement.{statement}
-use Rattle.worst.proofs.sums.with_face.Tie as tie
+use Rattle.worst.proofs.few.with_face.Statement.{statement}
+use Rattle.worst.proofs.few.with_face.Tie as tie
 
 -- a face that takes part
 module _ (c : tie.After-pressure-of) where
@@ -51,8 +51,8 @@ returns c =
     let f = o d .found .ensures in
     let s = a d .args in (
       c .with-pressure .ensures .0
-          ∙ (λ j. withPressure (s .f) (f .0 j) (pressed d .same j) (axesIn (s .sums)))
-          ∙ face-acts (s .b) (s .w) (s .factor) (s .f) (axesIn (s .sums)) (acting d),
+          ∙ (λ j. withPressure (s .f) (f .0 j) (pressed d .same j) (fewAxes (s .sums)))
+          ∙ face-acts (s .b) (s .w) (s .factor) (s .f) (fewAxes (s .sums)) (acting d),
       c .with-pressure .ensures .1,
       f .1,
     )
@@ -62,8 +62,8 @@ returns-2 c =
     let a = c .before .before in
     let s = a .args in
     let aside = sym (c .before .takes-part .ensures) ∙ c .if1 .left in (
-      face-aside (s .b) (s .w) (s .factor) (s .f) (axesIn (s .sums)) aside,
-      λ n h. all-more n (n + 1) (s .sums) (omega arith) h,
+      face-aside (s .b) (s .w) (s .factor) (s .f) (fewAxes (s .sums)) aside,
+      λ n h. few-more n (n + 1) (s .sums) (omega arith) h,
       a .pre .3,
     )
 
