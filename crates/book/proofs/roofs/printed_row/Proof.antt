@@ -1,11 +1,21 @@
--- `roofs::printed_row`: the table of the code is that of the definitions.
-use mathlib.Core.Path.{refl}
-use borrow.Author.Needs.{needs}
+-- `roofs::printed_row`: the rows of the code are those of the definitions.
+use native.Mathlib.Omega.{arith}
+use Rattle.book.proofs.Coded.{last-arm}
 use Rattle.book.proofs.roofs.printed_row.Statement.{statement}
 use Rattle.book.proofs.roofs.printed_row.Tie as tie
 
-returns : tie.Need-returns
-returns c = refl
-
 pub printed-row-spec : {M : Type 1} → statement M
-printed-row-spec = tie.close (tie.spec (λ c. search needs) (λ c. search needs) returns)
+printed-row-spec =
+    tie.close
+    (tie.spec (λ c. rw (c .match .keys1)) (λ c. rw (c .match .keys2)) (λ c. rw (c .match .keys3))
+    (λ c. rw (c .match .keys4)) (λ c. rw (c .match .keys5)) (λ c. rw (c .match .keys6))
+    (λ c. rw (c .match .keys7)) (λ c. rw (c .match .keys8)) (λ c. rw (c .match .keys9))
+    (λ c. rw (c .match .keys10)) (λ c. rw (c .match .keys11)) (λ c. rw (c .match .keys12))
+    (λ c. rw (c .match .keys13)) (λ c. rw (c .match .keys14)) (λ c. rw (c .match .keys15))
+    (λ c. rw (c .match .keys16)) (λ c. rw (c .match .keys17)) (λ c. rw (c .match .keys18))
+    (λ c. rw (c .match .keys19)) (λ c. rw (c .match .keys20)) (λ c. rw (c .match .keys21))
+    (λ c. rw (c .match .keys22)) (λ c. rw (c .match .keys23)) (λ c. rw (c .match .keys24))
+    (λ c. rw (c .match .keys25)) (λ c. rw (c .match .keys26)) (λ c. rw (c .match .keys27))
+    (λ c. rw (c .match .keys28)) (λ c. rw (c .match .keys29)) (λ c. rw (c .match .keys30))
+    (λ c. rw (c .match .keys31)) (λ c. rw (c .match .keys32))
+    (λ c. rw (last-arm (c .before .args .n) 32 (c .match .rest) (omega (arith, c .before .pre)))))
