@@ -82,7 +82,8 @@ numbers-form zs h = map-every InForm numberField zs (every-by number-form zs h)
 pub number-short : (z : ℤ) → Short z → hasForm form.Number (numberField z) ≡ true
 unfolding hasForm tooLong
 number-short (pos n) h = rw (le-ltb 9999999 n (omega (arith, h)))
-number-short (negsuc n) h = rw (ne-eqb (suc n) 0 (λ (e : suc n ≡ 0). omega arith), le-ltb 9999999 (suc n) (omega (arith, h)))
+number-short (negsuc n) h =
+    rw (ne-eqb (suc n) 0 (λ (e : suc n ≡ 0). omega arith), le-ltb 9999999 (suc n) (omega (arith, h)))
 
 mark-short : (z : ℤ) → Short z → hasForm form.Mark (numberField z) ≡ true
 unfolding hasForm

@@ -31,7 +31,11 @@ module _ (n m : ℕ) where
 
   few-axis-more : (a : FewAxis) → n ≤ m → FewAxisSmall n a → FewAxisSmall m a
   few-axis-more a t s =
-      record { greatest = omega (arith, s .greatest); least = omega (arith, s .least); weight = omega (arith, s .weight) }
+      record {
+        greatest = omega (arith, s .greatest);
+        least = omega (arith, s .least);
+        weight = omega (arith, s .weight);
+      }
 
   pub few-more : (a : FewSums) → n ≤ m → FewSmall n a → FewSmall m a
   few-more a t s =

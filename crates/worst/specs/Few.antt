@@ -1,5 +1,5 @@
--- The sums of up to 24 faces under a wind, as whole numbers, and how large they are. Only contracts of private functions
--- cite it.
+-- The sums of up to 24 faces under a wind, as whole numbers, and how large they are. Only contracts of private
+-- functions cite it.
 use Prim.Native.Nat.{ℕ, _*_, _≤_}
 use lib.IntN.{natAbs}
 use Rattle.worst.specs.declared.few.FewAxis.{FewAxis}

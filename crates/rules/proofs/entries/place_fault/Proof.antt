@@ -25,7 +25,8 @@ unmarked : (c : tie.After-unmarked-wall) {t : Bool} → c .unmarked-wall .result
 unmarked c e = sym (c .unmarked-wall .ensures) ∙ e
 
 off : (c : tie.After-off-profile) {t : Bool} → c .off-profile .result ≡ t
-    → let a = c .before .before .before .before .before .before .before .before .args in offProfile (a .b) (a .f .height) ≡ t
+    → let a = c .before .before .before .before .before .before .before .before .args in
+    offProfile (a .b) (a .f .height) ≡ t
 off c e =
     let a = c .before .before .before .before .before .before .before .before .args in
     sym (said (offProfile (a .b)) (a .f .height) (c .off-profile .ensures) (c .before .struct-told2 .given .1 .1 .0 .1))

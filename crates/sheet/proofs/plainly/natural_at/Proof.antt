@@ -17,8 +17,13 @@ returns-2 c = (search needs, λ n. absurd (n refl))
 returns-3 : tie.Need-returns-3
 returns-3 c =
     let a = c .before .before .before .before .before .args in
-    let e : getD (a .s .now) (a .at) 0 - 48 ≡ 0 = omega (arith, c .if3 .taken) in
-    (search needs, λ n. (search needs, rw e at (digit-first (a .s .now) (a .at) (search needs) (search needs) (search needs))))
+    let e : getD (a .s .now) (a .at) 0 - 48 ≡ 0 = omega (arith, c .if3 .taken) in (
+      search needs,
+      λ n. (
+        search needs,
+        rw e at (digit-first (a .s .now) (a .at) (search needs) (search needs) (search needs)),
+      ),
+    )
 
 returns-4 : tie.Need-returns-4
 returns-4 c =

@@ -24,7 +24,8 @@ returns-2 c =
       omega (arith, g .0, f .0),
       omega (arith, g .1, d .natural-at .ensures .0),
       sign-text _ (a .s .now) {start = p .past .result} (d .natural-at .result .n) (c .signed .result .z) _
-          (search needs) refl (p .past .ensures) (g .2) (f .1 ∙ ap (λ (k : ℕ). digits (d .natural-at .result .n) ++ drop k (a .s .now)) (sym (g .0))),
+          (search needs) refl (p .past .ensures) (g .2)
+          (f .1 ∙ ap (λ (k : ℕ). digits (d .natural-at .result .n) ++ drop k (a .s .now)) (sym (g .0))),
     )
 
 pub number-at-spec : {M : Type 1} → statement M

@@ -1,5 +1,5 @@
--- `numbers_at` meets its contract: the text passed is that of the numbers read, with a space between two and, behind the
--- last, LF.
+-- `numbers_at` meets its contract: the text passed is that of the numbers read, with a space between two and LF behind
+-- the last.
 use Prim.Native.Nat.{ℕ, _-_, _≤_, _<_}
 use mathlib.Core.Path.{_≡_, refl, ap, sym, _∙_}
 use mathlib.Core.Bool.{cond}
@@ -59,7 +59,9 @@ loop-again c =
       stored-past (l .loop .number) k room back (v .3),
       rw took (every-append Short (take k (l .loop .number)) (z ∷ []) (v .4) (n .1, tt)),
       v .5
-          ∙ passed-next s (l .loop .next) end (take k (l .loop .number)) z (rw (ne-eqb k (a .count) (λ (e : k ≡ a .count). omega (arith, e, f .before .before .loop-test .taken)))) (n .2) (search needs) (c .if4 .left ∙ c .before .separator .ensures) took,
+          ∙ passed-next s (l .loop .next) end (take k (l .loop .number)) z
+          (rw (ne-eqb k (a .count) (λ (e : k ≡ a .count). omega (arith, e, f .before .before .loop-test .taken))))
+          (n .2) (search needs) (c .if4 .left ∙ c .before .separator .ensures) took,
     )
 
 returns-5 : tie.Need-returns-5 Inv-loop μ-loop
@@ -76,7 +78,12 @@ returns-5 c =
     length-take-le (a .count) (l .loop .number) (omega (arith, v .1, l .before .before .pre .1)) in (
       v .2 (omega (arith, q, some)),
       v .1,
-      (v .5 ∙ (λ i. passed (ten i) (take (q i) (l .loop .number)) ++ drop (l .loop .next) (a .s .now)) ∙ passed-all 10 zs _ (omega (arith, all, some)), rw q at (v .4)),
+      (
+        v .5
+            ∙ (λ i. passed (ten i) (take (q i) (l .loop .number)) ++ drop (l .loop .next) (a .s .now))
+            ∙ passed-all 10 zs _ (omega (arith, all, some)),
+        rw q at (v .4),
+      ),
       rw q at (v .3),
     )
 

@@ -21,7 +21,9 @@ returns c =
     (λ i. record {
       fault = f .line-fault .ensures i;
       next = numbers i .next;
-      number = (ap (λ (n : Numbers). n .number) numbers ∙ (λ j. saysOf (a .sec) (tall j) (held (x .line-at .result)))) i;
+      number =
+          (ap (λ (n : Numbers). n .number) numbers
+          ∙ (λ j. saysOf (a .sec) (tall j) (held (x .line-at .result)))) i;
     })
     ∙ ap (entrySaid (a .sec) (a .b)) (x .line-at .ensures)
 

@@ -34,7 +34,8 @@ module _ (c : tie.Else2) where
       take-suc (read .numbers-at .result .number) 0 (pos 0)
       (omega (arith, read .numbers-at .ensures (c .if2 .left) .1))
 
-  stand : NumbersStand (read .before .before .before .before .args .s .now) (read .before .before .before .before .args .at + 2)
+  stand : NumbersStand (read .before .before .before .before .args .s .now)
+      (read .before .before .before .before .args .at + 2)
       (number ∷ []) (read .numbers-at .result .next)
   stand = rw alone at (read .numbers-at .ensures (c .if2 .left) .2)
 

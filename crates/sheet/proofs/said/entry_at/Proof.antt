@@ -22,7 +22,8 @@ returns-2 c =
     let a = c .before .before .before .before .args in
     subst (λ (t : Section). PlainLine t (a .heights) (a .s .now) (a .at) (c .numbers-at2 .result))
     (sym (c .before .enum-told2 .given .1))
-    (numbers-plain 6 (a .s .now) (a .at) (c .numbers-at2 .result) (omega arith) (omega arith) (c .numbers-at2 .ensures n))
+    (numbers-plain 6 (a .s .now) (a .at) (c .numbers-at2 .result) (omega arith) (omega arith)
+    (c .numbers-at2 .ensures n))
 
 returns-3 : tie.Need-returns-3
 returns-3 c =
@@ -30,7 +31,8 @@ returns-3 c =
     let a = c .before .before .before .before .args in
     subst (λ (t : Section). PlainLine t (a .heights) (a .s .now) (a .at) (c .numbers-at3 .result))
     (sym (c .before .enum-told3 .given .1))
-    (numbers-plain 2 (a .s .now) (a .at) (c .numbers-at3 .result) (omega arith) (omega arith) (c .numbers-at3 .ensures n))
+    (numbers-plain 2 (a .s .now) (a .at) (c .numbers-at3 .result) (omega arith) (omega arith)
+    (c .numbers-at3 .ensures n))
 
 returns-4 : tie.Need-returns-4
 returns-4 c =
@@ -38,7 +40,8 @@ returns-4 c =
     let a = c .before .before .before .before .args in
     subst (λ (t : Section). PlainLine t (a .heights) (a .s .now) (a .at) (c .numbers-at4 .result))
     (sym (c .before .enum-told4 .given .1))
-    (numbers-plain 1 (a .s .now) (a .at) (c .numbers-at4 .result) (omega arith) (omega arith) (c .numbers-at4 .ensures n))
+    (numbers-plain 1 (a .s .now) (a .at) (c .numbers-at4 .result) (omega arith) (omega arith)
+    (c .numbers-at4 .ensures n))
 
 returns-5 : tie.Need-returns-5
 returns-5 c =
@@ -46,7 +49,8 @@ returns-5 c =
     let a = c .before .before .before .before .args in
     subst (λ (t : Section). PlainLine t (a .heights) (a .s .now) (a .at) (c .numbers-at5 .result))
     (sym (c .before .enum-told5 .given .1))
-    (numbers-plain 2 (a .s .now) (a .at) (c .numbers-at5 .result) (omega arith) (omega arith) (c .numbers-at5 .ensures n))
+    (numbers-plain 2 (a .s .now) (a .at) (c .numbers-at5 .result) (omega arith) (omega arith)
+    (c .numbers-at5 .ensures n))
 
 returns-6 : tie.Need-returns-6
 returns-6 c =

@@ -233,7 +233,8 @@ module _ (c : tie.After-loop Inv-loop μ-loop) where
   job = jobBy (start .args .s) (start .args .faces) (now (start .args .flat))
 
   done : (axis : Axis) (s : Side) {h : List ℕ}
-      → HoldsFirst (job .building) (start .args .under) (profileOf job) (job .faces .entry) (c .before .loop .i) axis s h
+      → HoldsFirst (job .building) (start .args .under) (profileOf job) (job .faces .entry) (c .before .loop .i) axis s
+      h
       → h ≡ alternativesAt axis s job (topAt axis s (start .args .ends))
   done axis s q =
       let inv = c .before .loop .inv .0 in

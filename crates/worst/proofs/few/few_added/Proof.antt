@@ -44,7 +44,8 @@ loop-holds c =
       search needs,
       c .before .pre .1,
       few-more 0 (s .from - s .from) _ (omega arith) (e .1),
-      λ profile h. ap (plusAxes (axesOf (s .b) profile (s .w) (firstOf noFace (s .from) (facesIn (s .to) (now (s .flat)))))) (e .0)
+      λ profile h.
+          ap (plusAxes (axesOf (s .b) profile (s .w) (firstOf noFace (s .from) (facesIn (s .to) (now (s .flat)))))) (e .0)
           ∙ plus-no-axes _,
       c .before .pre .5,
     )
@@ -142,5 +143,8 @@ pub few-added-spec : {M : Type 1} → statement M
 few-added-spec =
     tie.close
     (tie.spec Inv-loop μ-loop (λ c κs. search needs) loop-holds face-in-requires factor-in-requires
-    with-face-requires (λ c. let t = counted (d (asking (c .before))) in record { fits = omega (arith, a (d (asking (c .before))) .pre .0 .numbered .few) })
+    with-face-requires
+    (λ c.
+    let t = counted (d (asking (c .before))) in
+    record { fits = omega (arith, a (d (asking (c .before))) .pre .0 .numbered .few) })
     (λ c. let t = counted (d (asking (c .before))) in omega arith) loop-again returns)

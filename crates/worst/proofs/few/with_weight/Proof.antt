@@ -81,7 +81,10 @@ returns c =
     let heavy = back w64 (weights (a f)) tt .same in (
       (λ j. record { greatest = up j; least = down j; weight = heavy j }),
       λ n (h : FewAxisSmall n s). record {
-        greatest = rw up (omega (arith, natAbs-add (s .greatest) (greatest (f .before) .is), h .greatest, greatest (f .before) .small));
+        greatest =
+            rw up
+            (omega
+            (arith, natAbs-add (s .greatest) (greatest (f .before) .is), h .greatest, greatest (f .before) .small));
         least = rw down (omega (arith, natAbs-add (s .least) (least f .is), h .least, least f .small));
         weight = rw heavy (omega (arith, natAbs-add (s .weight) (a f .args .weight), h .weight, a f .pre .2));
       },

@@ -84,5 +84,7 @@ insides-of-spec =
     tie.close
     (tie.spec Inv-loop μ-loop (λ c. search needs) (λ c κs. c .before .pre) loop-holds
     (λ c κs. (a c .pre .0, counted c)) (λ c κs. search needs) (λ c κs. search needs)
-    (λ c. let t = counted (c .before .before .before) in record { fits = omega (arith, a (c .before .before .before) .pre .0 .0) })
+    (λ c.
+    let t = counted (c .before .before .before) in
+    record { fits = omega (arith, a (c .before .before .before) .pre .0 .0) })
     (λ c. let t = counted (c .before .before .before) in omega arith) loop-again returns)

@@ -31,7 +31,9 @@ returns c =
     let f = a .args .few in
     let heavy = back w64 (weights a) tt .same in (
       (λ j. record {
-        greatest = (up .plus .ensures .0 ∙ ap (λ z. amountIn (s .greatest) +ℤ z) (read (f .greatest) (a .pre .1 .greatest))) j;
+        greatest =
+            (up .plus .ensures .0
+            ∙ ap (λ z. amountIn (s .greatest) +ℤ z) (read (f .greatest) (a .pre .1 .greatest))) j;
         least = (down .plus2 .ensures .0 ∙ ap (λ z. amountIn (s .least) +ℤ z) (read (f .least) (a .pre .1 .least))) j;
         weight = heavy j;
       }),
