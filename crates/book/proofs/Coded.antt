@@ -20,14 +20,13 @@ use Rattle.building.specs.Ratio.{Limit, _÷_}
 use Rattle.book.specs.declared.roofs.Limit as coded-limits
 use Rattle.book.specs.declared.roofs.Row as coded-rows
 use Rattle.book.specs.declared.roofs.Slope as coded-slopes
-use Rattle.book.specs.declared.walls.Wall as coded
 use Rattle.book.specs.Row.{Row, noRow, hundredths, rowNumbered, Standing, rowsOf}
 use Rattle.book.specs.Gable.{gableParts, gableTable, heights}
 use Rattle.book.specs.Flat.{flatParts, flatTable}
 use Rattle.book.specs.SingleSlope.{singleSlope, singleTable}
 use Rattle.book.specs.Spot.{roofParts}
-use Rattle.book.specs.Walls.{Wall, noWall, walls}
-use Rattle.book.specs.Held.{codedRow, heldRow, codedSlope, heldSlope}
+use Rattle.book.specs.Walls.{Wall}
+use Rattle.book.specs.Held.{codedWall, codedRow, heldRow, codedSlope, heldSlope}
 use Rattle.book.proofs.Ways.{noStanding}
 
 -- a number of a table as the machine has it, z, is the printed one, v
@@ -46,44 +45,21 @@ past-arms n (suc k) (none, d) = let h = past-arms n k none in omega arith
 pub last-arm : (n k : ℕ) → NoArm n k → n ≤ k → n ≡ k
 last-arm n k none h = omega (arith, past-arms n k none)
 
--- ---- the walls' rows: the limits of h/b and of a/b; wind 0, wind 90, local
+-- ---- a row of walls: a number of its columns, from wind 0, wind 90 or the local
 
-abbrev pub coded-wall : Wall → coded.Wall
-coded-wall r =
-    let h = r .high in
-    let a = r .long in
-    let cells = r .row .cells in
-    (h .over, h .under, a .over, a .under, take 4 cells, take 4 (drop 4 cells), getD cells 8 (pos 0))
+module _ (r : Wall) (col : ℕ) where
+  pub wind-0 : col < 4 → getD (codedWall r .4) col (pos 0) ≡ hundredths (r .row) col
+  wind-0 h = getD-take 4 (r .row .cells) col (pos 0) h
 
-abbrev pub codedWall : ℕ → coded.Wall
-codedWall i = getD (map coded-wall walls) i (coded-wall noWall)
-
-pub wall-is : (i : ℕ) → codedWall i ≡ coded-wall (getD walls i noWall)
-wall-is i = List·getD-map coded-wall walls i noWall
-
-module _ (i col : ℕ) where
-  abbrev printed : ℤ
-  printed = hundredths (getD walls i noWall .row) col
-
-  -- a number of the row's, whatever of the row the code reads it from
-  of-row : (f : coded.Wall → ℤ) → ((r : Wall) → f (coded-wall r) ≡ hundredths (r .row) col)
-      → f (codedWall i) ≡ printed
-  of-row f e = ap f (wall-is i) ∙ e (getD walls i noWall)
-
-  pub wind-0 : col < 4 → getD (codedWall i .4) col (pos 0) ≡ printed
-  wind-0 h =
-      of-row (λ (w : coded.Wall). getD (w .4) col (pos 0)) (λ (r : Wall). getD-take 4 (r .row .cells) col (pos 0) h)
-
-  pub wind-90 : 4 ≤ col → col < 8 → getD (codedWall i .5) (col - 4) (pos 0) ≡ printed
+  pub wind-90 : 4 ≤ col → col < 8 → getD (codedWall r .5) (col - 4) (pos 0) ≡ hundredths (r .row) col
   wind-90 g h =
       let e : 4 + (col - 4) ≡ col = omega arith in
-      of-row (λ (w : coded.Wall). getD (w .5) (col - 4) (pos 0))
-      (λ (r : Wall). getD-take 4 (drop 4 (r .row .cells)) (col - 4) (pos 0) (omega arith)
+      getD-take 4 (drop 4 (r .row .cells)) (col - 4) (pos 0) (omega arith)
       ∙ getD-drop 4 (r .row .cells) (col - 4) (pos 0)
-      ∙ ap (λ (n : ℕ). getD (r .row .cells) n (pos 0)) e)
+      ∙ ap (λ (n : ℕ). getD (r .row .cells) n (pos 0)) e
 
-  pub local : col ≡ 8 → codedWall i .6 ≡ printed
-  local e = of-row (λ (w : coded.Wall). w .6) (λ (r : Wall). ap (λ (n : ℕ). getD (r .row .cells) n (pos 0)) (sym e))
+  pub local : col ≡ 8 → codedWall r .6 ≡ hundredths (r .row) col
+  local e = ap (λ (n : ℕ). getD (r .row .cells) n (pos 0)) (sym e)
 
 -- ---- the limits of h/b of a gable's blocks
 

@@ -1,14 +1,25 @@
--- The rows of the roofs' tables as the code holds them: those of gables and flat roofs in one table, part after part,
--- and those of single slopes in another. Only contracts of private functions cite it.
+-- The rows of the tables as the code holds them: those of walls; those of gables and flat roofs in one table, part
+-- after part; and those of single slopes. Only contracts of private functions cite it.
 use mathlib.Core.List.{List, [], _∷_, _++_, map}
 use Prim.Native.Nat.{ℕ}
-use lib.ListN.{getD}
+use lib.IntN.{pos}
+use lib.ListN.{getD, take, drop}
+use Rattle.book.specs.declared.walls.Wall as coded-walls
 use Rattle.book.specs.declared.roofs.Row as coded-rows
 use Rattle.book.specs.declared.roofs.Slope as coded-slopes
 use Rattle.book.specs.Row.{Standing}
+use Rattle.book.specs.Walls.{Wall}
 use Rattle.book.specs.Gable.{gableParts}
 use Rattle.book.specs.Flat.{flatParts}
 use Rattle.book.specs.SingleSlope.{singleSlope}
+
+-- the limits of h/b and of a/b; wind 0, wind 90, local
+abbrev pub codedWall : Wall → coded-walls.Wall
+codedWall r =
+    let h = r .high in
+    let a = r .long in
+    let cells = r .row .cells in
+    (h .over, h .under, a .over, a .under, take 4 cells, take 4 (drop 4 cells), getD cells 8 (pos 0))
 
 abbrev standingIn : List (List Standing) → List Standing
 standingIn [] = []

@@ -8,6 +8,7 @@ ghost use Rattle.building.specs.Order.{SizesInOrder};
 ghost use Rattle.book.specs.Row.{hundredths};
 ghost use Rattle.book.specs.Line.{on, valueAt};
 ghost use Rattle.book.specs.Walls.{noWall, walls, wallRow};
+ghost use Rattle.book.specs.Held.{codedWall};
 use building::Sizes;
 use building::ratio::up_to;
 
@@ -15,14 +16,19 @@ use building::ratio::up_to;
 struct Wall(u32, u32, u32, u32, [i16; 4], [i16; 4], i16);
 
 // h/b to, a/b to; wind 0: A B C D; wind 90: A B C D; local.
-const WALLS: [Wall; 6] = [
-    Wall(1, 2, 3, 2, [70, -20, -50, -50], [-50, -50, 70, -20], -80),
-    Wall(1, 2, 4, 1, [70, -25, -60, -60], [-50, -50, 70, -10], -100),
-    Wall(3, 2, 3, 2, [70, -25, -60, -60], [-60, -60, 70, -25], -110),
-    Wall(3, 2, 4, 1, [70, -30, -70, -70], [-50, -50, 70, -10], -110),
-    Wall(6, 1, 3, 2, [80, -25, -80, -80], [-80, -80, 80, -25], -120),
-    Wall(6, 1, 4, 1, [70, -40, -70, -70], [-50, -50, 80, -10], -120),
-];
+fn printed_wall(row: usize) -> Wall
+    requires { ⌜ row < 6 ⌝ }
+    ensures { λ r. ⌜ r ≡ codedWall (getD walls row noWall) ⌝ }
+{
+    match row {
+        0 => Wall(1, 2, 3, 2, [70, -20, -50, -50], [-50, -50, 70, -20], -80),
+        1 => Wall(1, 2, 4, 1, [70, -25, -60, -60], [-50, -50, 70, -10], -100),
+        2 => Wall(3, 2, 3, 2, [70, -25, -60, -60], [-60, -60, 70, -25], -110),
+        3 => Wall(3, 2, 4, 1, [70, -30, -70, -70], [-50, -50, 70, -10], -110),
+        4 => Wall(6, 1, 3, 2, [80, -25, -80, -80], [-80, -80, 80, -25], -120),
+        _ => Wall(6, 1, 4, 1, [70, -40, -70, -70], [-50, -50, 80, -10], -120),
+    }
+}
 
 // h/b and a/b come up to the limits of a row.
 fn in_row(row: usize, s: Sizes) -> bool
@@ -30,7 +36,7 @@ fn in_row(row: usize, s: Sizes) -> bool
     ensures { λ r. ⌜ (let w = getD walls row noWall in
         r ≡ (upTo (s .h) (s .b) (w .high) && upTo (s .a) (s .b) (w .long))) ⌝ }
 {
-    let w = WALLS[row];
+    let w = printed_wall(row);
     if up_to(s.h, s.b, w.0, w.1) {
         return up_to(s.a, s.b, w.2, w.3);
     }
@@ -56,7 +62,7 @@ fn wall_cell(row: usize, col: usize) -> i16
     requires { ⌜ (row < 6) × (col < 9) ⌝ }
     ensures { λ r. ⌜ r ≡ hundredths (getD walls row noWall .row) col ⌝ }
 {
-    let w = WALLS[row];
+    let w = printed_wall(row);
     if col < 4 {
         return w.4[col];
     }
