@@ -21,7 +21,7 @@ codedWall r =
     let cells = r .row .cells in
     (h .over, h .under, a .over, a .under, take 4 cells, take 4 (drop 4 cells), getD cells 8 (pos 0))
 
-abbrev standingIn : List (List Standing) → List Standing
+abbrev pub standingIn : List (List Standing) → List Standing
 standingIn [] = []
 standingIn (part ∷ parts) = part ++ standingIn parts
 

@@ -33,6 +33,55 @@ struct Row(u16, u16, [i16; 4]);
 // Straight eaves, which a mansard has at 90 degrees.
 const EAVES: [i16; 4] = [-70, 20, -250, -200];
 
+// Table 3.2.2.2.2. A row stands at tenths of a degree. Wind 0 E,F; wind 0 G,H; wind 90 E,G; wind 90 F,H.
+const GABLES: [Row; 22] = [
+    // Gable, h/b to 1/2.
+    Row(1, 0, [-80, -40, -80, -40]),
+    Row(2, 50, [-90, -40, -80, -40]),
+    Row(3, 100, [-120, -40, -80, -60]),
+    Row(4, 200, [-40, -40, -70, -60]),
+    Row(5, 300, [0, -40, -70, -60]),
+    Row(6, 450, [30, -50, -70, -60]),
+    Row(7, 600, [70, -60, -70, -60]),
+    // Gable, h/b over 1/2, to 3/2.
+    Row(8, 0, [-80, -60, -100, -60]),
+    Row(9, 50, [-90, -60, -90, -60]),
+    Row(10, 100, [-110, -60, -80, -60]),
+    Row(11, 200, [-70, -50, -80, -60]),
+    Row(12, 300, [-20, -50, -80, -80]),
+    Row(13, 450, [20, -50, -80, -80]),
+    Row(14, 600, [60, -50, -80, -80]),
+    // Gable, h/b over 3/2, to 6.
+    Row(15, 0, [-70, -60, -90, -70]),
+    Row(16, 50, [-70, -60, -80, -80]),
+    Row(17, 100, [-70, -60, -80, -80]),
+    Row(18, 200, [-80, -60, -80, -80]),
+    Row(19, 300, [-100, -50, -80, -70]),
+    Row(20, 400, [-20, -50, -80, -70]),
+    Row(21, 500, [20, -50, -80, -70]),
+    Row(22, 600, [50, -50, -80, -70]),
+];
+
+// Table 3.2.2.2.4. A row stands at tenths of a degree or, for parapet and curved eaves, at thousandths of h. E; F, with
+// both signs; L1; L2.
+const FLATS: [Row; 11] = [
+    // Flat, straight eaves.
+    Row(1, 0, EAVES),
+    // Flat, parapet.
+    Row(2, 25, [-70, 20, -220, -180]),
+    Row(3, 50, [-70, 20, -200, -160]),
+    Row(4, 100, [-70, 20, -180, -140]),
+    // Flat, curved eaves.
+    Row(5, 50, [-40, 20, -150, -180]),
+    Row(6, 100, [-30, 20, -120, -140]),
+    Row(7, 200, [-30, 20, -80, -80]),
+    // Flat, mansard.
+    Row(8, 300, [-30, 20, -150, -150]),
+    Row(9, 450, [-40, 20, -180, -190]),
+    Row(10, 600, [-50, 20, -190, -190]),
+    Row(1, 900, EAVES),
+];
+
 // Where each part begins among the rows of gable and flat roofs: gable by h/b; straight eaves, parapet, curved eaves,
 // mansard; and the end.
 const FIRST: [usize; 8] = [0, 7, 14, 22, 23, 26, 29, 33];
@@ -87,47 +136,15 @@ fn count_of(k: usize) -> usize
     FIRST[k + 1] - FIRST[k]
 }
 
-// Tables 3.2.2.2.2 and 3.2.2.2.4. A row stands at tenths of a degree or, for parapet and curved eaves, at thousandths
-// of h. Gable: wind 0 E,F; wind 0 G,H; wind 90 E,G; wind 90 F,H. Flat: E; F, with both signs; L1; L2.
+// The rows that the two tables hold, those of gables first: of each only the table that has it is made to be read.
 fn printed_row(n: usize) -> Row
     requires { ⌜ n < 33 ⌝ }
     ensures { λ r. ⌜ r ≡ heldRow n ⌝ }
 {
-    match n {
-        0 => Row(1, 0, [-80, -40, -80, -40]), // Gable, h/b to 1/2.
-        1 => Row(2, 50, [-90, -40, -80, -40]),
-        2 => Row(3, 100, [-120, -40, -80, -60]),
-        3 => Row(4, 200, [-40, -40, -70, -60]),
-        4 => Row(5, 300, [0, -40, -70, -60]),
-        5 => Row(6, 450, [30, -50, -70, -60]),
-        6 => Row(7, 600, [70, -60, -70, -60]),
-        7 => Row(8, 0, [-80, -60, -100, -60]), // Gable, h/b over 1/2, to 3/2.
-        8 => Row(9, 50, [-90, -60, -90, -60]),
-        9 => Row(10, 100, [-110, -60, -80, -60]),
-        10 => Row(11, 200, [-70, -50, -80, -60]),
-        11 => Row(12, 300, [-20, -50, -80, -80]),
-        12 => Row(13, 450, [20, -50, -80, -80]),
-        13 => Row(14, 600, [60, -50, -80, -80]),
-        14 => Row(15, 0, [-70, -60, -90, -70]), // Gable, h/b over 3/2, to 6.
-        15 => Row(16, 50, [-70, -60, -80, -80]),
-        16 => Row(17, 100, [-70, -60, -80, -80]),
-        17 => Row(18, 200, [-80, -60, -80, -80]),
-        18 => Row(19, 300, [-100, -50, -80, -70]),
-        19 => Row(20, 400, [-20, -50, -80, -70]),
-        20 => Row(21, 500, [20, -50, -80, -70]),
-        21 => Row(22, 600, [50, -50, -80, -70]),
-        22 => Row(1, 0, EAVES), // Flat, straight eaves.
-        23 => Row(2, 25, [-70, 20, -220, -180]), // Flat, parapet.
-        24 => Row(3, 50, [-70, 20, -200, -160]),
-        25 => Row(4, 100, [-70, 20, -180, -140]),
-        26 => Row(5, 50, [-40, 20, -150, -180]), // Flat, curved eaves.
-        27 => Row(6, 100, [-30, 20, -120, -140]),
-        28 => Row(7, 200, [-30, 20, -80, -80]),
-        29 => Row(8, 300, [-30, 20, -150, -150]), // Flat, mansard.
-        30 => Row(9, 450, [-40, 20, -180, -190]),
-        31 => Row(10, 600, [-50, 20, -190, -190]),
-        _ => Row(1, 900, EAVES),
+    if n < 22 {
+        return GABLES[n];
     }
+    FLATS[n - 22]
 }
 
 // Table 3.2.2.2.3, at tenths of a degree; the first row is that of 5 to 10 degrees. Wind 0 E,F and G,H; 45 E,F and

@@ -1,21 +1,34 @@
--- `roofs::printed_row`: the rows of the code are those of the definitions.
+-- `roofs::printed_row`: the tables of the code are those of the definitions, the gable's before the flat roofs'.
+use Prim.Native.Nat.{ℕ, _+_, _-_}
+use mathlib.Core.Path.{_≡_, sym, ap, _∙_}
+use mathlib.Core.List.{List, [], map}
 use native.Mathlib.Omega.{arith}
-use Rattle.book.proofs.Coded.{last-arm}
+use lib.ListN.{getD, List·getD-append}
+use lib.Seq.{getD-append-add}
+use Rattle.book.specs.declared.roofs.Row as coded-rows
+use Rattle.book.specs.Gable.{gableParts}
+use Rattle.book.specs.Flat.{flatParts}
+use Rattle.book.specs.Held.{standingIn, codedRow, heldRow}
+use borrow.Author.Needs.{needs}
 use Rattle.book.proofs.roofs.printed_row.Statement.{statement}
 use Rattle.book.proofs.roofs.printed_row.Tie as tie
+
+abbrev gable : List coded-rows.Row
+gable = map codedRow (standingIn gableParts)
+
+abbrev flat : List coded-rows.Row
+flat = map codedRow (standingIn flatParts)
+
+returns : tie.Need-returns
+returns c = sym (List·getD-append gable flat (0, 0, []) (c .before .before .args .n) (c .before .if1 .taken))
+
+returns-2 : tie.Need-returns-2
+returns-2 c =
+    let n = c .before .before .args .n in
+    let q : 22 + (n - 22) ≡ n = omega (arith, c .before .if1 .left) in
+    sym (getD-append-add gable flat (n - 22) (0, 0, [])) ∙ ap heldRow q
 
 pub printed-row-spec : {M : Type 1} → statement M
 printed-row-spec =
     tie.close
-    (tie.spec (λ c. rw (c .match .keys1)) (λ c. rw (c .match .keys2)) (λ c. rw (c .match .keys3))
-    (λ c. rw (c .match .keys4)) (λ c. rw (c .match .keys5)) (λ c. rw (c .match .keys6))
-    (λ c. rw (c .match .keys7)) (λ c. rw (c .match .keys8)) (λ c. rw (c .match .keys9))
-    (λ c. rw (c .match .keys10)) (λ c. rw (c .match .keys11)) (λ c. rw (c .match .keys12))
-    (λ c. rw (c .match .keys13)) (λ c. rw (c .match .keys14)) (λ c. rw (c .match .keys15))
-    (λ c. rw (c .match .keys16)) (λ c. rw (c .match .keys17)) (λ c. rw (c .match .keys18))
-    (λ c. rw (c .match .keys19)) (λ c. rw (c .match .keys20)) (λ c. rw (c .match .keys21))
-    (λ c. rw (c .match .keys22)) (λ c. rw (c .match .keys23)) (λ c. rw (c .match .keys24))
-    (λ c. rw (c .match .keys25)) (λ c. rw (c .match .keys26)) (λ c. rw (c .match .keys27))
-    (λ c. rw (c .match .keys28)) (λ c. rw (c .match .keys29)) (λ c. rw (c .match .keys30))
-    (λ c. rw (c .match .keys31)) (λ c. rw (c .match .keys32))
-    (λ c. rw (last-arm (c .before .args .n) 32 (c .match .rest) (omega (arith, c .before .pre)))))
+    (tie.spec (λ c. search needs) (λ c. search needs) returns (λ c. search needs) (λ c. search needs) returns-2)
