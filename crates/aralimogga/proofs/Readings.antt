@@ -15,6 +15,7 @@ use Rattle.sheet.proofs.Answered.{told-refused, told-accepted, read-refused, re
 use Rattle.worst.specs.declared.Reckoning.{Reckoning}
 use Rattle.worst.specs.Worst.{reckoned}
 use Rattle.worst.proofs.Reckoned.{reckoned-verdict}
+use Rattle.account.specs.Account.{noAccount, accountOf}
 use Rattle.answers.specs.declared.Text.{Text}
 use Rattle.answers.specs.Answers.{noHostText, hostText, noHostExtreme, hostLine, hostTotal}
 
@@ -53,3 +54,16 @@ module _ (s : List ℕ) (w : Reckoning) (e : w ≡ reckoned (reading s)) (line :
       let a = told-accepted s (w .verdict) told z in
       ap (λ (v : Reckoning). hostLine (v .year) (v .six) line) (e ∙ ap reckoned (a .1))
       ∙ sym (ap (λ (x : Reading). hostTotal x line) (a .1))
+
+-- ---- a face in the case of one
+
+module _ (s : List ℕ) (r : Read) (e : r ≡ answer (reading s)) (line face : ℤ) where
+  pub account-refused : Refuses (r .verdict) → noAccount (r .verdict) ≡ accountOf (reading s) line face
+  unfolding accountOf
+  account-refused h = sym (ap (λ (x : Reading). accountOf x line face) (read-refused s r e h))
+
+  pub account-accepted : r .verdict .number ≡ 0
+      → accountOf (judged (r .job)) line face ≡ accountOf (reading s) line face
+  account-accepted z =
+      let a = read-accepted s r e z in
+      ap (λ (x : Reading). accountOf x line face) (a .2 ∙ sym (a .1))

@@ -1,5 +1,6 @@
 // The entry points for a host program in C (include/aralimogga.h). None trusts its caller, and none keeps anything
 // between calls.
+use account::Account;
 use building::Building;
 use building::Dated;
 use entry::Face;
@@ -29,6 +30,7 @@ ghost use Rattle.rose.specs.Taken.{partTaken, endTaken};
 ghost use Rattle.report.specs.Report.{reportText, storedText};
 ghost use Rattle.edits.specs.Edits.{Add, Replace, TakeOut};
 ghost use Rattle.worksheet.specs.Worksheet.{opened, edited};
+ghost use Rattle.account.specs.Account.{accountOf};
 ghost use Rattle.column.specs.Setting.{judgedWith};
 ghost use Rattle.column.specs.Column.{columnVerdict, columnAfter};
 ghost use Rattle.answers.specs.Answers.{hostText, hostCoefficient, hostDouble, hostTotal};
@@ -106,6 +108,18 @@ pub extern "C" fn aral_total(sheet: &[u8], line: i64) -> answers::Extreme
         return answers::no_extreme(w.verdict);
     }
     answers::line_of(w.year, w.six, line)
+}
+
+// The account of one face, from 1, in the case of such a line.
+#[no_mangle]
+pub extern "C" fn aral_share(sheet: &[u8], line: i64, face: i64) -> Account
+    ensures { λ r. ⌜ r ≡ accountOf (reading (now (sheet .entry))) line face ⌝ }
+{
+    let shared = sheet::read::read_sheet(sheet);
+    if shared.verdict.number != 0 {
+        return account::no_account(shared.verdict);
+    }
+    account::account_of(shared.job, line, face)
 }
 
 // ---- a worksheet

@@ -99,6 +99,7 @@ pub use Rattle.worst.proofs.within.all_within.Reads as all-within
 pub use Rattle.worst.proofs.sums_of.Reads as sums-of
 pub use Rattle.worst.proofs.worst_stored.Reads as worst-stored
 pub use Rattle.worst.proofs.forces_of.Reads as forces-of
+pub use Rattle.worst.proofs.under_wind.Reads as under-wind
 pub use Rattle.plain.proofs.plain_cases.Reads as plain-cases
 pub use Rattle.report.proofs.write_report.Reads as write-report
 pub use Rattle.report.proofs.write_read.Reads as write-read
@@ -125,6 +126,8 @@ pub use Rattle.answers.proofs.line_of.Reads as line-of
 pub use Rattle.column.proofs.column_of.Reads as column-of
 pub use Rattle.column.proofs.column_in.Reads as column-in
 pub use Rattle.claims.proofs.LentFaces as gather
+pub use Rattle.account.proofs.no_account.Reads as no-account
+pub use Rattle.account.proofs.account_of.Reads as account-of
 pub use Rattle.aralimogga.proofs.aral_read.Reads as aral-read
 pub use Rattle.aralimogga.proofs.aral_where.Reads as aral-where
 pub use Rattle.aralimogga.proofs.aral_rewrite.Reads as aral-rewrite
@@ -133,6 +136,7 @@ pub use Rattle.aralimogga.proofs.aral_plain.Reads as aral-plain
 pub use Rattle.claims.proofs.LentColumn as aral-column
 pub use Rattle.aralimogga.proofs.aral_mend.Reads as aral-mend
 pub use Rattle.aralimogga.proofs.aral_total.Reads as aral-total
+pub use Rattle.aralimogga.proofs.aral_share.Reads as aral-share
 pub use Rattle.aralimogga.proofs.aral_open.Reads as aral-open
 pub use Rattle.aralimogga.proofs.aral_add.Reads as aral-add
 pub use Rattle.aralimogga.proofs.aral_replace.Reads as aral-replace

@@ -361,6 +361,9 @@ worst-stored-determined κ a r r′ s s′ p q = same p q
 forces-of-determined : OneAnswer of.forces-of.Post
 forces-of-determined κ a r r′ s s′ p q = same p q
 
+under-wind-determined : OneAnswer of.under-wind.Post
+under-wind-determined κ a r r′ s s′ p q = same p q
+
 -- ---- plain
 
 plain-cases-determined : OneAnswer of.plain-cases.Post
@@ -453,6 +456,14 @@ column-in-determined κ a r r′ s s′ p q = same-both p q
 gather-determined : OneAnswer of.gather.Post
 gather-determined κ a r r′ s s′ p q = same p q
 
+-- ---- account
+
+no-account-determined : OneAnswer of.no-account.Post
+no-account-determined κ a r r′ s s′ p q = same p q
+
+account-of-determined : OneAnswer of.account-of.Post
+account-of-determined κ a r r′ s s′ p q = same p q
+
 -- ---- aralimogga
 
 aral-read-determined : OneAnswer of.aral-read.Post
@@ -479,6 +490,9 @@ aral-mend-determined κ a r r′ s s′ p q = same-three p q
 
 aral-total-determined : OneAnswer of.aral-total.Post
 aral-total-determined κ a r r′ s s′ p q = same p q
+
+aral-share-determined : OneAnswer of.aral-share.Post
+aral-share-determined κ a r r′ s s′ p q = same p q
 
 aral-open-determined : OneAnswer of.aral-open.Post
 aral-open-determined κ a r r′ s s′ p q = same p q

@@ -159,7 +159,7 @@ module _ (g : Setting) (faces : List Face) where
   unfolding judgedWith
   faultless f = fault.lines-faultless (linesOf (carriedWith g faces)) f
 
-no-line : (year : ℤ) (six : Six) (line : ℤ) → ((axis : Axis) (side : Side) → line ≡ pos (lineNumber axis side) → ⊥)
+pub no-line : (year : ℤ) (six : Six) (line : ℤ) → ((axis : Axis) (side : Side) → line ≡ pos (lineNumber axis side) → ⊥)
     → hostLine year six line .verdict ≡ refusal 3 0
 no-line year six line n = go (line-told year six line)
   where

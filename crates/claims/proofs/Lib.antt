@@ -7,6 +7,7 @@ pub mod Demand3
 pub mod Panel
 pub mod PanelOfPairs
 pub mod Where
+pub mod Share
 pub mod Outside
 pub mod Paper01
 pub mod Paper02

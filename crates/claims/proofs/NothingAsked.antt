@@ -335,6 +335,9 @@ worst-stored-asks κ a = tt
 forces-of-asks : AsksNothing of.forces-of.Asked
 forces-of-asks κ a = tt
 
+under-wind-asks : AsksNothing of.under-wind.Asked
+under-wind-asks κ a = tt
+
 -- ---- plain
 
 plain-cases-asks : AsksNothing of.plain-cases.Asked
@@ -427,6 +430,14 @@ column-in-asks κ a = tt
 gather-asks : AsksNothing of.gather.Asked
 gather-asks κ a = tt
 
+-- ---- account
+
+no-account-asks : AsksNothing of.no-account.Asked
+no-account-asks κ a = tt
+
+account-of-asks : AsksNothing of.account-of.Asked
+account-of-asks κ a = tt
+
 -- ---- aralimogga
 
 aral-read-asks : AsksNothing of.aral-read.Asked
@@ -452,6 +463,9 @@ aral-mend-asks κ a = tt
 
 aral-total-asks : AsksNothing of.aral-total.Asked
 aral-total-asks κ a = tt
+
+aral-share-asks : AsksNothing of.aral-share.Asked
+aral-share-asks κ a = tt
 
 aral-open-asks : AsksNothing of.aral-open.Asked
 aral-open-asks κ a = tt

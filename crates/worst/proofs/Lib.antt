@@ -45,3 +45,4 @@ pub mod ReadSheet  -- a sheet that was read
 pub mod Reckoned  -- refused, or accepted as what it carries
 pub mod PerFace  -- the forces of each face under a wind and an internal coefficient
 pub mod Rows  -- and these handed over, row by row
+pub mod FaceUnder  -- one face under one wind

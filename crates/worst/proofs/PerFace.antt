@@ -30,7 +30,7 @@ use Rattle.worst.specs.Forces.{Given, acts, factorOf, pressure, outsides
 use Rattle.worst.specs.Worst.{given}
 use Rattle.worst.specs.Engine.{facesOf}
 use Rattle.worst.specs.Factors.{profileOf}
-use Rattle.worst.specs.PerFace.{faceForces, noForce, noFaceForces, forcesUpTo, cellForces, forcesAt}
+use Rattle.worst.specs.PerFace.{faceForces, noForce, noFaceForces, forcesUpTo, cellForces, numbered, forcesAt}
 use Rattle.worst.specs.AtPressure.{coefficientsOf, forcesWith, forcesBy}
 use Rattle.worst.proofs.CarriedFaces.{asCarried, same-factor}
 use Rattle.worst.proofs.Accepted.{given-in-range}
@@ -135,14 +135,22 @@ module _ (j : Job) (w i : ℕ) where
   unfolding carried
   internal-numbered from to = firstOf-getD (pos 0) (j .internals .count) (i - 1) (j .internals .entry) (omega arith)
 
-  -- whether the record has one of that number
+  -- whether the record has a wind of that number, and some list so many
+  pub both-numbered : {A X : Type 0} (l : List A) (n : ℕ) → length l ≡ n → (here none : X) (p q : Bool)
+      → (leb 1 w && leb w (j .winds .count)) ≡ p → (leb 1 i && leb i n) ≡ q
+      → cond (numbered (g .winds) w && numbered l i) here none ≡ cond (p && q) here none
+  unfolding carried
+  both-numbered l n long here none p q e d =
+      let winds = firstOf-length noWind (j .winds .count) (j .winds .entry) in
+      let a = ap (λ n. leb 1 w && leb w n) winds ∙ e in
+      let b = ap (λ n. leb 1 i && leb i n) long ∙ d in
+      λ k. cond (a k && b k) here none
+
   pub forces-numbered : (p q : Bool) → (leb 1 w && leb w (j .winds .count)) ≡ p
       → (leb 1 i && leb i (j .internals .count)) ≡ q
       → forcesAt g w i ≡ cond (p && q) (cellForces g (windAt g w) (internalAt g i)) (forcesUpTo [])
   unfolding carried
-  forces-numbered p q e d =
-      let winds = firstOf-length noWind (j .winds .count) (j .winds .entry) in
-      let internals = firstOf-length (pos 0) (j .internals .count) (j .internals .entry) in
-      let a = ap (λ n. leb 1 w && leb w n) winds ∙ e in
-      let b = ap (λ n. leb 1 i && leb i n) internals ∙ d in
-      λ k. cond (a k && b k) (cellForces g (windAt g w) (internalAt g i)) (forcesUpTo [])
+  forces-numbered =
+      both-numbered (g .internals) (j .internals .count)
+      (firstOf-length (pos 0) (j .internals .count) (j .internals .entry))
+      (cellForces g (windAt g w) (internalAt g i)) (forcesUpTo [])

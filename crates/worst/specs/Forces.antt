@@ -12,7 +12,7 @@ use Rattle.book.specs.Question.{net}
 use Rattle.entry.specs.declared.Wind.{Wind}
 use Rattle.entry.specs.declared.Step.{Step}
 use Rattle.entry.specs.declared.Face.{Face}
-use Rattle.job.specs.Carried.{noWind}
+use Rattle.job.specs.Carried.{noWind, noFace}
 use Rattle.entry.specs.Says.{both}
 use Rattle.worst.specs.declared.speeds.Factor.{Factor}
 use Rattle.whole.specs.Lists.{numbers}
@@ -68,12 +68,15 @@ force axis g w internal f k =
 
 -- ---- all of them
 
--- the wind and the internal coefficient of a number, from 1
+-- the wind, the internal coefficient and the face of a number, from 1
 abbrev pub windAt : Given → ℕ → Wind
 windAt g w = getD (g .winds) (w - 1) noWind
 
 abbrev pub internalAt : Given → ℕ → ℤ
 internalAt g i = getD (g .internals) (i - 1) (pos 0)
+
+abbrev pub faceAt : Given → ℕ → Face
+faceAt g k = getD (g .faces) (k - 1) noFace
 
 -- winds, internal coefficients and alternatives by their numbers
 abbrev pub loads : Axis → Given → Loads ℕ ℕ Face ℕ

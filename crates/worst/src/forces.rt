@@ -190,7 +190,7 @@ fn cell_at(job: Job, wind: u32, internal: u32) -> CellForces
 }
 
 // Whether there is one of that number, from 1.
-fn is_numbered(count: u32, number: u32) -> bool
+pub(crate) fn is_numbered(count: u32, number: u32) -> bool
     ensures { λ r. ⌜ r ≡ (leb 1 number && leb number count) ⌝ }
 {
     if number < 1 {

@@ -6,6 +6,7 @@ ghost use Rattle.sheet.specs.Sheet.{reading};
 ghost use Rattle.worst.specs.Worst.{reckoned, worstOf};
 ghost use Rattle.worst.specs.Stored.{storedIn, reckonedBy};
 ghost use Rattle.worst.specs.PerFace.{forcesIn};
+ghost use Rattle.worst.specs.UnderWind.{underIn};
 use job::Job;
 use pair::Pair;
 use verdict::Verdict;
@@ -28,6 +29,7 @@ mod engine; // the sums of all cells, and the six extremes that they tell
 mod read; // a sheet, read and reckoned
 mod reckon; // a refusal, or the six extremes
 mod forces; // the force of each face, for whoever adds up cases one by one
+mod under; // one face under one wind
 
 pub enum Side {
     Greatest,
@@ -110,6 +112,13 @@ pub struct CellForces {
     pub face: [FaceForces; 240],
 }
 
+// One face under one wind: whether it takes part, the speed there in tenths of m/s, and its pressure number.
+pub struct UnderWind {
+    pub acts: bool,
+    pub speed: i64,
+    pub pressure: i64,
+}
+
 // A sheet's refusal, or its six extremes. No record is made of it.
 pub fn worst_in(s: &[u8]) -> Reckoning
     ensures { λ r. ⌜ r ≡ reckoned (reading (now (s .entry))) ⌝ }
@@ -151,4 +160,13 @@ pub fn forces_of(job: Job, wind: u32, internal: u32) -> CellForces
 {
     let v = job::judge::judge(job);
     forces::forces_by(job, wind, internal, v)
+}
+
+// A job's face under the wind of these numbers, from 1: zeros where there is no such face or wind, or where the job is
+// refused.
+pub fn under_wind(job: Job, wind: u32, face: u32) -> UnderWind
+    ensures { λ r. ⌜ r ≡ underIn wind face (judged job) ⌝ }
+{
+    let v = job::judge::judge(job);
+    under::under_by(job, wind, face, v)
 }

@@ -32,7 +32,7 @@ fn factor_between(s: Step, t: Step, height: i64) -> Factor
 }
 
 // The factor at a height: a walk up the profile.
-fn factor_at(profile: Profile, height: i64) -> Factor
+pub(crate) fn factor_at(profile: Profile, height: i64) -> Factor
     requires { ⌜ ProfileSmall profile × Height height ⌝ }
     ensures { λ r. ⌜ r ≡ factorAt (stepsOf profile) height ⌝ }
 {
