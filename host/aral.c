@@ -99,7 +99,7 @@ static int panel(void)
     for (int line = 1; line <= 6; line++) {
         aral_extreme e = aral_total(sheet, length, line);
         if (e.number) {
-            explain(sheet, length, (aral_answer){e.number, e.line});
+            explain_refusal(sheet, length, (aral_answer){e.number, e.line});
             return REFUSED;
         }
         printf("%s ", line_name(line));
@@ -243,7 +243,7 @@ static void refuse_building(const int64_t *v, aral_answer refusal)
                   "B 1\n%" PRId64 " %" PRId64 " %" PRId64 " %" PRId64 " %" PRId64 " %" PRId64 "\n", v[H], v[A], v[B],
                   v[DENSITY], v[KIND], v[X]);
     printf("The building is refused as line %u of its sheet would be:\n", refusal.line);
-    explain((const uint8_t *)sheet, (size_t)n, refusal);
+    explain_refusal((const uint8_t *)sheet, (size_t)n, refusal);
 }
 
 static int refuse_question(const question *q, const aral_coefficient *c)
