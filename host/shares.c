@@ -1,7 +1,7 @@
 /* Asks the library and the plain calculator for shares: shares SEED SHEETS. Sheets are lent against pages that can't be
-   touched. Every field must be the same; on each line the forces must add up to the total and the newtons to the column,
-   each force be net x pressure x area, and the steps those of the other entry points. Some sheets are spoiled. It stops
-   where something is not so. */
+   touched. Every field must be the same. On each line the forces must add up to the total, the newtons be the column,
+   each force be net x pressure x area, and the steps be those of the other entry points. Some sheets are spoiled. It
+   stops where something is not so. */
 #include "aralimogga.h"
 #include "fence.h"
 #include "plain.h"

@@ -16,6 +16,9 @@
 #define HEIGHTS(year) \
     "V 1\n" year "\n" FLAT "W 1\n0 401\nI 1\n20\nP 2\n0 800\n1000 1000\nF 2\nA 0 255 5000 0 0\nB 0 255 -5000 0 0\n"
 
+/* Half of 401 is 200.5, and a half goes up: 1250 x 201^2 = 50501250, and 700 x 50501250 x 10 units are 17.6754375 N. */
+#define HALVES "V 1\n3\n" FLAT "W 1\n0 401\nI 1\n0\nP 2\n0 500\n1000 500\nF 2\nA 0 255 10 0 0\nA 0 1000 -10 0 0\n"
+
 /* A gable of 12.3 degrees: from row 3, -1.20, 23/100 of the way to row 4, -0.40, is -1.016; less 0.20 it is -1.216, and
    1216 x 112500000 x 268 = 36662400000000 units are 1833.12 N. */
 #define GABLE "B 1\n500 1200 1000 1250 1 123\nW 1\n0 300\nI 1\n20\nF 1\nE - 268 0 -1000\n"
@@ -55,6 +58,10 @@ static const worked_share shares[] = {
      {0, 0, 'B', 1, 1, 1, 0, 1, -200, -400, 341, 145351250, -5000, 290702500000000, 14535}},
     {"year 4: the same", HEIGHTS("4"), 2, 1,
      {0, 0, 'A', 1, 1, 1, 0, 1, 700, 500, 341, 145351250, 5000, 363378125000000, 18169}},
+    {"half a tenth goes up between two heights", HALVES, 1, 1,
+     {0, 0, 'A', 1, 1, 1, 0, 1, 700, 700, 201, 50501250, 10, 353508750000, 18}},
+    {"and at one of them; minus 17.67 N, to which less remains", HALVES, 1, 2,
+     {0, 0, 'A', 1, 1, 1, 0, 1, 700, 700, 201, 50501250, -10, -353508750000, -18}},
     {"between two rows of a gable, towards minus infinity", GABLE, 1, 1,
      {0, 0, 'E', 1, 3, 4, 23, 100, -1016, -1216, 300, 112500000, 268, -36662400000000, -1834}},
     {"a half away from zero", CURVED, 5, 1,
