@@ -2,7 +2,8 @@
 #ifndef CAPTURED_H
 #define CAPTURED_H
 
-/* From here on what is printed is kept, until it is taken as a text, to be freed; NULL where that can't be had. */
+/* From here on what is printed is kept, until it is taken as a text, to be freed. Answer 0 and NULL where there is no
+   memory for it. */
 int begin_capture(void);
 char *end_capture(void);
 

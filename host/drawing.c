@@ -5,7 +5,7 @@
 #include <inttypes.h>
 #include <stdio.h>
 
-enum { WIDE = 700, TALL = 200, TOP = 60, LEFT = 104 }; /* of the drawing, of a view, above it and beside it */
+enum { WIDE = 700, TALL = 200, TOP = 60, LEFT = 112 }; /* of the drawing, of a view, above it and beside it */
 
 /* A building, the scale in units of the drawing for 1 cm, and where the views stand on the ground. */
 typedef struct { const aral_job *job; const aral_building *g; double scale, ground, panel; } sketch;

@@ -210,10 +210,15 @@ static void print_line(const explained *e, int line)
 
 static int print_refused(const uint8_t *sheet, size_t n, int longer)
 {
-    if (!begin_capture()) return MISUSED;
-    check_sheet(sheet, n, longer);
-    char *said = end_capture();
-    if (!said) return MISUSED;
+    char *said = NULL;
+    if (begin_capture()) {
+        check_sheet(sheet, n, longer);
+        said = end_capture();
+    }
+    if (!said) {
+        fprintf(stderr, "aral: there is no memory for what is said of the sheet\n");
+        return MISUSED;
+    }
     printf("<p class=\"lead\">The sheet is refused. `aral check` says of it:</p>\n<pre>");
     print_html(said);
     printf("</pre>\n");

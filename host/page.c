@@ -16,7 +16,7 @@ static const char style[] =
     ".lead,figcaption,.note{color:#57606a}\n"
     "figure{margin:4mm 0 0}\n"
     "figcaption,.note{font-size:8pt}\n"
-    "svg{display:block;width:100%;height:auto}\n"
+    "svg{display:block;width:100%;height:auto;overflow:visible}\n"
     "pre{font:9pt/1.4 \"DejaVu Sans Mono\",\"Liberation Mono\",Menlo,Consolas,monospace;white-space:pre-wrap;"
     "overflow-wrap:anywhere;border-left:.8mm solid #d0d7de;margin:3mm 0;padding:1mm 0 1mm 4mm}\n"
     "table{border-collapse:collapse;width:100%;font-size:7.4pt;line-height:1.35;font-variant-numeric:tabular-nums}\n"
