@@ -6,25 +6,6 @@
 
 enum { LINE = 11 };
 
-void draw_text(double x, double y, const char *anchor, const char *more, const char *text)
-{
-    printf("<text x=\"%.1f\" y=\"%.1f\" text-anchor=\"%s\"%s>%s</text>\n", x, y, anchor, more, text);
-}
-
-/* The head is drawn as a part of it: a marker would need a name that is the page's own. */
-void draw_arrow(double x, double y, double to_x, double to_y, const char *kind)
-{
-    double dx = to_x - x, dy = to_y - y, length = dx > 0 ? dx : -dx;
-    if ((dy > 0 ? dy : -dy) > length) length = dy > 0 ? dy : -dy;
-    dx /= length;
-    dy /= length;
-    double back = dx != 0 && dy != 0 ? 5 : 7, side = dx != 0 && dy != 0 ? 2.2 : 3;
-    printf("<path class=\"%s\" d=\"M%.1f %.1fL%.1f %.1f\"/>\n", kind, x, y, to_x - back * dx, to_y - back * dy);
-    printf("<path class=\"%s-head\" d=\"M%.1f %.1fL%.1f %.1fL%.1f %.1fZ\"/>\n", kind, to_x, to_y,
-           to_x - back * dx - side * dy, to_y - back * dy + side * dx, to_x - back * dx + side * dy,
-           to_y - back * dy - side * dx);
-}
-
 static int winds_of_direction(const aral_job *j, int64_t direction)
 {
     int count = 0;
