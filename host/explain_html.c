@@ -124,8 +124,8 @@ static void print_steps(void)
     printf("<section>\n<h2>How each force is reckoned</h2>\n<p>net = outside &minus; internal. pressure = density × "
            "speed² / 2. force = net × pressure × area. Nothing is rounded but the coefficient outside, to a "
            "thousandth, and from year 2 on the speed at the face, to a tenth. The newtons of the last column are "
-           "whole: forces rounded down, and one more for the largest remainders, so that they add up to the total rounded "
-           "down.</p>\n</section>\n");
+           "whole: forces rounded down, and one more for the largest remainders, so that they add up to the total "
+           "rounded down.</p>\n</section>\n");
 }
 
 /* ---- A line ---- */
