@@ -1,11 +1,13 @@
 /* aral: the calculator on the command line, for people. It links libaralimogga.a and reckons nothing itself: where it
-   shows each case, or a column, it adds up the faces' forces; of a rose it adds up cells. */
+   shows each case, a column or every step, it adds up the faces' forces; of a rose it adds up cells. */
 #include "aralimogga.h"
 #include "cases.h"
 #include "check.h"
 #include "edit.h"
+#include "explained.h"
 #include "handout.h"
 #include "help.h"
+#include "mark.h"
 #include "mend.h"
 #include "rose.h"
 #include "rows.h"
@@ -99,7 +101,7 @@ static int panel(void)
     for (int line = 1; line <= 6; line++) {
         aral_extreme e = aral_total(sheet, length, line);
         if (e.number) {
-            explain(sheet, length, (aral_answer){e.number, e.line});
+            explain_refusal(sheet, length, (aral_answer){e.number, e.line});
             return REFUSED;
         }
         printf("%s ", line_name(line));
@@ -243,7 +245,7 @@ static void refuse_building(const int64_t *v, aral_answer refusal)
                   "B 1\n%" PRId64 " %" PRId64 " %" PRId64 " %" PRId64 " %" PRId64 " %" PRId64 "\n", v[H], v[A], v[B],
                   v[DENSITY], v[KIND], v[X]);
     printf("The building is refused as line %u of its sheet would be:\n", refusal.line);
-    explain((const uint8_t *)sheet, (size_t)n, refusal);
+    explain_refusal((const uint8_t *)sheet, (size_t)n, refusal);
 }
 
 static int refuse_question(const question *q, const aral_coefficient *c)
@@ -314,6 +316,20 @@ static int on_sheet(const char *name, int (*run)(void)) { return load(name) ? ru
 
 static int each_case(void) { return show_cases(sheet, length); }
 
+static int explain(char **word)
+{
+    if (!strcmp(word[0], "--html"))
+        return load(word[2]) ? explain_as_page(word[1], word[2], sheet, length, longer) : MISUSED;
+    return load(word[0]) ? explain_as_text(word[0], sheet, length, longer) : MISUSED;
+}
+
+static int mark_sheets(char **word)
+{
+    if (!strcmp(word[0], "--csv")) return mark_folder(word[1], print_marks_csv);
+    if (!strcmp(word[0], "--html")) return mark_folder(word[1], print_marks_page);
+    return mark_folder(word[0], print_marks);
+}
+
 /* Runs a command, whose words are as many as it takes. */
 static int run_command(const char *name, int count, char **word)
 {
@@ -322,6 +338,8 @@ static int run_command(const char *name, int count, char **word)
     int option = !strcmp(word[0], "--svg") || !strcmp(word[0], "--cases");
     if (!strcmp(name, "rose")) return show_rose(word[option], option);
     if (!strcmp(name, "column")) return column(word[0], count - 1, word + 1);
+    if (!strcmp(name, "explain")) return explain(word);
+    if (!strcmp(name, "mark")) return mark_sheets(word);
     if (option) return on_sheet(word[1], each_case);
     if (!strcmp(name, "edit") && !strcmp(word[0], "-"))
         return misused(name, "standard input has the lines of the dialogue, and the sheet can't be", word[0]);

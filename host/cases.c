@@ -60,7 +60,7 @@ static aral_text walked(const uint8_t *sheet, size_t n, uint8_t out[ARAL_REPORT_
     aral_text report = aral_plain(sheet, n, out, ARAL_REPORT_MOST);
     job = aral_open(sheet, n).worksheet.job;
     if (report.number == ARAL_CASES) explain_choosing();
-    else if (report.number) explain(sheet, n, (aral_answer){report.number, report.line});
+    else if (report.number) explain_refusal(sheet, n, (aral_answer){report.number, report.line});
     return report;
 }
 

@@ -17,7 +17,7 @@ int check_sheet(const uint8_t *sheet, size_t n, int longer)
         tell_unnamed_winds(sheet, n);
         return ACCEPTED;
     }
-    explain(sheet, n, answer);
+    explain_refusal(sheet, n, answer);
     tell_others(sheet, n);
     if (longer) printf("\nOf this text the first %zu bytes were looked at: no sheet is so long.\n", n);
     else tell_mending(sheet, n, answer);

@@ -132,7 +132,7 @@ static int settle(const aral_edited *e, int64_t face, const sheet_text *sheet)
         return show("");
     }
     if (e->line == 0) explain_count(face, e->number);
-    else explain((const uint8_t *)sheet->text, sheet->length, (aral_answer){e->number, e->line});
+    else explain_refusal((const uint8_t *)sheet->text, sheet->length, (aral_answer){e->number, e->line});
     return REFUSED;
 }
 
@@ -230,7 +230,7 @@ int edit(const uint8_t *sheet, size_t n)
 {
     aral_edited opened = aral_open(sheet, n);
     if (opened.number) {
-        explain(sheet, n, (aral_answer){opened.number, opened.line});
+        explain_refusal(sheet, n, (aral_answer){opened.number, opened.line});
         return REFUSED;
     }
     held = opened.worksheet;

@@ -81,7 +81,7 @@ static void tell_missing(int64_t missing)
 /* A column is refused with the sheet's own line, or else for its report line. */
 static int refuse(const uint8_t *sheet, size_t n, aral_answer answer, int64_t line)
 {
-    if (answer.line) explain(sheet, n, answer);
+    if (answer.line) explain_refusal(sheet, n, answer);
     else printf("refused with %u: there is no report line %" PRId64 "; they are 1 (%s) to 6 (%s)\n", answer.number,
                 line, line_name(1), line_name(6));
     return REFUSED;

@@ -34,54 +34,68 @@ static const char help_brief[] =
     "  aral help COMMAND  that of one command, as aral COMMAND --help\n"
     "  aral --version     the version, which is that of the library's header\n";
 
-/* A command: its name, the option that it may begin with, how many words it takes after that, and what they are; then
-   what it does, in the list of commands, and what else there is to say of it. */
+/* A command: its name, the options of which it may begin with one, and how many words that takes; how many words it
+   takes after that, and what they are; then what it does, in the list of commands, and what else there is to say of
+   it. */
 typedef struct {
-    const char *name, *option;
-    int least, most;
+    const char *name, *option[2];
+    int taken, least, most;
     const char *words, *brief, *more;
 } command;
 
 static const command commands[] = {
-    {"totals", "", 1, 1, "FILE",
+    {"totals", {""}, 0, 1, 1, "FILE",
      "  aral totals FILE   the six worst totals: axis, max or min, total, wind, internal, each face's alternative\n",
      "A sheet that is refused gets the line `refused` in `totals`, with the number of the refusal and the sheet's "
      "line.\n"},
-    {"check", "", 1, 1, "FILE",
+    {"check", {""}, 0, 1, 1, "FILE",
      "  aral check FILE    whether the sheet is accepted, and if not, which line is wrong and what it may say;\n"
      "                     of an accepted one also which of its winds change nothing, of another also whether\n"
      "                     mending would help\n",
      ""},
-    {"mend", "", 1, 1, "FILE",
+    {"mend", {""}, 0, 1, 1, "FILE",
      "  aral mend FILE     the sheet without slips of the keyboard; on standard error what was taken out, at which\n"
      "                     byte of which line, and what is refused all the same: aral mend FILE >NEW\n",
      "`mend` takes out carriage returns, spaces that follow a space or end a line, a plus before a number and zeros\n"
      "that lead it, and ends the last line. It changes nothing else, and a sheet in form not at all. Its status is 1\n"
      "where the mended sheet is refused.\n"},
-    {"plain", "--cases", 1, 1, "FILE",
+    {"plain", {"--cases"}, 0, 1, 1, "FILE",
      "  aral plain FILE    the same six lines by the plain engine, which walks every case, and how many there were\n"
      "  aral plain --cases FILE   each of these cases, with its totals on x, y and z\n",
      "`plain` takes a sheet of which at most 8 faces have two alternatives: zone F of a flat roof, under a wind of\n"
      "its mark.\n"},
-    {"column", "", 2, 3, "FILE and LINE",
+    {"column", {""}, 0, 2, 3, "FILE and LINE",
      "  aral column FILE LINE     whole newtons for each face that add up to the total of one line, for the handout;\n"
      "                            LINE is 1 to 6, or as the line begins: aral column FILE x max\n",
      ""},
-    {"panel", "", 1, 1, "FILE",
+    {"panel", {""}, 0, 1, 1, "FILE",
      "  aral panel FILE    the six totals in newtons, and the doubles that a panel shows for them\n",
      "In `panel` newtons are cut to three decimals, so 0.000 N is any force below a thousandth, either way.\n"},
-    {"edit", "", 1, 1, "FILE",
+    {"explain", {"--html"}, 1, 1, 1, "FILE",
+     "  aral explain FILE  every step from the printed row to the six lines: for each line a table of the faces, with\n"
+     "                     rows, coefficients, speed, pressure, area and force, every digit, that adds up\n"
+     "  aral explain --html OUT FILE   the same as a page to print, with the building drawn to scale; - for standard\n"
+     "                     output\n",
+     "The page of `explain --html` is one file without scripts, fit for A4. One of a refused sheet has what `check`\n"
+     "says of it.\n"},
+    {"mark", {"--csv", "--html"}, 0, 1, 1, "FOLDER",
+     "  aral mark FOLDER   every sheet of a folder, by name: its verdict and its six totals in newtons, every digit\n"
+     "  aral mark --csv FOLDER    the same for a spreadsheet: aral mark --csv FOLDER >marks.csv\n"
+     "  aral mark --html FOLDER   the same as a page: aral mark --html FOLDER >marks.html\n",
+     "`mark` leaves out names that begin with a dot, and looks into no folder in FOLDER. Its status is that of the\n"
+     "worst file: 1 where a sheet is refused, 2 where a file can't be read.\n"},
+    {"edit", {""}, 0, 1, 1, "FILE",
      "  aral edit FILE     faces added, replaced and taken out line by line, with the six totals after each;\n"
      "                     its `help` says how, and its lines may come through a pipe\n",
      "The status of `edit` is the worst of its lines: 1 where an edit was refused, 2 where a line was none of its own\n"
      "or a file could not be written.\n"},
-    {"rose", "--svg", 1, 1, "FILE",
+    {"rose", {"--svg"}, 0, 1, 1, "FILE",
      "  aral rose FILE     a wind rose as a table: the observations of FILE by sector and Beaufort number\n"
      "  aral rose --svg FILE      the same as a drawing, for a browser: aral rose --svg FILE >rose.svg\n",
      "The FILE of `rose`, or - for standard input, has a line for each observation, written as those of a sheet: the\n"
      "direction that the wind comes from, in whole degrees, 0 to 359, and its speed in tenths of m/s, 0 to 1000. It\n"
      "may have 1000000 lines.\n"},
-    {"ask", "", 0, 1000, "",
+    {"ask", {""}, 0, 0, 1000, "",
      "  aral ask WORDS     one coefficient and the printed rows that it comes from, as:\n"
      "                       aral ask h 500 a 1200 b 1000 kind 1 x 123 wind 0 zone E internal -30\n"
      "                       aral ask year 3 h 500 a 1000 b 1000 wind 0 zone B\n",
@@ -101,7 +115,10 @@ enum { COMMANDS = sizeof commands / sizeof *commands };
 
 /* ---- Help ---- */
 
-static int takes_sheet(const command *c) { return strcmp(c->name, "ask") && strcmp(c->name, "rose"); }
+static int takes_sheet(const command *c)
+{
+    return strcmp(c->name, "ask") && strcmp(c->name, "rose") && strcmp(c->name, "mark");
+}
 
 static int help_all(void)
 {
@@ -174,12 +191,26 @@ static int asks_help(int count, char **word)
     return 0;
 }
 
+/* How many words the option has that these begin with, its own among them; 0 where they begin with none. */
+static int words_of_option(const command *c, int count, char **word)
+{
+    for (int i = 0; i < 2 && c->option[i] && count > 0; i++)
+        if (*c->option[i] && !strcmp(word[0], c->option[i])) return 1 + c->taken;
+    return 0;
+}
+
+static int looks_like_option(const char *word) { return word[0] == '-' && word[1]; }
+
 /* Whether so many words can be the command's, and FILE none that looks like an option. */
 static int judge_words(const command *c, int count, char **word)
 {
-    if (count > 0 && *c->option && !strcmp(word[0], c->option)) count--, word++;
+    int taken = words_of_option(c, count, word);
     if (c->least == 0) return -1;
-    if (count > 0 && word[0][0] == '-' && word[0][1])
+    if (taken > count) return misused_shape(c, "nothing stands after", word[0]);
+    if (taken > 1 && looks_like_option(word[1])) return misused_shape(c, "not the name of a file:", word[1]);
+    count -= taken;
+    word += taken;
+    if (count > 0 && looks_like_option(word[0]))
         return misused_shape(c, "neither a FILE nor a word of this command:", word[0]);
     if (count < c->least) return misused_shape(c, "this command needs", c->words);
     if (count > c->most) return misused_shape(c, "one word too many:", word[c->most]);
@@ -209,15 +240,17 @@ int answer_front(int count, char **word)
 #include <sys/stat.h>
 #include <unistd.h>
 
-/* A file that can't be read is told before the calculator is built for it. It is not opened: a pipe is read once. */
-static int judge_file(char **word)
+/* What can't be read is told before the calculator is built for it. It is not opened: a pipe is read once. */
+static int judge_file(int count, char **word)
 {
     const command *c = command_of(word[0]);
     struct stat about;
     if (c->least == 0) return 3;
-    const char *name = word[*c->option && !strcmp(word[1], c->option) ? 2 : 1];
-    if (!strcmp(name, "-")) return 3;
-    int reason = access(name, R_OK) || stat(name, &about) ? errno : S_ISDIR(about.st_mode) ? EISDIR : 0;
+    const char *name = word[1 + words_of_option(c, count - 1, word + 1)];
+    int folder = !strcmp(c->name, "mark"), reason = 0;
+    if (!strcmp(name, "-") && !folder) return 3;
+    if (access(name, R_OK) || stat(name, &about)) reason = errno;
+    else if (!S_ISDIR(about.st_mode) != !folder) reason = folder ? ENOTDIR : EISDIR;
     if (reason) fprintf(stderr, "aral: %s can't be read: %s\n", name, strerror(reason));
     return reason ? MISUSED : 3;
 }
@@ -229,6 +262,6 @@ int main(int argc, char **argv)
         perror("aral: standard output can't be written");
         return MISUSED;
     }
-    return status < 0 ? judge_file(argv + 1) : status;
+    return status < 0 ? judge_file(argc - 1, argv + 1) : status;
 }
 #endif

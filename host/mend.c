@@ -185,7 +185,7 @@ int show_mended(const uint8_t *sheet, size_t n)
     aral_answer refusal = {m.answer.refused_number, m.answer.refused_line};
     if (m.answer.changes) tell_changes(&m, sheet, n);
     fputs(m.answer.changes ? "Mended, the sheet is " : "There was nothing to mend: the sheet is ", stdout);
-    if (refusal.number) explain(m.text, m.answer.length, refusal);
+    if (refusal.number) explain_refusal(m.text, m.answer.length, refusal);
     else printf("accepted.\n");
     release(&m);
     return written && !refusal.number ? ACCEPTED : REFUSED;

@@ -1,7 +1,7 @@
 /* The plain calculator: an ordinary C program for the same entry points, written from the papers alone. It shares no
    code and no table with the proved crates, so that where the two differ one of them misread the papers.
-   Worksheets are in plain_edits.c, the column in plain_column.c, mending in plain_mend.c, roses in plain_rose.c, and
-   where a fault lies in plain_where.c. */
+   Worksheets are in plain_edits.c, the column in plain_column.c, shares in plain_share.c, mending in plain_mend.c,
+   roses in plain_rose.c, and where a fault lies in plain_where.c. */
 #include "plain.h"
 #include "step.h"
 #include <string.h>

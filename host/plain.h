@@ -1,6 +1,6 @@
 /* The entry points of the plain calculator: those of aralimogga.h, under another prefix. Worksheets are in
-   plain_edits.c, the column in plain_column.c, mending in plain_mend.c, roses in plain_rose.c, where a fault lies in
-   plain_where.c, all others in plain.c. */
+   plain_edits.c, the column in plain_column.c, shares in plain_share.c, mending in plain_mend.c, roses in plain_rose.c,
+   where a fault lies in plain_where.c, all others in plain.c. */
 #ifndef PLAIN_H
 #define PLAIN_H
 
@@ -21,6 +21,7 @@ aral_text plain_report(const uint8_t *sheet, size_t n, uint8_t *out, size_t room
 aral_text plain_plain(const uint8_t *sheet, size_t n, uint8_t *out, size_t room);
 aral_extreme plain_total(const uint8_t *sheet, size_t n, int64_t line);
 aral_answer plain_column(aral_setting s, const aral_face *faces, size_t n, int64_t line, int64_t *column, size_t room);
+aral_part plain_share(const uint8_t *sheet, size_t n, int64_t line, int64_t face);
 aral_text plain_digits(int64_t number, uint8_t *out, size_t room);
 aral_coefficient plain_outside(int64_t year, int64_t h, int64_t a, int64_t b, int64_t density, int64_t kind, int64_t x,
                                int64_t direction, uint8_t place);

@@ -2,6 +2,7 @@
    asked of the library at that place, so that no coefficient is written twice. */
 #include "rows.h"
 #include <stdio.h>
+#include <string.h>
 
 /* Gables at tenths of a degree: rows 1 to 7 for h/b to 1/2, 8 to 14 to 3/2, 15 to 22 above. */
 static const int gable_at[] = {0, 50, 100, 200, 300, 450, 600, 0, 50, 100, 200, 300, 450, 600,
@@ -17,18 +18,29 @@ static const struct { int kind, at; } flat_at[] = {{2, 0},   {3, 25},  {3, 50}, 
 
 static int on_wall(const asked *q) { return (q->place >= 'A' && q->place <= 'D') || q->place == 'w'; }
 
-/* Where a row stands, as the book says it. */
-static void print_place_of_row(const asked *q, uint32_t row)
+const char *row_name(const asked *q, uint32_t row, char name[ROW_NAME_ROOM])
 {
     static const char *const tall[] = {"to 1/2", "over 1/2 to 3/2", "over 3/2 to 6"};
     static const char *const wide[] = {"to 3/2", "over 3/2 to 4"};
     uint32_t k = row - 1;
-    if (on_wall(q)) printf("h/b %s, a/b %s", tall[k / 2], wide[k % 2]);
-    else if (q->kind == 1) printf("%d degrees", gable_at[k] / 10);
-    else if (q->kind == 6) printf("%s%d degrees", k == 0 ? "5 to " : "", single_at[k] / 10);
-    else if (flat_at[k].kind == 2) printf("straight eaves%s", q->kind == 5 ? " at 90 degrees" : "");
-    else if (flat_at[k].kind == 5) printf("%d degrees", flat_at[k].at / 10);
-    else printf("x/h 0.%03d", flat_at[k].at);
+    size_t n = ROW_NAME_ROOM;
+    if (on_wall(q)) snprintf(name, n, "h/b %s, a/b %s", tall[k / 2], wide[k % 2]);
+    else if (q->kind == 1) snprintf(name, n, "%d degrees", gable_at[k] / 10);
+    else if (q->kind == 6) snprintf(name, n, "%s%d degrees", k == 0 ? "5 to " : "", single_at[k] / 10);
+    else if (flat_at[k].kind == 2) snprintf(name, n, "straight eaves%s", q->kind == 5 ? " at 90 degrees" : "");
+    else if (flat_at[k].kind == 5) snprintf(name, n, "%d degrees", flat_at[k].at / 10);
+    else snprintf(name, n, "x/h 0.%03d", flat_at[k].at);
+    return name;
+}
+
+const char *short_row_name(const asked *q, uint32_t row, char name[ROW_NAME_ROOM])
+{
+    static const char *const tall[] = {"1/2", "3/2", "6"};
+    uint32_t k = row - 1;
+    char *degrees = strstr(row_name(q, row, name), " degrees");
+    if (on_wall(q)) snprintf(name, ROW_NAME_ROOM, "h/b to %s, a/b to %s", tall[k / 2], k % 2 ? "4" : "3/2");
+    else if (degrees) strcpy(degrees, "°");
+    return name;
 }
 
 /* What is printed for the place in a row of a roof's table. On flat roofs h, a and b make no difference: those here
@@ -57,20 +69,18 @@ static void print_decimals(const aral_coefficient *c, int decimals)
 
 static void print_row(const asked *q, uint32_t row)
 {
+    char name[ROW_NAME_ROOM];
     aral_coefficient printed = printed_in(q, row);
-    printf("row %u (", row);
-    print_place_of_row(q, row);
-    printf(", ");
+    printf("row %u (%s, ", row, row_name(q, row, name));
     print_decimals(&printed, 2);
     printf(")");
 }
 
 void print_rows(const asked *q, const aral_coefficient *c)
 {
+    char name[ROW_NAME_ROOM];
     if (c->lower == c->upper) {
-        printf("row %u (", c->lower);
-        print_place_of_row(q, c->lower);
-        printf(")");
+        printf("row %u (%s)", c->lower, row_name(q, c->lower, name));
     } else {
         printf("between ");
         print_row(q, c->lower);

@@ -30,6 +30,7 @@ static union {
     aral_mended mended;
     aral_place place;
     aral_extreme extreme;
+    aral_part part;
     aral_coefficient coefficient;
     aral_edited edited;
     aral_rose rose;
@@ -49,6 +50,7 @@ CALL(report, text, SHEET, out, OUT)
 CALL(plain, text, SHEET, out, OUT)
 CALL(total, extreme, SHEET, 5)
 CALL(column, answer, setting_of(&held.job), held.job.faces.entry, held.job.faces.count, 5, column, ARAL_FACES_MOST)
+CALL(share, part, SHEET, 5, held.job.faces.count)
 CALL(digits, text, INT64_MIN, out, OUT)
 CALL(outside, coefficient, HOUSE)
 CALL(net, coefficient, HOUSE, 20)
@@ -78,7 +80,8 @@ static struct { const char *name; void (*call)(void); size_t most; } entry[] = {
     {"rose_new", call_rose_new, 0},   {"rose_take", call_rose_take, 0},
     {"rose_end", call_rose_end, 0},   {"panel", call_panel, 0},
     {"chart", call_chart, 0},         {"panel_newtons", call_panel_newtons, 0},
-    {"chart_newtons", call_chart_newtons, 0}, {"where", call_where, 0}};
+    {"chart_newtons", call_chart_newtons, 0}, {"where", call_where, 0},
+    {"share", call_share, 0}};
 enum { ENTRIES = sizeof entry / sizeof *entry };
 
 /* ---- How much it takes ---- */

@@ -1,5 +1,5 @@
 /* The words that the commands share: what sections, lines and fields are called, and what a refusal is (words.c); what
-   a refusal means, for a first-year student (explain.c, observation.c); which zones and winds a building has
+   a refusal means, for a first-year student (refusal.c, observation.c); which zones and winds a building has
    (allowed.c); and what an accepted sheet holds (held.c). */
 #ifndef WORDS_H
 #define WORDS_H
@@ -7,7 +7,7 @@
 #include "aralimogga.h"
 
 /* Prints the refusal of a sheet: the line it names with a mark under the field, what stands there and what may. */
-void explain(const uint8_t *sheet, size_t n, aral_answer refusal);
+void explain_refusal(const uint8_t *sheet, size_t n, aral_answer refusal);
 
 /* The same of a file of observations, by the line it names: its text, of which `kept` of `length` bytes are at hand. */
 void explain_observation(const uint8_t *line, size_t kept, size_t length, int ended, aral_answer refusal);

@@ -8,10 +8,10 @@
 static const calculator both[] = {
     {"library", aral_read, aral_where, aral_report, aral_plain, aral_outside, aral_net, aral_total, aral_panel,
      aral_panel_newtons, aral_chart_newtons, aral_open, aral_add, aral_replace, aral_take_out, aral_show, aral_write,
-     aral_column, aral_mend, aral_rose_new, aral_rose_take, aral_rose_end},
+     aral_column, aral_share, aral_mend, aral_rose_new, aral_rose_take, aral_rose_end},
     {"plain", plain_read, plain_where, plain_report, plain_plain, plain_outside, plain_net, plain_total, plain_panel,
      plain_panel_newtons, plain_chart_newtons, plain_open, plain_add, plain_replace, plain_take_out, plain_show,
-     plain_write, plain_column, plain_mend, plain_rose_new, plain_rose_take, plain_rose_end}};
+     plain_write, plain_column, plain_share, plain_mend, plain_rose_new, plain_rose_take, plain_rose_end}};
 static int cases, failures;
 
 void expect(const calculator *c, const char *what, int holds)
@@ -510,6 +510,7 @@ int main(void)
         check_long(&both[i]);
         check_engine(&both[i]);
         check_newtons(&both[i]);
+        check_shares(&both[i]);
         check_places(&both[i]);
         check_mending(&both[i]);
         check_roses(&both[i]);

@@ -23,6 +23,7 @@ typedef struct {
     aral_text (*show)(aral_worksheet, uint8_t *, size_t);
     aral_text (*write)(aral_worksheet, uint8_t *, size_t);
     aral_answer (*column)(aral_setting, const aral_face *, size_t, int64_t, int64_t *, size_t);
+    aral_part (*share)(const uint8_t *, size_t, int64_t, int64_t);
     aral_mended (*mend)(const uint8_t *, size_t, uint8_t *, size_t, uint64_t *, size_t);
     aral_rose (*rose_new)(void);
     aral_rose (*rose_take)(aral_rose, const uint8_t *, size_t);
@@ -33,12 +34,13 @@ typedef struct {
 void expect(const calculator *c, const char *what, int holds);
 
 /* The worked edits (worked_edits.c), and the worked cases of long sheds (worked_long.c), of the plain engine
-   (worked_engine.c), of the newton column (worked_column.c), of where a fault lies (worked_where.c), of mending
-   (worked_mend.c) and of wind roses (worked_rose.c). */
+   (worked_engine.c), of the newton column (worked_column.c), of shares (worked_share.c), of where a fault lies
+   (worked_where.c), of mending (worked_mend.c) and of wind roses (worked_rose.c). */
 void check_edits(const calculator *c);
 void check_long(const calculator *c);
 void check_engine(const calculator *c);
 void check_newtons(const calculator *c);
+void check_shares(const calculator *c);
 void check_places(const calculator *c);
 void check_mending(const calculator *c);
 void check_roses(const calculator *c);

@@ -24,7 +24,7 @@
    6       the zone or local is not on this building; on one with roof kind 6 also a wall in another wind than 0 and 90
    7       a lent buffer, column or list is too short (line 0)
    8       the face's height is outside the profile
-   9       there is no such face to be edited (line 0)
+   9       there is no such face, to be edited or to have a share (line 0)
    10      more than 8 faces have two alternatives under at least one of the job's winds (line 0); by aral_plain alone
    11      an observation comes after 1,000,000 accepted ones; by a rose alone, whose other refusals are 1 and 3
 
@@ -58,8 +58,8 @@ extern "C" {
 
 /* The version of these shapes: it rises where a record or a call changes. 2: a coefficient names its rows. 3: a
    question names its year. 4: worksheets. 5: a worksheet keeps its sums. 6: the plain engine. 7: newton columns.
-   8: sheets mended. 9: wind roses. 10: long sheds. 11: where a fault lies. */
-#define ARAL_VERSION 11
+   8: sheets mended. 9: wind roses. 10: long sheds. 11: where a fault lies. 12: a face's share of a total. */
+#define ARAL_VERSION 12
 
 /* The refusals by name. */
 enum {
@@ -184,6 +184,25 @@ typedef struct {
     uint32_t wind, internal, faces;
     uint8_t alternative[ARAL_FACES_MOST];
 } aral_extreme;
+
+/* What one face brings to one of the six totals, step by step, in the case that reaches it. `zone` is the letter of its
+   zone and `alternative` the one that it has there, from 1. `lower`, `upper`, `part` and `whole` are the rows and the
+   fraction of its printed table, as in aral_coefficient. `outside` is that alternative's outside coefficient and `net`
+   its net one, both in thousandths.
+   `speed` is the wind's at the face, in tenths of m/s; `pressure` is the density times the speed squared, in units of
+   0.000005 Pa; `area` is the face's on the line's axis, in dm2 as on the sheet. `force` is net times pressure times
+   area, in units of 0.00000000005 N, which 64 bits hold also in year 4; the forces of all faces add up to the total.
+   `newtons` is the face's entry in the column of aral_column for the line.
+   A face that takes no part under the case's wind, being marked for another direction, has alternative 1, and 0 for
+   rows, fraction, both coefficients, force and newtons. Its speed, pressure and area are given too.
+   Everything after `line` is 0 where refused. */
+typedef struct {
+    uint32_t number, line;
+    uint8_t zone, alternative;
+    uint32_t lower, upper, part, whole;
+    int32_t outside, net;
+    int64_t speed, pressure, area, force, newtons;
+} aral_part;
 
 /* `exact` 1: low and high are both the number. `exact` 0: no double equals it, low is the nearest double below and
    high the nearest above. Of newtons and a remainder aral_panel_newtons says what they are. */
@@ -314,6 +333,12 @@ aral_extreme aral_total(const uint8_t *sheet, size_t n, int64_t line);
    column of `room` entries that is shorter than the faces with 7, line 0. A refused call changes no entry of the
    column. */
 aral_answer aral_column(aral_setting s, const aral_face *faces, size_t n, int64_t line, int64_t *column, size_t room);
+
+/* Reads a sheet and answers what face `face`, counted from 1, brings to the total of one report line, named 1 to 6 as
+   for aral_total.
+   Refuses, in this order: with 1 to 6 or 8 and the sheet's line as aral_read does; another report line with 3, line 0;
+   a face other than 1 to the count of the sheet's faces with 9, line 0. */
+aral_part aral_share(const uint8_t *sheet, size_t n, int64_t line, int64_t face);
 
 /* Writes the decimal digits of any number, most significant first, after a `-` where it is negative.
    Refuses only with 7, line 0, where the text is longer than `room`. The buffer as for aral_rewrite.

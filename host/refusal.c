@@ -370,7 +370,7 @@ static const char *counted(const fault *f)
     return count;
 }
 
-void explain(const uint8_t *sheet, size_t n, aral_answer refusal)
+void explain_refusal(const uint8_t *sheet, size_t n, aral_answer refusal)
 {
     const fault *f = look_at(sheet, n);
     printf("refused with %u at line %u: %s\n", refusal.number, refusal.line, title_of(refusal.number));
