@@ -40,6 +40,15 @@ Both P e = P (e .greatest) × P (e .least)
 abbrev pub AllSix : (Extreme → Type 0) → Six → Type 0
 AllSix P six = Both P (six .x) × Both P (six .y) × Both P (six .z)
 
+-- lists that are the alternatives of the six, in the order of the lines
+pub record Own (six : Six) (xHigh xLow yHigh yLow zHigh zLow : List ℕ) : Type 0 where
+  pub x-high : xHigh ≡ six .x .greatest .alternative
+  pub x-low : xLow ≡ six .x .least .alternative
+  pub y-high : yHigh ≡ six .y .greatest .alternative
+  pub y-low : yLow ≡ six .y .least .alternative
+  pub z-high : zHigh ≡ six .z .greatest .alternative
+  pub z-low : zLow ≡ six .z .least .alternative
+
 -- how many faces the job has, by its first line
 abbrev pub facesShown : Six → ℕ
 facesShown six = six .x .greatest .faces

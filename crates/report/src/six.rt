@@ -11,7 +11,7 @@ ghost use mathlib.Core.Path.{_≡_};
 ghost use mathlib.Core.List.{[], _∷_, _++_};
 ghost use Rattle.page.specs.Writing.{Put};
 ghost use Rattle.report.specs.Lines.{spaced, caseNumbers, totalText, axisText, sixText, x};
-ghost use Rattle.report.specs.Short.{Fair, Digits, Printable, Both, AllSix, facesShown, afterWord};
+ghost use Rattle.report.specs.Short.{Fair, Digits, Printable, Both, AllSix, Own, facesShown, afterWord};
 
 fn wide(n: u8) -> u32
     ensures { λ r. ⌜ r ≡ n ⌝ }
@@ -76,33 +76,49 @@ fn put_total(buf: &mut [u8], at: usize, year: i64, p: Pair) -> usize
     digits::put_decimal(buf, at, pair::as_units(p))
 }
 
-// A line after its axis and word: the total, and the numbers of its case.
+// A line after its axis and word: the total, whose pair is made anew so that no more of e is copied, and the numbers
+// of its case.
 fn put_line(buf: &mut [u8], at: usize, year: i64, e: Extreme, alternative: &[u8; 240]) -> usize
     requires { ⌜ Printable year 240 e × (now alternative ≡ e .alternative)
         × (at + length (afterWord year e) ≤ length (now buf)) ⌝ }
     ensures { λ r. ⌜ Put (now (buf .entry)) at (afterWord year e) (now (buf .exit)) r ⌝ }
 {
-    let next = put_total(buf, at, year, e.total);
+    let total = Pair {
+        newtons: e.total.newtons,
+        remainder: e.total.remainder,
+    };
+    let next = put_total(buf, at, year, total);
     put_case(buf, next, e, alternative)
 }
 
-// All six, for which there is room.
-pub(crate) fn put_six(buf: &mut [u8], year: i64, s: Six) -> usize
-    requires { ⌜ AllSix (Printable year 240) s × (length (sixText year s) ≤ length (now buf)) ⌝ }
+// All six, for which there is room, with the alternatives of each, lent.
+pub(crate) fn put_six<'a>(
+    buf: &mut [u8],
+    year: i64,
+    s: Six,
+    x_high: &'a [u8; 240],
+    x_low: &'a [u8; 240],
+    y_high: &'a [u8; 240],
+    y_low: &'a [u8; 240],
+    z_high: &'a [u8; 240],
+    z_low: &'a [u8; 240],
+) -> usize
+    requires { ⌜ AllSix (Printable year 240) s × (length (sixText year s) ≤ length (now buf))
+        × Own s (now «x_high») (now «x_low») (now «y_high») (now «y_low») (now «z_high») (now «z_low») ⌝ }
     ensures { λ r. ⌜ Put (now (buf .entry)) 0 (sixText year s) (now (buf .exit)) r ⌝ }
 {
     let named = page::put_bytes(buf, 0, b"x max ");
-    let next = put_line(buf, named, year, s.x.greatest, &s.x.greatest.alternative);
+    let next = put_line(buf, named, year, s.x.greatest, x_high);
     let named = page::put_bytes(buf, next, b"x min ");
-    let next = put_line(buf, named, year, s.x.least, &s.x.least.alternative);
+    let next = put_line(buf, named, year, s.x.least, x_low);
     let named = page::put_bytes(buf, next, b"y max ");
-    let next = put_line(buf, named, year, s.y.greatest, &s.y.greatest.alternative);
+    let next = put_line(buf, named, year, s.y.greatest, y_high);
     let named = page::put_bytes(buf, next, b"y min ");
-    let next = put_line(buf, named, year, s.y.least, &s.y.least.alternative);
+    let next = put_line(buf, named, year, s.y.least, y_low);
     let named = page::put_bytes(buf, next, b"z max ");
-    let next = put_line(buf, named, year, s.z.greatest, &s.z.greatest.alternative);
+    let next = put_line(buf, named, year, s.z.greatest, z_high);
     let named = page::put_bytes(buf, next, b"z min ");
-    put_line(buf, named, year, s.z.least, &s.z.least.alternative)
+    put_line(buf, named, year, s.z.least, z_low)
 }
 
 // How long a line is.

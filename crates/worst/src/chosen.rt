@@ -11,7 +11,7 @@ ghost use Rattle.worst.specs.Forces.{area};
 ghost use Rattle.worst.specs.Shown.{padded};
 ghost use Rattle.worst.specs.Engine.{pick, pickOf, topAt, extremeWith, sixWith, caseWind, sixWinds, sixOf};
 ghost use Rattle.worst.specs.Small.{OutsideSmall, Weight, Met, Ready, OnJob};
-ghost use Rattle.worst.specs.Lent.{facesBy, jobBy, Numbered, Lent};
+ghost use Rattle.worst.specs.Lent.{facesBy, jobBy, Numbered, Lent, Blank};
 ghost use Rattle.worst.specs.Table.{Filled};
 ghost use Rattle.worst.specs.Factors.{profileOf, Fraction, FactorsStand, Fractions};
 use crate::Axis;
@@ -150,7 +150,7 @@ fn before_f(faces: u32, flat: &[i64]) -> usize
     i
 }
 
-// All six in one pass over the faces.
+// All six in one pass over the faces, into lists that hold zeros.
 fn all_chosen(
     s: Setting,
     faces: u32,
@@ -159,22 +159,25 @@ fn all_chosen(
     under: SixWinds,
     parts: &[i64],
     wholes: &[i64],
-) -> Six
+    x_high: &mut [u8; 240],
+    x_low: &mut [u8; 240],
+    y_high: &mut [u8; 240],
+    y_low: &mut [u8; 240],
+    z_high: &mut [u8; 240],
+    z_low: &mut [u8; 240],
+)
     requires { ⌜ Lent faces (now flat) (now parts) (now wholes) × Ready (jobBy s faces (now flat))
         × Fractions (facesBy faces (now flat)) (now parts) (now wholes)
         × FactorsStand (profileOf (jobBy s faces (now flat))) (facesBy faces (now flat)) (now parts) (now wholes)
         × ((axis : Axis) (side : Side) → OnJob (jobBy s faces (now flat)) (topAt axis side ends))
-        × (under ≡ sixWinds (s .building) (s .winds) ends) ⌝ }
-    ensures { λ r. ⌜ r ≡ sixOf (jobBy s faces (now (flat .entry))) ends ⌝ }
+        × (under ≡ sixWinds (s .building) (s .winds) ends)
+        × Blank (now «x_high») (now «x_low») (now «y_high») (now «y_low») (now «z_high») (now «z_low») ⌝ }
+    ensures { λ r. ⌜ sixWith ends faces (now («x_high» .exit)) (now («x_low» .exit)) (now («y_high» .exit))
+        (now («y_low» .exit)) (now («z_high» .exit)) (now («z_low» .exit))
+        ≡ sixOf (jobBy s faces (now (flat .entry))) ends ⌝ }
 {
     let b = s.building;
     let count = faces as usize;
-    let mut x_high = [0u8; 240];
-    let mut x_low = [0u8; 240];
-    let mut y_high = [0u8; 240];
-    let mut y_low = [0u8; 240];
-    let mut z_high = [0u8; 240];
-    let mut z_low = [0u8; 240];
     let mut i = 0;
     while i < count {
         if zone_in(flat, i) != b'F' {
@@ -197,7 +200,6 @@ fn all_chosen(
         z_low[i] = one_of_two(Axis::Z, Side::Least, b, under.z.least, k, f);
         i += 1;
     }
-    six_cases(ends, faces, x_high, x_low, y_high, y_low, z_high, z_low)
 }
 
 // The six cases: without a face of zone F nothing is chosen.
@@ -226,5 +228,26 @@ pub(crate) fn shown(
         return six_cases(ends, faces, all, all, all, all, all, all);
     }
     let under = six_winds(s.building, s.winds, ends, asked, first, last);
-    all_chosen(s, faces, flat, ends, under, parts, wholes)
+    let mut x_high = [0u8; 240];
+    let mut x_low = [0u8; 240];
+    let mut y_high = [0u8; 240];
+    let mut y_low = [0u8; 240];
+    let mut z_high = [0u8; 240];
+    let mut z_low = [0u8; 240];
+    all_chosen(
+        s,
+        faces,
+        flat,
+        ends,
+        under,
+        parts,
+        wholes,
+        &mut x_high,
+        &mut x_low,
+        &mut y_high,
+        &mut y_low,
+        &mut z_high,
+        &mut z_low,
+    );
+    six_cases(ends, faces, x_high, x_low, y_high, y_low, z_high, z_low)
 }

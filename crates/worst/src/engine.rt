@@ -250,23 +250,45 @@ fn own_six(s: Setting, faces: u32, flat: &[i64], parts: &mut [i64], wholes: &mut
     )
 }
 
-// Few faces need less room.
+// Few faces need less room, and take less: this is the way of nearly every report, by itself so that no record is
+// copied on it.
 pub(crate) fn few_six(s: Setting, faces: u32, flat: &[i64]) -> Six
     requires { ⌜ (faces ≤ 24) × Numbered faces (now flat) × InOrder (carried (jobBy s faces (now flat))) ⌝ }
     ensures { λ r. ⌜ r ≡ sixExtremes (carried (jobBy s faces (now (flat .entry)))) ⌝ }
 {
     let mut parts = [1i64; 24];
     let mut wholes = [1i64; 24];
-    own_six(s, faces, flat, &mut parts, &mut wholes)
+    fill(s, faces, flat, &mut parts, &mut wholes);
+    let mut asked = [false; 40];
+    let mut first = [0i64; 40];
+    let mut last = [0i64; 40];
+    let ends = few_best(
+        s,
+        faces,
+        flat,
+        &parts,
+        &wholes,
+        &mut asked,
+        &mut first,
+        &mut last,
+    );
+    shown(
+        s,
+        faces,
+        flat,
+        ends,
+        &parts,
+        &wholes,
+        &mut asked,
+        &mut first,
+        &mut last,
+    )
 }
 
 pub(crate) fn six_of(s: Setting, faces: u32, flat: &[i64]) -> Six
     requires { ⌜ Numbered faces (now flat) × InOrder (carried (jobBy s faces (now flat))) ⌝ }
     ensures { λ r. ⌜ r ≡ sixExtremes (carried (jobBy s faces (now (flat .entry)))) ⌝ }
 {
-    if faces <= 24 {
-        return few_six(s, faces, flat);
-    }
     let mut parts = [1i64; 240];
     let mut wholes = [1i64; 240];
     own_six(s, faces, flat, &mut parts, &mut wholes)

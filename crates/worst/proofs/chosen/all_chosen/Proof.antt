@@ -1,5 +1,5 @@
 -- `chosen::all_chosen` meets its contract: after i faces the alternatives of the first i stand in all six arrays.
-use mathlib.Core.Path.{_≡_, refl, sym, ap, _∙_, subst}
+use mathlib.Core.Path.{_≡_, sym, ap, _∙_, subst}
 use mathlib.Core.List.{List}
 use Prim.Native.Nat.{ℕ, _+_, _-_, _≤_, _<_}
 use native.Mathlib.Omega.{arith}
@@ -55,19 +55,28 @@ record All (Holds : Axis → Side → List ℕ → Type 0) (xh xl yh yl zh zl : 
   z-low : Holds Z Least zl
 
 abbrev Inv-loop : tie.InvT-loop
-Inv-loop faces flat ends under parts wholes b count xh₀ xl₀ yh₀ yl₀ zh₀ zl₀ i₀ xh xl yh yl zh zl i =
+Inv-loop faces flat under parts wholes xh₀ xl₀ yh₀ yl₀ zh₀ zl₀ b count i₀ xh xl yh yl zh zl i =
     (i ≤ count)
     × ((profile : List Step) → FactorsStand profile (facesBy faces flat) parts wholes
     → All (HoldsFirst b under profile (facesIn faces flat) i) xh xl yh yl zh zl)
 
 abbrev μ-loop : tie.MeasureT-loop
-μ-loop faces flat ends under parts wholes b count xh₀ xl₀ yh₀ yl₀ zh₀ zl₀ i₀ xh xl yh yl zh zl i = count - i
+μ-loop faces flat under parts wholes xh₀ xl₀ yh₀ yl₀ zh₀ zl₀ b count i₀ xh xl yh yl zh zl i = count - i
 
 loop-holds : tie.Need-loop-holds Inv-loop μ-loop
 unfolding padded firstOf
 loop-holds c = (
   search needs,
-  λ profile h. record { x-high = refl; x-low = refl; y-high = refl; y-low = refl; z-high = refl; z-low = refl },
+  λ profile h.
+      let z = c .before .pre .6 in
+      record {
+        x-high = z .x-high;
+        x-low = z .x-low;
+        y-high = z .y-high;
+        y-low = z .y-low;
+        z-high = z .z-high;
+        z-low = z .z-low;
+      },
 )
 
 -- each of the six is the case wind of its top
@@ -246,14 +255,11 @@ module _ (c : tie.After-loop Inv-loop μ-loop) where
       (firstOf noFace (all j) (job .faces .entry)))
 
 returns : tie.Need-returns Inv-loop μ-loop
-returns c =
-    let d = c .before in
+returns d =
     let held = d .before .loop .inv .1 (profileOf (job d)) (start d .pre .3) in
-    c .six-cases .ensures
-    ∙ (λ j.
-    sixWith (start d .args .ends) (job d .faces .count) (done d X Greatest (held .x-high) j)
+    λ j. sixWith (start d .args .ends) (job d .faces .count) (done d X Greatest (held .x-high) j)
     (done d X Least (held .x-low) j) (done d Y Greatest (held .y-high) j) (done d Y Least (held .y-low) j)
-    (done d Z Greatest (held .z-high) j) (done d Z Least (held .z-low) j))
+    (done d Z Greatest (held .z-high) j) (done d Z Least (held .z-low) j)
 
 pub all-chosen-spec : {M : Type 1} → statement M
 all-chosen-spec =
@@ -274,4 +280,4 @@ all-chosen-spec =
     (λ c. room (z (c .before .before .before .before .before .before)))
     (λ c. let t = room (z (c .before .before .before .before .before .before)) in record { fits = omega arith })
     (λ c. let t = counted (z (c .before .before .before .before .before .before)) in omega arith)
-    loop-again-2 (λ c κs. search needs) returns)
+    loop-again-2 returns)

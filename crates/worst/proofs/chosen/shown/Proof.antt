@@ -1,6 +1,6 @@
 -- `chosen::shown` meets its contract: without a face of zone F every alternative is the first, and with one zone F has
 -- a place under every wind.
-use mathlib.Core.Path.{_≡_, sym, ap, _∙_, subst}
+use mathlib.Core.Path.{_≡_, refl, sym, ap, _∙_, subst}
 use mathlib.Core.List.{List}
 use Prim.Native.Nat.{ℕ, _-_, _<_}
 use native.Mathlib.Omega.{arith}
@@ -104,8 +104,31 @@ six-winds-requires c κs =
     let some : b .before-f .result < a .args .faces = omega (arith, told .0) in
     ((λ axis s. reached a axis s (b .before-f .result) some (told .2 some)), a .pre .5)
 
+-- the winds of the six, at the call that chooses by them
+abbrev winded : tie.After-z-low → tie.After-six-winds
+winded c = c .before .before .before .before .before .before
+
+abbrev from : tie.After-six-winds → tie.Start
+from w = w .before .before .before .before .before .before
+
+all-chosen-requires : tie.Need-all-chosen-requires
+all-chosen-requires c κs =
+    let w = winded c in
+    let p = from w .pre in (
+      p .0,
+      p .1,
+      p .2,
+      p .3,
+      p .4,
+      w .six-winds .ensures,
+      record { x-high = refl; x-low = refl; y-high = refl; y-low = refl; z-high = refl; z-low = refl },
+    )
+
+returns-2 : tie.Need-returns-2
+returns-2 c = c .six-cases2 .ensures ∙ c .before .all-chosen .ensures
+
 pub shown-spec : {M : Type 1} → statement M
 shown-spec =
     tie.close
     (tie.spec (λ c κs. search needs) (λ c κs. search needs) (λ c κs. search needs) returns six-winds-requires
-    (λ c κs. search needs) (λ c. search needs))
+    all-chosen-requires (λ c κs. search needs) returns-2)
