@@ -120,10 +120,10 @@ one-sign kind zone e = go (flatRoof kind) (eqb zone F) e
     go false u e = refl
 
 -- E and F of a flat roof are the first two of four columns
-pub flat-wide : (kind : ℕ) → twoSigns kind F ≡ true → 0 < width kind
-flat-wide kind e =
+pub flat-wide : (kind col : ℕ) → twoSigns kind F ≡ true → col < 4 → col < width kind
+flat-wide kind col e h =
     let k = among-yes 2 5 kind (and-true (flatRoof kind) true (flat-signs kind e) .0) in
-    rw (ne-eqb kind 6 (λ p. omega arith)) (lit< tt)
+    rw (ne-eqb kind 6 (λ p. omega arith)) h
 
 e-column : (kind wind : ℕ) → flatRoof kind ≡ true → roofColumn kind wind E ≡ 0
 unfolding roofColumn flatColumn

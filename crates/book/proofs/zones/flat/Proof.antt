@@ -1,9 +1,8 @@
 -- `zones::flat`: E has the value of its column, and F the same in every row.
 use mathlib.Core.Path.{_≡_, sym, ap, _∙_, subst}
 use Prim.Native.Nat.{ℕ, _<_}
-use native.Mathlib.Omega.{arith}
 use borrow.Author.Needs.{needs}
-use lib.Dec.{eqb}
+use lib.Dec.{lit<}
 use mir.Syntax.{w32}
 use Rattle.whole.proofs.Size.{returned}
 use Rattle.building.specs.Places.{E}
@@ -17,7 +16,7 @@ use Rattle.book.proofs.zones.flat.Tie as tie
 roof-value-requires : tie.Need-roof-value-requires
 roof-value-requires c κs =
     let s = c .pre in
-    (s .0, (s .1 .0, s .1 .2, flat-wide (c .args .s .kind) (s .1 .1)))
+    (s .0, (s .1 .0, s .1 .2, flat-wide (c .args .s .kind) _ (s .1 .1) (lit< tt)))
 
 returns : tie.Need-returns
 returns c wind =
