@@ -33,18 +33,6 @@ use Rattle.book.proofs.Ways.{noStanding}
 abbrev pub entry : {z v : ℤ} {k : ℕ} → z ≡ v → natAbs v ≤ k → T (ltb k (2 ^ hbits w16)) → Num
 entry {z} {v} {k} e h t = back w16 (record { has = z; is = v; most = k; same = e; small = h }) t
 
--- a number that none of the arms 0 to k - 1 of a `match` names, and is no more than k, is k
-abbrev pub NoArm : ℕ → ℕ → Type 0
-NoArm n zero = Unit {0}
-NoArm n (suc k) = NoArm n k × (n ≡ k → ⊥)
-
-past-arms : (n k : ℕ) → NoArm n k → k ≤ n
-past-arms n zero none = omega arith
-past-arms n (suc k) (none, d) = let h = past-arms n k none in omega arith
-
-pub last-arm : (n k : ℕ) → NoArm n k → n ≤ k → n ≡ k
-last-arm n k none h = omega (arith, past-arms n k none)
-
 -- ---- a row of walls: a number of its columns, from wind 0, wind 90 or the local
 
 module _ (r : Wall) (col : ℕ) where

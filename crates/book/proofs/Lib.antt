@@ -13,6 +13,7 @@ pub mod Slopes
 pub mod Roofed
 pub mod Columns
 pub mod Answers
+pub mod FourZones
 pub mod Readings
 pub mod Coefficients
 pub mod Redone

@@ -1,11 +1,11 @@
 -- The roof of a building in order: its part of the tables, the rows that x lies between, and how large a value is.
-use mathlib.Core.Path.{_≡_, refl, sym, _∙_, subst, subst₂}
+use mathlib.Core.Path.{_≡_, refl, sym, ap, _∙_, subst, subst₂}
 use mathlib.Core.Bool.{true}
 use mathlib.Core.List.{List, [], _∷_}
 use Prim.Native.Nat.{ℕ, _+_, _-_, _*_, _≤_, _<_}
 use native.Mathlib.Omega.{arith}
 use lib.Dec.{eqb}
-use lib.IntN.{natAbs}
+use lib.IntN.{ℤ, pos, natAbs, _*ℤ_}
 use lib.ListN.{length, getD}
 use borrow.Author.Tests.{eqb-true, eqb-false, eq-eqb, ne-eqb}
 use Rattle.whole.specs.Lists.{Every}
@@ -24,9 +24,9 @@ use Rattle.book.specs.Roofs.{flatRoof, partOf, roofTable, lastNumber, ro
 use Rattle.book.proofs.Ways.{way-rows, Proper, way-proper, way-small}
 use Rattle.book.proofs.Walked.{lastAt, lies-walked, lies-only}
 use Rattle.book.proofs.Tables.{SmallRow, SmallZones, Listed, Part, gable-part, flat-part, gable-small}
-use Rattle.book.proofs.Tables.{single-part, single-small, flat-small}
+use Rattle.book.proofs.Tables.{single-part, single-small, flat-small, flat-f-rows}
 use Rattle.book.proofs.Rows.{blockOf-most}
-use Rattle.book.proofs.Between.{line-small}
+use Rattle.book.proofs.Between.{line-on, line-small}
 use Rattle.book.proofs.Slopes.{gable-no-half}
 
 abbrev No-half-in : List Standing → Type 0
@@ -132,3 +132,15 @@ module _ (s : Sizes) (o : SizesInOrder s) (roofed : 0 < s .kind) where
       rw (ne-eqb (s .kind) 1 (λ e. omega arith), ne-eqb (s .kind) 6 (λ e. omega arith)) (flat-small (s .kind - 2)) in
       let r = way-rows-of (SmallZones 120) small in
       value-small 120 col (r .0 .at col h) (r .1 .at col h)
+
+  -- zone F of a flat roof is 0.200, wherever x lies
+  pub flat-f : flatRoof (s .kind) ≡ true → valueAt (roofWay s) 1 ≡ pos 200
+  flat-f f =
+      let k = among-yes 2 5 (s .kind) f in
+      let rows : Every (λ (r : Standing). hundredths (r .row) 1 ≡ pos 20) (partOf s) =
+      rw (ne-eqb (s .kind) 1 (λ e. omega arith), ne-eqb (s .kind) 6 (λ e. omega arith)) (flat-f-rows (s .kind - 2)) in
+      let r = way-rows-of (λ (q : Row). hundredths q 1 ≡ pos 20) rows in
+      let w = roofWay s in
+      line-on (hundredths (w .lower) 1) (hundredths (w .upper) 1) (w .part) (w .whole) (way-is s .within)
+      (way-is s .some) (r .0 ∙ sym (r .1))
+      ∙ ap (λ (z : ℤ). z *ℤ pos 10) (r .0)

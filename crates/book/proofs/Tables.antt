@@ -10,9 +10,11 @@ use lib.ListN.{length, getD, take}
 use lib.Seq.{getD-take}
 use Rattle.whole.specs.Lists.{Every}
 use Rattle.whole.proofs.Table.{both, both-left, both-right, all, all-at, each-at}
-use Rattle.whole.proofs.Tests.{by-test}
+use Rattle.whole.proofs.Tests.{by-test, is-true}
 use Rattle.whole.proofs.Lists.{every-by}
+use Rattle.building.specs.Test.{is}
 use Rattle.building.specs.Roof.{Roof, roofOf}
+use Rattle.building.proofs.Machine.{is-same}
 use Rattle.book.specs.Row.{Row, hundredths, rowNumbered, Standing}
 use Rattle.book.specs.Interpolated.{Rising}
 use Rattle.book.specs.Walls.{Wall, noWall, walls, wallTable}
@@ -235,3 +237,12 @@ pub flat-small : (k : ℕ) → Every (λ s. SmallZones 120 (s .row)) (getD flatP
 flat-small k =
     every-by (λ (s : Standing) t. small-zones 120 (s .row) t) (getD flatParts k [])
     (passed first-two (getD flatParts k []) (flat-test k))
+
+-- zone F is the same in every row of theirs
+abbrev f-test : Standing → Bool
+f-test s = is (pos 20) (hundredths (s .row) 1)
+
+pub flat-f-rows : (k : ℕ) → Every (λ s. hundredths (s .row) 1 ≡ pos 20) (getD flatParts k [])
+flat-f-rows k =
+    every-by (λ (s : Standing) t. is-same (pos 20) (hundredths (s .row) 1) (is-true (f-test s) t)) (getD flatParts k [])
+    (passed f-test (getD flatParts k []) (all-at (all f-test) flatParts [] tt tt k))

@@ -13,6 +13,7 @@ pub mod Spot
 pub mod Roofs
 pub mod Answer
 pub mod Question
+pub mod Zones
 pub mod Coefficient
 pub mod ByHand
 pub mod Held

@@ -2,6 +2,7 @@
 // zone or local of a building.
 ghost use mathlib.Core.Path.{_≡_};
 ghost use Rattle.book.specs.Question.{outsideOf, netOf};
+ghost use Rattle.book.specs.Zones.{wallFour, roofFour};
 use building::Dated;
 use building::Question;
 use verdict::Verdict;
@@ -10,6 +11,7 @@ mod line;
 mod question;
 mod roofs;
 mod walls;
+mod zones;
 
 // A coefficient's alternatives in thousandths, in order.
 pub enum Values {
@@ -43,6 +45,42 @@ pub fn outside(d: Dated, direction: i64, place: u8) -> Answer
             Answer::Answered(question::coefficient(s, whole::magnitude(direction), place))
         }
         Question::Refused(v) => Answer::Refused(v),
+    }
+}
+
+// The first and the last of a zone's outside coefficients, in thousandths: one that it has alone is both.
+pub struct Ends {
+    pub first: i32,
+    pub last: i32,
+}
+
+// Those of four zones, in their order: zeros for one whose question is refused.
+pub struct Four {
+    pub first: Ends,
+    pub second: Ends,
+    pub third: Ends,
+    pub fourth: Ends,
+}
+
+// The outside coefficients of the walls' zones, A to D.
+pub fn wall_zones(d: Dated, direction: i64) -> Four
+    ensures { λ r. ⌜ r ≡ wallFour (d .year) (d .building) direction ⌝ }
+{
+    let q = building::sized(d);
+    match q {
+        Question::Of(s) => zones::wall_half(s, direction),
+        Question::Refused(_) => zones::no_zones(),
+    }
+}
+
+// Those of the roof's zones, E to H.
+pub fn roof_zones(d: Dated, direction: i64) -> Four
+    ensures { λ r. ⌜ r ≡ roofFour (d .year) (d .building) direction ⌝ }
+{
+    let q = building::sized(d);
+    match q {
+        Question::Of(s) => zones::roof_half(s, d.building.kind, direction),
+        Question::Refused(_) => zones::no_zones(),
     }
 }
 

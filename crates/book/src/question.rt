@@ -104,7 +104,7 @@ fn flat_column(place: u8) -> usize
 }
 
 // The column of a place in the table of its roof.
-fn roof_column(kind: u64, wind: u64, place: u8) -> usize
+pub(crate) fn roof_column(kind: u64, wind: u64, place: u8) -> usize
     ensures { λ r. ⌜ r ≡ roofColumn kind wind place ⌝ }
 {
     if kind == 1 {
@@ -117,7 +117,7 @@ fn roof_column(kind: u64, wind: u64, place: u8) -> usize
 }
 
 // Zone F of a flat roof.
-fn two_signs(kind: u64, place: u8) -> bool
+pub(crate) fn two_signs(kind: u64, place: u8) -> bool
     ensures { λ r. ⌜ r ≡ twoSigns kind place ⌝ }
 {
     if kind < 2 {

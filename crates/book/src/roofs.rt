@@ -1,7 +1,7 @@
 // Roofs, tables 3.2.2.2.2 to 3.2.2.2.4: their rows, their parts, and where x lies in one.
 ghost use mathlib.Core.Path.{_≡_};
 ghost use mathlib.Core.List.{[], map};
-ghost use Prim.Native.Nat.{_<_, _≤_};
+ghost use Prim.Native.Nat.{_+_, _<_, _≤_};
 ghost use lib.ListN.{length, getD};
 ghost use Rattle.building.specs.Order.{SizesInOrder};
 ghost use Rattle.building.specs.Ratio.{_÷_, upTo};
@@ -33,9 +33,9 @@ struct Row(u16, u16, [i16; 4]);
 // Straight eaves, which a mansard has at 90 degrees.
 const EAVES: [i16; 4] = [-70, 20, -250, -200];
 
-// Table 3.2.2.2.2. A row stands at tenths of a degree. Wind 0 E,F; wind 0 G,H; wind 90 E,G; wind 90 F,H.
-const GABLES: [Row; 22] = [
-    // Gable, h/b to 1/2.
+// Table 3.2.2.2.2, a table for each block. A row stands at tenths of a degree. Wind 0 E,F; wind 0 G,H; wind 90 E,G;
+// wind 90 F,H. h/b to 1/2.
+const LOW: [Row; 7] = [
     Row(1, 0, [-80, -40, -80, -40]),
     Row(2, 50, [-90, -40, -80, -40]),
     Row(3, 100, [-120, -40, -80, -60]),
@@ -43,7 +43,10 @@ const GABLES: [Row; 22] = [
     Row(5, 300, [0, -40, -70, -60]),
     Row(6, 450, [30, -50, -70, -60]),
     Row(7, 600, [70, -60, -70, -60]),
-    // Gable, h/b over 1/2, to 3/2.
+];
+
+// h/b over 1/2, to 3/2.
+const MIDDLE: [Row; 7] = [
     Row(8, 0, [-80, -60, -100, -60]),
     Row(9, 50, [-90, -60, -90, -60]),
     Row(10, 100, [-110, -60, -80, -60]),
@@ -51,7 +54,10 @@ const GABLES: [Row; 22] = [
     Row(12, 300, [-20, -50, -80, -80]),
     Row(13, 450, [20, -50, -80, -80]),
     Row(14, 600, [60, -50, -80, -80]),
-    // Gable, h/b over 3/2, to 6.
+];
+
+// h/b over 3/2, to 6.
+const TALL: [Row; 8] = [
     Row(15, 0, [-70, -60, -90, -70]),
     Row(16, 50, [-70, -60, -80, -80]),
     Row(17, 100, [-70, -60, -80, -80]),
@@ -60,26 +66,6 @@ const GABLES: [Row; 22] = [
     Row(20, 400, [-20, -50, -80, -70]),
     Row(21, 500, [20, -50, -80, -70]),
     Row(22, 600, [50, -50, -80, -70]),
-];
-
-// Table 3.2.2.2.4. A row stands at tenths of a degree or, for parapet and curved eaves, at thousandths of h. E; F, with
-// both signs; L1; L2.
-const FLATS: [Row; 11] = [
-    // Flat, straight eaves.
-    Row(1, 0, EAVES),
-    // Flat, parapet.
-    Row(2, 25, [-70, 20, -220, -180]),
-    Row(3, 50, [-70, 20, -200, -160]),
-    Row(4, 100, [-70, 20, -180, -140]),
-    // Flat, curved eaves.
-    Row(5, 50, [-40, 20, -150, -180]),
-    Row(6, 100, [-30, 20, -120, -140]),
-    Row(7, 200, [-30, 20, -80, -80]),
-    // Flat, mansard.
-    Row(8, 300, [-30, 20, -150, -150]),
-    Row(9, 450, [-40, 20, -180, -190]),
-    Row(10, 600, [-50, 20, -190, -190]),
-    Row(1, 900, EAVES),
 ];
 
 // Where each part begins among the rows of gable and flat roofs: gable by h/b; straight eaves, parapet, curved eaves,
@@ -136,15 +122,43 @@ fn count_of(k: usize) -> usize
     FIRST[k + 1] - FIRST[k]
 }
 
-// The rows that the two tables hold, those of gables first: of each only the table that has it is made to be read.
+// Table 3.2.2.2.4. A row stands at tenths of a degree or, for parapet and curved eaves, at thousandths of h. E; F, with
+// both signs; L1; L2. Straight eaves; parapet; curved eaves; mansard, and straight eaves again.
+fn printed_flat(n: usize) -> Row
+    requires { ⌜ n < 11 ⌝ }
+    ensures { λ r. ⌜ r ≡ heldRow (22 + n) ⌝ }
+{
+    match n {
+        0 => Row(1, 0, EAVES),
+        1 => Row(2, 25, [-70, 20, -220, -180]),
+        2 => Row(3, 50, [-70, 20, -200, -160]),
+        3 => Row(4, 100, [-70, 20, -180, -140]),
+        4 => Row(5, 50, [-40, 20, -150, -180]),
+        5 => Row(6, 100, [-30, 20, -120, -140]),
+        6 => Row(7, 200, [-30, 20, -80, -80]),
+        7 => Row(8, 300, [-30, 20, -150, -150]),
+        8 => Row(9, 450, [-40, 20, -180, -190]),
+        9 => Row(10, 600, [-50, 20, -190, -190]),
+        _ => Row(1, 900, EAVES),
+    }
+}
+
+// The rows of gables and flat roofs, those of gables first: of the constant tables only the one that has it is made to
+// be read.
 fn printed_row(n: usize) -> Row
     requires { ⌜ n < 33 ⌝ }
     ensures { λ r. ⌜ r ≡ heldRow n ⌝ }
 {
-    if n < 22 {
-        return GABLES[n];
+    if 22 <= n {
+        return printed_flat(n - 22);
     }
-    FLATS[n - 22]
+    if n < 7 {
+        return LOW[n];
+    }
+    if n < 14 {
+        return MIDDLE[n - 7];
+    }
+    TALL[n - 14]
 }
 
 // Table 3.2.2.2.3, at tenths of a degree; the first row is that of 5 to 10 degrees. Wind 0 E,F and G,H; 45 E,F and
@@ -185,9 +199,9 @@ fn way_in(k: usize, x: u64, d: u64) -> Spot
     ensures { λ r. ⌜ r ≡ spotOf (wayIn (getD roofParts k []) x d) ⌝ }
 {
     let count = count_of(k);
+    let mut row = row_of(k, 0);
     let mut i: usize = 0;
     while i + 1 < count {
-        let row = row_of(k, i);
         let s = (row.1 as u64) * d;
         if x <= s {
             return on_row(row.0 as u32);
@@ -197,10 +211,10 @@ fn way_in(k: usize, x: u64, d: u64) -> Spot
         if x < t {
             return between(row.0 as u32, next.0 as u32, x - s, t - s);
         }
+        row = next;
         i += 1;
     }
-    let last = row_of(k, i);
-    on_row(last.0 as u32)
+    on_row(row.0 as u32)
 }
 
 // Where x lies in the roof's part of its table.

@@ -8,7 +8,7 @@ ghost use Rattle.building.specs.Order.{SizesInOrder};
 ghost use Rattle.book.specs.Row.{hundredths};
 ghost use Rattle.book.specs.Line.{on, valueAt};
 ghost use Rattle.book.specs.Walls.{noWall, walls, wallRow};
-ghost use Rattle.book.specs.Held.{codedWall};
+ghost use Rattle.book.specs.Held.{codedWall, wallCells};
 use building::Sizes;
 use building::ratio::up_to;
 
@@ -70,6 +70,18 @@ fn wall_cell(row: usize, col: usize) -> i16
         return w.5[col - 4];
     }
     w.6
+}
+
+// The cells of A to D.
+pub(crate) fn wall_cells(row: usize, wind: u64) -> [i16; 4]
+    requires { ⌜ row < 6 ⌝ }
+    ensures { λ r. ⌜ r ≡ wallCells (getD walls row noWall .row) wind ⌝ }
+{
+    let w = printed_wall(row);
+    if wind == 0 {
+        return w.4;
+    }
+    w.5
 }
 
 // The number of a row in the table, from 1.

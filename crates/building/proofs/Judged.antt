@@ -1,6 +1,6 @@
 -- A question's five outcomes, in the order of its checks; and that the sizes of one in order are those of a building
 -- in order, with a roof where its place needs one.
-use mathlib.Core.Path.{_≡_, refl, sym, subst}
+use mathlib.Core.Path.{_≡_, refl, sym, ap, _∙_, subst}
 use mathlib.Core.Bool.{Bool, true, false}
 use Prim.Native.Nat.{ℕ, zero, suc, _<_}
 use lib.Dec.{eqb}
@@ -19,7 +19,7 @@ use Rattle.building.specs.Year.{isYear, buildingLine}
 use Rattle.building.specs.Order.{SizesInOrder}
 use Rattle.building.specs.Building.{buildingFault, givenFault, sizes}
 use Rattle.building.specs.Places.{knows, wallPlace, placeOn}
-use Rattle.building.specs.Question.{refuse, askedOf}
+use Rattle.building.specs.Question.{refuse, sizedOf, placedOf, askedOf}
 use Rattle.building.proofs.Accepted.{in-order, given-none, none-given}
 use Rattle.building.proofs.Places.{needs-roof, place-there}
 
@@ -75,11 +75,6 @@ module _ (year : ℤ) (g : Building) (direction : ℤ) (place : ℕ) where
       (λ e. faulty y (eqb-false (givenFault year g) 0 e)))
       not-a-year
 
-  pub asked-refused : Refuses (firstRefusal year g) → askedOf year g direction place ≡ Refused (firstRefusal year g)
-  asked-refused r =
-      first-checks (λ y. rw y (bad-year y)) (λ y h. rw y (bad-building y h))
-      (λ e. absurd (r (rw (e .is, given-none year g (e .none)))))
-
   -- what a question in order tells of its sizes
   pub record Fit (s : Sizes) : Type 0 where
     pub order : SizesInOrder s
@@ -110,3 +105,46 @@ first-passed year g e =
     first-checks year g (pos 0) 0
     (λ y. let three : 3 ≡ 0 = rw y at e in absurd (omega arith))
     (λ y h. let some : givenFault year g ≡ 0 = rw y at e in absurd (h some)) (λ i. i)
+
+-- ---- the year and the building alone
+
+module _ (year : ℤ) (g : Building) where
+  -- what they came to: a building in order in its year
+  abbrev pub SizedIn : Question → Type 0
+  SizedIn (Of s) = InYear year g × (s ≡ sizes g)
+  SizedIn (Refused v) = Unit {0}
+
+  pub sized-good : InYear year g → sizedOf year g ≡ Of (sizes g)
+  unfolding sizedOf
+  sized-good e = rw (e .is, given-none year g (e .none))
+
+  pub sized-refused : Refuses (firstRefusal year g) → sizedOf year g ≡ Refused (firstRefusal year g)
+  unfolding sizedOf
+  sized-refused r =
+      first-checks year g (pos 0) 0 (λ y. rw y)
+      (λ y h. rw y (refuse-some (givenFault year g) (buildingLine year) _ h))
+      (λ e. absurd (r (rw (e .is, given-none year g (e .none)))))
+
+  pub sized-in : SizedIn (sizedOf year g)
+  unfolding sizedOf
+  sized-in =
+      first-checks year g (pos 0) 0 (λ y. rw y tt)
+      (λ y h. rw y (subst SizedIn (sym (refuse-some (givenFault year g) (buildingLine year) _ h)) tt))
+      (λ e. subst SizedIn (sym (sized-good e)) (e, refl))
+
+  module _ (direction : ℤ) (place : ℕ) where
+    -- and where they are in order the direction and the place decide
+    abbrev pub onward : Question → Question
+    onward (Of s) = placedOf s (g .kind) direction place
+    onward (Refused v) = Refused v
+
+    refuse-onward : (n line : ℕ) (q : Question) → onward (refuse n line q) ≡ refuse n line (onward q)
+    refuse-onward zero line q = refl
+    refuse-onward (suc n) line q = refl
+
+    pub asked-onward : onward (sizedOf year g) ≡ askedOf year g direction place
+    unfolding sizedOf askedOf
+    asked-onward =
+        refuse-onward (unless 3 (isYear year)) 0 (refuse (givenFault year g) (buildingLine year) (Of (sizes g)))
+        ∙ ap (refuse (unless 3 (isYear year)) 0)
+        (refuse-onward (givenFault year g) (buildingLine year) (Of (sizes g)))

@@ -1,7 +1,8 @@
--- A test of numbers as the machine has them, said of the numbers.
+-- A test of numbers as the machine has them, said of the numbers, and the last arm of a `match`.
 use mathlib.Core.Path.{_≡_, refl, sym, ap, _∙_}
 use mathlib.Core.Bool.{true, false, true≢false}
-use Prim.Native.Nat.{_^_, _<_}
+use Prim.Native.Nat.{ℕ, zero, suc, _^_, _≤_, _<_}
+use native.Mathlib.Omega.{arith}
 use lib.Dec.{eqb}
 use lib.IntN.{ℤ, pos, negsuc}
 use lib.Signed.{mag}
@@ -40,3 +41,16 @@ module _ (n z : ℤ) (h : mag n < 2 ^ 63) (k : mag z < 2 ^ 63) where
 
   pub bits-other : (ofZ w64 z ≡ ofZ w64 n → ⊥) → is n z ≡ false
   bits-other e = sym same-bits ∙ ne-eqb _ _ e
+
+-- ---- a number that none of the arms 0 to k - 1 of a `match` names, and is no more than k, is k
+
+abbrev pub NoArm : ℕ → ℕ → Type 0
+NoArm n zero = Unit {0}
+NoArm n (suc k) = NoArm n k × (n ≡ k → ⊥)
+
+past-arms : (n k : ℕ) → NoArm n k → k ≤ n
+past-arms n zero none = omega arith
+past-arms n (suc k) (none, d) = let h = past-arms n k none in omega arith
+
+pub last-arm : (n k : ℕ) → NoArm n k → n ≤ k → n ≡ k
+last-arm n k none h = omega (arith, past-arms n k none)

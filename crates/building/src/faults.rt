@@ -54,32 +54,51 @@ pub(crate) fn out_of_range(g: Building) -> bool
     )
 }
 
-// The least and the greatest x of each kind, and whether they are thousandths of h.
-const LEAST: [u64; 7] = [0, 0, 0, 25, 50, 300, 50];
-
-const GREATEST: [u64; 7] = [0, 600, 0, 100, 200, 900, 300];
-
-const BY_HEIGHT: [bool; 7] = [false, false, false, true, true, false, false];
-
+// The least x of each kind, and the greatest.
 pub(crate) fn least(kind: usize) -> u64
     requires { ⌜ kind ≤ lastKind ⌝ }
     ensures { λ r. ⌜ r ≡ roofOf kind .least ⌝ }
 {
-    LEAST[kind]
+    match kind {
+        0 => 0,
+        1 => 0,
+        2 => 0,
+        3 => 25,
+        4 => 50,
+        5 => 300,
+        _ => 50,
+    }
 }
 
 pub(crate) fn greatest(kind: usize) -> u64
     requires { ⌜ kind ≤ lastKind ⌝ }
     ensures { λ r. ⌜ r ≡ roofOf kind .greatest ⌝ }
 {
-    GREATEST[kind]
+    match kind {
+        0 => 0,
+        1 => 600,
+        2 => 0,
+        3 => 100,
+        4 => 200,
+        5 => 900,
+        _ => 300,
+    }
 }
 
+// Whether they are thousandths of h.
 fn by_height(kind: usize) -> bool
     requires { ⌜ kind ≤ lastKind ⌝ }
     ensures { λ r. ⌜ r ≡ roofOf kind .byHeight ⌝ }
 {
-    BY_HEIGHT[kind]
+    match kind {
+        0 => false,
+        1 => false,
+        2 => false,
+        3 => true,
+        4 => true,
+        5 => false,
+        _ => false,
+    }
 }
 
 // x, or 1000 x where it is compared with h.

@@ -2,7 +2,7 @@
 ghost use mathlib.Core.Path.{_≡_};
 ghost use Rattle.building.specs.Building.{buildingFault, givenFault};
 ghost use Rattle.building.specs.Places.{zoneOn};
-ghost use Rattle.building.specs.Question.{askedOf};
+ghost use Rattle.building.specs.Question.{sizedOf, placedOf, askedOf};
 ghost use Rattle.verdict.specs.Verdict.{refusal};
 ghost use Rattle.building.specs.Test.{unless};
 ghost use Rattle.building.specs.Year.{isYear, buildingLine};
@@ -77,14 +77,18 @@ pub fn building_fault(d: Dated) -> u32
     0
 }
 
-// The number that the line of a building given as a record would get.
+// The number that the line of a building given as a record would get. One in order has no number that is too long.
 pub fn given_fault(d: Dated) -> u32
     ensures { λ r. ⌜ r ≡ givenFault (d .year) (d .building) ⌝ }
 {
+    let fault = building_fault(d);
+    if fault == 0 {
+        return 0;
+    }
     if faults::out_of_form(d.building) {
         return 1;
     }
-    building_fault(d)
+    fault
 }
 
 // Whether a roof of this kind has the zone.
@@ -122,9 +126,9 @@ fn building_refusal(d: Dated) -> Verdict
     }
 }
 
-// A question about one zone or local under a wind's direction.
-pub fn asked(d: Dated, direction: i64, place: u8) -> Question
-    ensures { λ r. ⌜ r ≡ askedOf (d .year) (d .building) direction place ⌝ }
+// The year and the building of a question, judged: the building's sizes, or the refusal.
+pub fn sized(d: Dated) -> Question
+    ensures { λ r. ⌜ r ≡ sizedOf (d .year) (d .building) ⌝ }
 {
     let by_year = year_refusal(d.year);
     let by_building = building_refusal(d);
@@ -132,11 +136,29 @@ pub fn asked(d: Dated, direction: i64, place: u8) -> Question
     if v.number != 0 {
         return Question::Refused(v);
     }
-    if !kinds::knows(d.building.kind, direction) {
+    Question::Of(faults::sizes_of(d.building))
+}
+
+// Then its direction and its place, on a roof of this kind.
+fn placed(s: Sizes, kind: i64, direction: i64, place: u8) -> Question
+    ensures { λ r. ⌜ r ≡ placedOf s kind direction place ⌝ }
+{
+    if !kinds::knows(kind, direction) {
         return Question::Refused(Verdict { number: 3, line: 0 });
     }
-    if !kinds::place_on(d.building.kind, direction, place) {
+    if !kinds::place_on(kind, direction, place) {
         return Question::Refused(Verdict { number: 6, line: 0 });
     }
-    Question::Of(faults::sizes_of(d.building))
+    Question::Of(s)
+}
+
+// A question about one zone or local under a wind's direction.
+pub fn asked(d: Dated, direction: i64, place: u8) -> Question
+    ensures { λ r. ⌜ r ≡ askedOf (d .year) (d .building) direction place ⌝ }
+{
+    let q = sized(d);
+    match q {
+        Question::Of(s) => placed(s, d.building.kind, direction, place),
+        Question::Refused(v) => Question::Refused(v),
+    }
 }

@@ -39,8 +39,11 @@ pub use Rattle.building.proofs.spots.field_spot.Reads as building-field-spot
 pub use Rattle.building.proofs.spots.building_spot.Reads as building-spot
 pub use Rattle.building.proofs.limits.beyond.Reads as beyond
 pub use Rattle.building.proofs.limits.too_long.Reads as too-long
+pub use Rattle.building.proofs.sized.Reads as sized
 pub use Rattle.building.proofs.asked.Reads as asked
 pub use Rattle.book.proofs.outside.Reads as outside
+pub use Rattle.book.proofs.wall_zones.Reads as wall-zones
+pub use Rattle.book.proofs.roof_zones.Reads as roof-zones
 pub use Rattle.book.proofs.net.Reads as net
 pub use Rattle.entry.proofs.says.size_of.Reads as size-of
 pub use Rattle.entry.proofs.says.number_of.Reads as number-of

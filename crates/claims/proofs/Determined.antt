@@ -157,6 +157,9 @@ beyond-determined κ a r r′ s s′ p q = same p q
 too-long-determined : OneAnswer of.too-long.Post
 too-long-determined κ a r r′ s s′ p q = same p q
 
+sized-determined : OneAnswer of.sized.Post
+sized-determined κ a r r′ s s′ p q = same p q
+
 asked-determined : OneAnswer of.asked.Post
 asked-determined κ a r r′ s s′ p q = same p q
 
@@ -164,6 +167,12 @@ asked-determined κ a r r′ s s′ p q = same p q
 
 outside-determined : OneAnswer of.outside.Post
 outside-determined κ a r r′ s s′ p q = same p q
+
+wall-zones-determined : OneAnswer of.wall-zones.Post
+wall-zones-determined κ a r r′ s s′ p q = same p q
+
+roof-zones-determined : OneAnswer of.roof-zones.Post
+roof-zones-determined κ a r r′ s s′ p q = same p q
 
 net-determined : OneAnswer of.net.Post
 net-determined κ a r r′ s s′ p q = same p q

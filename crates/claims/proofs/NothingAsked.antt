@@ -133,6 +133,9 @@ beyond-asks κ a = tt
 too-long-asks : AsksNothing of.too-long.Asked
 too-long-asks κ a = tt
 
+sized-asks : AsksNothing of.sized.Asked
+sized-asks κ a = tt
+
 asked-asks : AsksNothing of.asked.Asked
 asked-asks κ a = tt
 
@@ -140,6 +143,12 @@ asked-asks κ a = tt
 
 outside-asks : AsksNothing of.outside.Asked
 outside-asks κ a = tt
+
+wall-zones-asks : AsksNothing of.wall-zones.Asked
+wall-zones-asks κ a = tt
+
+roof-zones-asks : AsksNothing of.roof-zones.Asked
+roof-zones-asks κ a = tt
 
 net-asks : AsksNothing of.net.Asked
 net-asks κ a = tt

@@ -8,7 +8,7 @@ use lib.IntN.{ℤ, pos, natAbs}
 use lib.ListN.{length, getD}
 use Rattle.building.specs.declared.Building.{Building}
 use Rattle.building.specs.Year.{lastYear}
-use Rattle.building.specs.Places.{A, H}
+use Rattle.building.specs.Places.{A, E, H}
 use Rattle.book.specs.Answer.{valuesOf}
 use Rattle.book.specs.Question.{outsideOf}
 use Rattle.worst.specs.declared.outside.Outside.{Outside}
@@ -54,3 +54,8 @@ pub record Filled (b : Building) (asked : List Bool) (first last : List ℤ) : T
   pub firsts : length first ≡ places
   pub lasts : length last ≡ places
   pub stand : (k : ℕ) → getD asked k false ≡ true → Stands b first last k
+
+-- the four zones of a half are looked up at once: those of the walls begin at A, and those of the roof at E
+pub data Begins (zone : ℕ) : Type 0 where
+  walls : zone ≡ A → Begins zone
+  roof : zone ≡ E → Begins zone

@@ -1,12 +1,17 @@
-// The outside coefficients. Those of a direction and a zone are looked up when a face first asks for them, and then
-// stand in a table: the first and the last, at the place of the direction and the zone.
+// The outside coefficients. Those of a direction and the zones of the walls, or of the roof, are looked up when a face
+// first asks for one of them, and then stand in a table: the first and the last, at the place of the direction and the
+// zone.
 ghost use mathlib.Core.Path.{_≡_};
-ghost use Prim.Native.Nat.{_<_};
-ghost use Rattle.book.specs.Answer.{valuesIn};
-ghost use Rattle.worst.specs.Table.{firstAndLast, outsideAt, places, placeOf, Placed, Filled};
+ghost use mathlib.Core.Bool.{true};
+ghost use Prim.Native.Nat.{ℕ, _+_, _<_};
+ghost use lib.IntN.{pos};
+ghost use lib.ListN.{set};
+ghost use Rattle.building.specs.Year.{lastYear};
+ghost use Rattle.book.specs.Zones.{fourFrom};
+ghost use Rattle.worst.specs.Table.{outsideAt, places, placeOf, Placed, Stands, Filled, Begins};
 ghost use Rattle.worst.specs.Forces.{acts};
-use book::Answer;
-use book::Values;
+use book::Ends;
+use book::Four;
 use building::Building;
 use building::Dated;
 use building::year::LAST_YEAR;
@@ -31,48 +36,59 @@ pub(crate) fn takes_part(f: Face, w: Wind) -> bool
 }
 
 // The zones A to H under direction 0, then under 45, and so on to 180.
-fn place_of(w: Wind, zone: u8) -> usize
-    requires { ⌜ Placed (w .direction) zone ⌝ }
-    ensures { λ r. ⌜ (r ≡ placeOf (w .direction) zone) × (r < places) ⌝ }
+fn place_of(direction: i64, zone: u8) -> usize
+    requires { ⌜ Placed direction zone ⌝ }
+    ensures { λ r. ⌜ (r ≡ placeOf direction zone) × (r < places) ⌝ }
 {
-    let turn = (whole::magnitude(w.direction) / 45) as usize;
+    let turn = (whole::magnitude(direction) / 45) as usize;
     turn * 8 + ((zone - 65) as usize)
 }
 
-fn of_pair(first: i32, last: i32) -> Outside
-    ensures { λ r. ⌜ r ≡ record { first = first; last = last } ⌝ }
+// Those of the walls' zones, or of the roof's.
+fn looked_up(d: Dated, direction: i64, from: u8) -> Four
+    requires { ⌜ Begins from ⌝ }
+    ensures { λ r. ⌜ r ≡ fourFrom (d .year) (d .building) direction from ⌝ }
 {
-    Outside {
-        first: first as i64,
-        last: last as i64,
+    if from == b'A' {
+        return book::wall_zones(d, direction);
     }
+    book::roof_zones(d, direction)
 }
 
-fn of_values(values: Values) -> Outside
-    ensures { λ r. ⌜ r ≡ firstAndLast (valuesIn values) ⌝ }
+fn keep(o: Ends, k: usize, asked: &mut [bool; 40], first: &mut [i64; 40], last: &mut [i64; 40])
+    requires { ⌜ k < places ⌝ }
+    ensures { λ r. ⌜ (now (asked .exit) ≡ set (now (asked .entry)) k true)
+        × (now (first .exit) ≡ set (now (first .entry)) k (o .first))
+        × (now (last .exit) ≡ set (now (last .entry)) k (o .last)) ⌝ }
 {
-    match values {
-        Values::One(v) => of_pair(v, v),
-        Values::Two(v, u) => of_pair(v, u),
-    }
+    let v = o.first as i64;
+    let u = o.last as i64;
+    asked[k] = true;
+    first[k] = v;
+    last[k] = u;
 }
 
-// The year does not change what a building in order has: each is asked for by the last year's reading.
-fn looked_up(b: Building, w: Wind, zone: u8) -> Outside
-    ensures { λ r. ⌜ r ≡ outsideAt b (w .direction) zone ⌝ }
+// The four zones of the walls or of the roof, which stand in the table from then on.
+fn fill(
+    d: Dated,
+    direction: i64,
+    from: u8,
+    asked: &mut [bool; 40],
+    first: &mut [i64; 40],
+    last: &mut [i64; 40],
+)
+    requires { ⌜ (d .year ≡ pos lastYear) × Begins from × Placed direction from
+        × Filled (d .building) (now asked) (now first) (now last) ⌝ }
+    ensures { λ r. ⌜ Filled (d .building) (now (asked .exit)) (now (first .exit)) (now (last .exit))
+        × ((j : ℕ) → j < 4 → Stands (d .building) (now (first .exit)) (now (last .exit))
+        (placeOf direction from + j)) ⌝ }
 {
-    let d = Dated {
-        year: LAST_YEAR,
-        building: b,
-    };
-    let answer = book::outside(d, w.direction, zone);
-    match answer {
-        Answer::Answered(c) => {
-            let values = c.values;
-            of_values(values)
-        }
-        Answer::Refused(_) => of_pair(0, 0),
-    }
+    let four = looked_up(d, direction, from);
+    let k = place_of(direction, from);
+    keep(four.first, k, asked, first, last);
+    keep(four.second, k + 1, asked, first, last);
+    keep(four.third, k + 2, asked, first, last);
+    keep(four.fourth, k + 3, asked, first, last);
 }
 
 // The coefficients of a zone under a wind, which stand in the table from then on.
@@ -88,17 +104,25 @@ pub(crate) fn found(
     ensures { λ r. ⌜ (r ≡ outsideAt b (w .direction) zone)
         × Filled b (now (asked .exit)) (now (first .exit)) (now (last .exit)) ⌝ }
 {
-    let k = place_of(w, zone);
+    let k = place_of(w.direction, zone);
     if asked[k] {
         let v = first[k];
         let u = last[k];
         return Outside { first: v, last: u };
     }
-    let o = looked_up(b, w, zone);
-    let v = o.first;
-    let u = o.last;
-    asked[k] = true;
-    first[k] = v;
-    last[k] = u;
-    o
+    // The year does not change what a building in order has: each is asked for by the last year's reading.
+    let d = Dated {
+        year: LAST_YEAR,
+        building: b,
+    };
+    if zone <= b'D' {
+        fill(d, w.direction, b'A', asked, first, last);
+        let v = first[k];
+        let u = last[k];
+        return Outside { first: v, last: u };
+    }
+    fill(d, w.direction, b'E', asked, first, last);
+    let v = first[k];
+    let u = last[k];
+    Outside { first: v, last: u }
 }

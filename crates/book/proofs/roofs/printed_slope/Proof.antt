@@ -1,6 +1,6 @@
 -- `roofs::printed_slope`: the rows of the code are those of the definitions.
 use native.Mathlib.Omega.{arith}
-use Rattle.book.proofs.Coded.{last-arm}
+use Rattle.building.proofs.Machine.{last-arm}
 use Rattle.book.proofs.roofs.printed_slope.Statement.{statement}
 use Rattle.book.proofs.roofs.printed_slope.Tie as tie
 

@@ -1,6 +1,6 @@
 -- `walls::printed_wall`: the rows of the code are those of the definitions.
 use native.Mathlib.Omega.{arith}
-use Rattle.book.proofs.Coded.{last-arm}
+use Rattle.building.proofs.Machine.{last-arm}
 use Rattle.book.proofs.walls.printed_wall.Statement.{statement}
 use Rattle.book.proofs.walls.printed_wall.Tie as tie
 

@@ -14,10 +14,10 @@ use Rattle.worst.proofs.outside.place_of.Tie as tie
 -- the magnitude is the direction's, which is at most four steps of 45 degrees
 module _ (c : tie.After-magnitude) where
   abbrev start : tie.Start
-  start = c .before .before
+  start = c .before
 
-  read : c .magnitude .result ≡ natAbs (start .args .w .direction)
-  read = said natAbs (start .args .w .direction) (c .magnitude .ensures) (c .before .struct-told .given .0 .1)
+  read : c .magnitude .result ≡ natAbs (start .args .direction)
+  read = said natAbs (start .args .direction) (c .magnitude .ensures) (start .fits .direction .sfits)
 
   steps : c .magnitude .result ≡ start .pre .turn * 45
   steps = read ∙ ap natAbs (start .pre .way)
@@ -32,7 +32,7 @@ returns : tie.Need-returns
 returns c =
     let s = start c in
     let e = ap (λ (n : ℕ). n / 45 * 8 + (s .args .zone - A)) (read c) in
-    (e, subst (λ (n : ℕ). n < places) (sym e) (place-below (s .args .w .direction) (s .args .zone) (s .pre)))
+    (e, subst (λ (n : ℕ). n < places) (sym e) (place-below (s .args .direction) (s .args .zone) (s .pre)))
 
 pub place-of-spec : {M : Type 1} → statement M
 place-of-spec =
