@@ -12,6 +12,7 @@ pub mod FacesBack
 pub mod Steps
 pub mod OneMore
 pub mod SoFar
+pub mod FaceLines
 pub mod Plain
 pub mod PlainLine
 pub mod Worked

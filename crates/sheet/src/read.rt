@@ -1,10 +1,12 @@
 // A sheet read: its sections in order, each its count and as many entries, up to the first fault; and nothing after
 // them. The faces are put into a lent list, and no record is made for the lines.
 use crate::empty::no_setting;
+use crate::faces::faces_from;
 use crate::flat::MOST_NUMBERS;
 use crate::flat::clear;
 use crate::flat::faces_in;
 use crate::flat::put_numbers;
+use crate::plainly::is_ended;
 use crate::said::building_in;
 use crate::said::count_said;
 use crate::said::entry_said;
@@ -93,6 +95,7 @@ pub fn read_into(s: &[u8], flat: &mut [i64]) -> Head
 {
     clear(flat);
     let heights = opens_tall(s);
+    let ended = is_ended(s);
     let none = no_setting();
     let building = none.building;
     let mut b = Before {
@@ -110,16 +113,21 @@ pub fn read_into(s: &[u8], flat: &mut [i64]) -> Head
     for i in 0..section_count(heights) {
         // the count of the section, and as many entries
         let sec = section_at(heights, i);
-        let x = count_said(sec, s, next, b);
+        let x = count_said(sec, s, next, b, ended);
         let n = x.fault;
         if n != 0 {
             return refused(Verdict { number: n, line }, flat);
         }
         line += 1;
-        next = x.next;
-        let mut left = x.count;
+        let count = x.count;
+        let plain = faces_from(sec, s, x.next, b, ended, flat, faces, count);
+        let done = plain.done;
+        line += done;
+        next = plain.next;
+        faces += done;
+        let mut left = count - done;
         while left != 0 {
-            let x = entry_said(sec, s, next, b);
+            let x = entry_said(sec, s, next, b, ended);
             let n = x.fault;
             if n != 0 {
                 return refused(Verdict { number: n, line }, flat);
