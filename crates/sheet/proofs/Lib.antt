@@ -10,6 +10,7 @@ pub mod RoundTrip
 pub mod Answered
 pub mod FacesBack
 pub mod Steps
+pub mod Opens
 pub mod OneMore
 pub mod SoFar
 pub mod FaceLines

@@ -80,10 +80,17 @@ fn accepted(b: Before, winds: Winds, internals: Internals, profile: Profile, fac
     }
 }
 
-// Whether the text opens a sheet with heights; a first line that is too long for a sheet is refused either way.
+// Whether the text opens a sheet with heights; a first line that is too long for a sheet is refused either way. A
+// field that is a letter is its first byte.
 fn opens_tall(s: &[u8]) -> bool
     ensures { λ r. ⌜ walk (sheet r) nothing 1 (linesIn (now (s .entry))) ≡ reading (now (s .entry)) ⌝ }
 {
+    if s.len() == 0 {
+        return false;
+    }
+    if s[0] != b'V' {
+        return false;
+    }
     let x = line_at(s, 0);
     letter_of(field_at(x, 0)) == b'V'
 }

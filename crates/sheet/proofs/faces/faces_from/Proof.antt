@@ -83,7 +83,9 @@ loop-again c =
     (x .face-at .ensures (f .before .before .if3 .left)) in
     let n = a .faces + l .loop .done in (
       search needs,
-      ap length (p .put-face .ensures) ∙ length-sets (l .loop .flat) (perFace * n) (numbersOf (x .face-at .result .face)) ∙ l .loop .inv .1,
+      ap length (p .put-face .ensures)
+          ∙ length-sets (l .loop .flat) (perFace * n) (numbersOf (x .face-at .result .face))
+          ∙ l .loop .inv .1,
       one-passed s (a .b) (a .at) (a .faces) (a .flat .now) (l .loop .done) at (x .face-at .result .next)
           (l .loop .flat) (p .put-face .last .0) (l .loop .inv .2)
           (sym (e .if4 .left)
@@ -102,5 +104,6 @@ faces-from-spec =
     (λ c. (omega arith, λ h. absurd (omega (arith, h)), (refl, refl))) (λ c κs. search needs) loop-holds
     (λ c κs. ended (c .before)) (λ c. c .before .before .before .loop .inv .1) (λ c. read (c .before .before .before))
     (λ c κs. search needs) (λ c. c .before .before .before .before .before .before .loop .inv .1)
-    (λ c. read (c .before .before .before .before .before .before)) (λ c. room (c .before .before .before .before .before .before)) (λ c κs. search needs)
-    (λ c. search needs) (λ c. search needs) loop-again (λ c. c .before .loop .inv .1) (λ c. read (c .before)))
+    (λ c. read (c .before .before .before .before .before .before))
+    (λ c. room (c .before .before .before .before .before .before)) (λ c κs. search needs) (λ c. search needs)
+    (λ c. search needs) loop-again (λ c. c .before .loop .inv .1) (λ c. read (c .before)))

@@ -34,7 +34,8 @@ returns c =
 pub put-six-spec : {M : Type 1} → statement M
 put-six-spec =
     tie.close
-    (tie.spec (λ c. search needs) (λ c. search needs) (λ c. search needs) (λ c. search needs) (λ c. simp length-set (search needs))
+    (tie.spec (λ c. search needs) (λ c. search needs) (λ c. search needs) (λ c. search needs)
+    (λ c. simp length-set (search needs))
     (λ c. search needs) (λ c. search needs) (λ c. simp length-set (search needs))
     (λ c. search needs) (λ c. search needs) (λ c. simp length-set (search needs))
     (λ c. search needs) (λ c. search needs) (λ c. simp length-set (search needs))

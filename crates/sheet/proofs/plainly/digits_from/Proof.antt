@@ -45,5 +45,6 @@ returns-3 c = let v = c .before .loop .inv in (v .0, v .2, v .3)
 pub digits-from-spec : {M : Type 1} → statement M
 digits-from-spec =
     tie.close
-    (tie.spec Inv-loop μ-loop (λ c. (c .before .pre .1, c .before .pre .2, omega arith, refl)) (λ c. search needs) (λ c κs. search needs) returns returns-2 (λ c. omega arith) (λ c. omega arith)
-    (λ c. search needs) (λ c. omega arith) loop-again returns-3)
+    (tie.spec Inv-loop μ-loop (λ c. (c .before .pre .1, c .before .pre .2, omega arith, refl)) (λ c. search needs)
+    (λ c κs. search needs) returns returns-2 (λ c. omega arith) (λ c. omega arith) (λ c. search needs)
+    (λ c. omega arith) loop-again returns-3)

@@ -60,5 +60,5 @@ returns-3 c =
 pub number-at-spec : {M : Type 1} → statement M
 number-at-spec =
     tie.close
-    (tie.spec (λ c. search needs) (λ c κs. search needs) natural-at-requires signed-requires
-    (λ c n. absurd (n refl)) (λ c. within (c .before)) (λ c n. absurd (n refl)) (λ c. omega (arith, within (c .before .before))) returns-3)
+    (tie.spec (λ c. search needs) (λ c κs. search needs) natural-at-requires signed-requires (λ c n. absurd (n refl))
+    (λ c. within (c .before)) (λ c n. absurd (n refl)) (λ c. omega (arith, within (c .before .before))) returns-3)

@@ -95,10 +95,15 @@ returns-3 c =
       rw q at (v .4),
     )
 
+number-at-requires : tie.Need-number-at-requires Inv-loop μ-loop
+number-at-requires c κs =
+    let l = c .before .before in
+    (l .before .before .before .pre .0, l .loop .inv .3 (c .before .loop-test .taken))
+
 pub numbers-at-spec : {M : Type 1} → statement M
 numbers-at-spec =
     tie.close
     (tie.spec Inv-loop μ-loop (λ c κs. search needs) (λ c n. absurd (n (c .none .ensures))) loop-holds
-    (λ c. search needs) (λ c κs. search needs) (λ c κs. (c .before .before .before .before .before .pre .0, c .before .before .loop .inv .3 (c .before .loop-test .taken))) (λ c κs. search needs)
+    (λ c. search needs) (λ c κs. search needs) number-at-requires (λ c κs. search needs)
     (λ c n. absurd (n (c .none2 .ensures))) (λ c. search needs) (λ c. search needs) (λ c. search needs)
     (λ c. search needs) loop-again returns-3)

@@ -511,9 +511,11 @@ read-into-spec =
     (tie.spec Inv-loop2 μ-loop2 Inv-loop μ-loop (λ c κs. search needs) (λ c κs. search needs) (λ c κs. search needs)
     (λ c κs. search needs) (λ c κs. search needs) loop-holds (λ c κs. search needs) (λ c κs. text-ended c)
     (λ c κs. search needs) same-length returns add-line faces-from-requires
-    (λ c. omega (arith, low (number (unread c) .before), counted-so-far (unread c) .lines, plain c .faces-from .ensures .0))
+    (λ c.
+    omega (arith, low (number (unread c) .before), counted-so-far (unread c) .lines, plain c .faces-from .ensures .0))
     add-faces (λ c. plain c .faces-from .ensures .0) loop2-holds
-    (λ c κs. text-ended (c .before .before .before .before .before .before .before)) (λ c κs. search needs) same-length-2 returns-2
+    (λ c κs. text-ended (c .before .before .before .before .before .before .before)) (λ c κs. search needs)
+    same-length-2 returns-2
     (λ c. omega (arith, low (here c), now c .loop2 .inv .1 .lines)) (λ c. search needs) (λ c. search needs)
     (λ c. search needs) (λ c. search needs) loop2-again (λ c. search needs) (λ c κs. search needs) (λ c. search needs)
     loop2-again-2 (λ c. search needs) (λ c κs. search needs) (λ c. omega (arith, winds-room c))

@@ -46,7 +46,8 @@ returns-4 c =
     let year =
     said (λ (y : ℤ). first (countFaults y (a .sec) letter (toZ w64 (ofZ w64 z)))) (a .b .year)
     (f .count-fault .ensures) (f .before .struct-told2 .given .0 .1) in
-    let p = count-plain letter (lo .1) (lo .2) (a .s .now) (a .at) (lo .3) (a .sec) (a .b) z (d .number-at .result .end) n in
+    let p =
+    count-plain letter (lo .1) (lo .2) (a .s .now) (a .at) (lo .3) (a .sec) (a .b) z (d .number-at .result .end) n in
     λ i. record {
       fault = (year ∙ ap (λ (y : ℤ). first (countFaults (a .b .year) (a .sec) letter y)) back ∙ p .0) i;
       next = sym (p .1) i;

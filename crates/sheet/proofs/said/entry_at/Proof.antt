@@ -1,8 +1,8 @@
--- `entry_at` meets its contract: the numbers of a line, section by section, and a face.
+-- `entry_at` meets its contract: the numbers of a line, section by section.
 use mathlib.Core.Path.{sym, subst}
 use native.Mathlib.Omega.{arith}
 use Rattle.rules.specs.declared.Section.{Section}
-use Rattle.sheet.specs.Said.{PlainLine}
+use Rattle.sheet.specs.Said.{Ended, PlainLine}
 use Rattle.sheet.proofs.PlainLine.{numbers-plain}
 use Rattle.sheet.proofs.Plain.{told}
 use borrow.Author.Needs.{needs}
@@ -53,13 +53,17 @@ returns-6 c =
     (numbers-plain 2 (a .s .now) (a .at) (c .numbers-at5 .result) (omega arith) (omega arith)
     (c .numbers-at5 .ensures n))
 
-numbers-at-requires : tie.Need-numbers-at-requires
-numbers-at-requires c κs = (c .before .before .before .before .pre (told _ (c .before .before .if1 .left)), omega arith, omega arith)
+-- the text ends in LF
+ended : (c : tie.Else1) → Ended (c .before .before .args .s .now)
+ended c = c .before .before .pre (told _ (c .if1 .left))
 
 pub entry-at-spec : {M : Type 1} → statement M
 entry-at-spec =
     tie.close
-    (tie.spec (λ c κs. search needs) (λ c n. absurd (n (c .none .ensures))) (λ c. search needs) numbers-at-requires (λ c. search needs) (λ c κs. (c .before .before .before .before .pre (told _ (c .before .before .if1 .left)), omega arith, omega arith))
-    (λ c. search needs) (λ c κs. (c .before .before .before .before .pre (told _ (c .before .before .if1 .left)), omega arith, omega arith)) (λ c. search needs) (λ c κs. (c .before .before .before .before .pre (told _ (c .before .before .if1 .left)), omega arith, omega arith)) (λ c. search needs)
-    (λ c κs. (c .before .before .before .before .pre (told _ (c .before .before .if1 .left)), omega arith, omega arith)) (λ c. search needs) (λ c κs. search needs) returns-2 returns-3 returns-4 returns-5
-    returns-6 (λ c n. absurd (n (c .none2 .ensures))))
+    (tie.spec (λ c κs. search needs) (λ c n. absurd (n (c .none .ensures))) (λ c. search needs)
+    (λ c κs. (ended (c .before .before), omega arith, omega arith)) (λ c. search needs)
+    (λ c κs. (ended (c .before .before), omega arith, omega arith)) (λ c. search needs)
+    (λ c κs. (ended (c .before .before), omega arith, omega arith)) (λ c. search needs)
+    (λ c κs. (ended (c .before .before), omega arith, omega arith)) (λ c. search needs)
+    (λ c κs. (ended (c .before .before), omega arith, omega arith)) (λ c. search needs) (λ c κs. search needs)
+    returns-2 returns-3 returns-4 returns-5 returns-6 (λ c n. absurd (n (c .none2 .ensures))))
