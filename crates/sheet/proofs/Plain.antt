@@ -1,6 +1,6 @@
 -- Laws of a plain line: digits that stand one after another are those of a number, and fields in form that stand one
 -- after another up to LF are the line.
-use Prim.Native.Nat.{ℕ, suc, _+_, _-_, _*_, _/_, _%_, _^_, _≤_, _<_}
+use Prim.Native.Nat.{ℕ, zero, suc, _+_, _-_, _*_, _/_, _%_, _^_, _≤_, _<_}
 use mathlib.Core.Path.{_≡_, refl, ap, _∙_, sym}
 use mathlib.Core.Bool.{Bool, true, false, not, cond, false≢true}
 use mathlib.Core.List.{List, [], _∷_, _++_, map, append-assoc}
@@ -8,7 +8,7 @@ use native.Mathlib.Omega.{arith}
 use native.Mathlib.Numerals.{add-one}
 use native.Mathlib.Nat.{le-refl}
 use lib.Dec.{eqb, ltb}
-use lib.IntN.{ℤ, pos, negsuc}
+use lib.IntN.{ℤ, pos, negsuc, negℤ}
 use borrow.Author.Tests.{eqb-true, ltb-true, ltb-false}
 use Rattle.whole.proofs.Tests.{by-test}
 use lib.ListN.{length, getD, take, drop, set}
@@ -21,7 +21,7 @@ use Rattle.whole.proofs.Size.{num≤, nat, back}
 use Rattle.whole.proofs.Pieces.{map-append}
 use Rattle.field.specs.declared.Field.{Field}
 use Rattle.lines.specs.Lines.{fieldText, lineText}
-use Rattle.sheet.specs.Said.{Ended, numberField, Short, NumberStands}
+use Rattle.sheet.specs.Said.{Ended, numberField, Short, DigitsStand, NumberStands}
 use Rattle.whole.proofs.Digits.{digits-small, digits-more}
 
 -- ---- digits
@@ -57,16 +57,6 @@ module _ (s : List ℕ) (i : ℕ) (h : i < length s) where
     pub digit-first : drop i s ≡ digits (byte - 48) ++ drop (i + 1) s
     digit-first = next-byte ∙ sym (ap (λ (t : List ℕ). t ++ drop (i + 1) s) (digits-one byte lo hi))
 
--- a number with a minus sign or without: what stands behind the sign
-pub sign-text : (minus : Bool) (s : List ℕ) {at start : ℕ} (n : ℕ) (z : ℤ) (t : List ℕ) → at < length s
-    → minus ≡ eqb (getD s at 0) 45 → start ≡ cond minus (at + 1) at
-    → decimal z ≡ cond minus (45 ∷ digits n) (digits n) → drop start s ≡ digits n ++ t → drop at s ≡ decimal z ++ t
-sign-text true s {at = at} n z t h m e d r =
-    next-byte s at h
-    ∙ (λ i. eqb-true (getD s at 0) 45 (sym m) i ∷ (ap (λ (k : ℕ). drop k s) (sym e) ∙ r) i)
-    ∙ ap (λ (l : List ℕ). l ++ t) (sym d)
-sign-text false s n z t h m e d r = ap (λ (k : ℕ). drop k s) (sym e) ∙ r ∙ ap (λ (l : List ℕ). l ++ t) (sym d)
-
 -- behind a byte that is no LF stands another
 pub on : (s : List ℕ) {i : ℕ} → Ended s → i < length s → (getD s i 0 ≡ 10 → ⊥) → i + 1 < length s
 on s {i} e h n =
@@ -80,12 +70,24 @@ pub told : (b : Bool) → not b ≡ false → b ≡ true
 told true e = refl
 told false e = absurd (false≢true (sym e))
 
--- so behind a minus sign
-pub sign-on : (minus : Bool) (s : List ℕ) {at start : ℕ} → Ended s → at < length s
-    → minus ≡ eqb (getD s at 0) 45 → start ≡ cond minus (at + 1) at → start < length s
-sign-on true s {at} e h m q =
-    omega (arith, q, on s e h (λ z. omega (arith, z, eqb-true (getD s at 0) 45 (sym m))))
-sign-on false s e h m q = omega (arith, q)
+-- digits with a minus sign before them, and without
+pub minus-stands : (s : List ℕ) (at n x next : ℕ) → at < length s → getD s at 0 ≡ 45 → (n ≡ 0 → ⊥) → n < 10 ^ 7
+    → DigitsStand s (at + 1) n x next → NumberStands s at (negℤ (pos n)) x next
+unfolding decimal
+minus-stands s at zero x next h b some few d = absurd (some refl)
+minus-stands s at (suc n) x next h b some few d =
+    record {
+      within = d .within;
+      short = few;
+      text = next-byte s at h ∙ (λ i. b i ∷ d .text i);
+      goes-on = d .goes-on;
+    }
+
+pub plain-stands : (s : List ℕ) (at n x next : ℕ) → n < 10 ^ 7 → DigitsStand s at n x next
+    → NumberStands s at (pos n) x next
+unfolding decimal
+plain-stands s at n x next few d =
+    record { within = d .within; short = few; text = d .text; goes-on = d .goes-on }
 
 -- two bytes
 pub two-bytes : (s : List ℕ) (i b x : ℕ) → i + 2 ≤ length s → b ≡ getD s i 0 → getD s (i + 1) 0 ≡ x

@@ -7,7 +7,7 @@ use lib.IntN.{ℤ, pos, negsuc, natAbs}
 use lib.ListN.{length, getD, drop}
 use lib.Seq.{sets}
 use Rattle.whole.specs.Lists.{Every}
-use Rattle.whole.specs.Digits.{decimal}
+use Rattle.whole.specs.Digits.{digits, decimal}
 use Rattle.field.specs.declared.Field.{Field}
 use Rattle.field.specs.declared.Field.the-variants.{Plus, Minus}
 use Rattle.lines.specs.declared.Line.{Line}
@@ -96,6 +96,12 @@ Short z = natAbs z < 10 ^ 7
 -- every byte of it but the last has one behind it
 abbrev pub Ended : List ℕ → Type 0
 Ended s = getD s (length s - 1) 0 ≡ 10
+
+-- the digits of n at a place, the byte x behind them, and then the rest; the text goes on where x is no LF
+pub record DigitsStand (s : List ℕ) (from n x next : ℕ) : Type 0 where
+  pub within : next ≤ length s
+  pub text : drop from s ≡ digits n ++ (x ∷ drop next s)
+  pub goes-on : (x ≡ 10 → ⊥) → next < length s
 
 -- the number z at a place, the byte x behind it, and then the rest
 pub record NumberStands (s : List ℕ) (from : ℕ) (z : ℤ) (x next : ℕ) : Type 0 where

@@ -7,10 +7,10 @@ ghost use mathlib.Core.Path.{_≡_};
 ghost use mathlib.Core.Bool.{true, cond};
 ghost use mathlib.Core.List.{[], _∷_, _++_};
 ghost use Prim.Native.Nat.{_+_, _^_, _≤_, _<_, ℕ};
-ghost use lib.IntN.{pos, natAbs};
+ghost use lib.IntN.{pos};
 ghost use lib.ListN.{length, getD, take, drop};
-ghost use Rattle.whole.specs.Digits.{digits, decimal};
-ghost use Rattle.sheet.specs.Said.{Ended, Short, NumberStands, MarkStands, HeightStands};
+ghost use Rattle.whole.specs.Digits.{digits};
+ghost use Rattle.sheet.specs.Said.{Ended, DigitsStand, NumberStands, MarkStands, HeightStands};
 ghost use Rattle.sheet.specs.Said.{NumbersStand, PlainFace};
 
 // Digits that stand in a text: the place behind them, and their number. Where there are none, that place is 0.
@@ -95,34 +95,22 @@ fn natural_at(s: &[u8], at: usize) -> Natural
     digits_from(s, at + 1, (b - 48) as u32)
 }
 
-// So many bytes further on, where they were found.
-fn past(found: bool, at: usize, bytes: usize) -> usize
-    requires { ⌜ at + bytes < 2 ^ 64 ⌝ }
-    ensures { λ r. ⌜ r ≡ cond found (at + bytes) at ⌝ }
+// Those with the byte x behind them: the place behind that.
+fn natural_before(s: &[u8], at: usize, x: u8) -> Natural
+    requires { ⌜ Ended (now s) × (at < length (now s)) ⌝ }
+    ensures { λ r. ⌜ (r .n < 10 ^ 7) × ((r .end ≡ 0 → ⊥) → DigitsStand (now (s .entry)) at (r .n) x (r .end)) ⌝ }
 {
-    if found {
-        return at + bytes;
+    let d = natural_at(s, at);
+    let end = d.end;
+    if end == 0 {
+        return Natural { end: 0, n: 0 };
     }
-    at
-}
-
-fn signed(minus: bool, d: Natural) -> Spelled
-    requires { ⌜ d .n < 10 ^ 7 ⌝ }
-    ensures { λ r. ⌜ ((r .end ≡ 0 → ⊥) → (r .end ≡ d .end) × (natAbs (r .z) ≡ d .n)
-        × (decimal (r .z) ≡ cond minus (45 ∷ digits (d .n)) (digits (d .n)))) ⌝ }
-{
-    if minus {
-        if d.n == 0 {
-            return Spelled { end: 0, z: 0 };
-        }
-        return Spelled {
-            end: d.end,
-            z: 0 - (d.n as i64),
-        };
+    if s[end] != x {
+        return Natural { end: 0, n: 0 };
     }
-    Spelled {
-        end: d.end,
-        z: d.n as i64,
+    Natural {
+        end: end + 1,
+        n: d.n,
     }
 }
 
@@ -131,18 +119,20 @@ pub(crate) fn number_at(s: &[u8], at: usize, x: u8) -> Spelled
     requires { ⌜ Ended (now s) × (at < length (now s)) ⌝ }
     ensures { λ r. ⌜ ((r .end ≡ 0 → ⊥) → NumberStands (now (s .entry)) at (r .z) x (r .end)) ⌝ }
 {
-    let minus = s[at] == 45;
-    let d = signed(minus, natural_at(s, past(minus, at, 1)));
-    let end = d.end;
-    if end == 0 {
-        return Spelled { end: 0, z: 0 };
+    if s[at] == 45 {
+        let d = natural_before(s, at + 1, x);
+        if d.n == 0 {
+            return Spelled { end: 0, z: 0 };
+        }
+        return Spelled {
+            end: d.end,
+            z: 0 - (d.n as i64),
+        };
     }
-    if s[end] != x {
-        return Spelled { end: 0, z: 0 };
-    }
+    let d = natural_before(s, at, x);
     Spelled {
-        end: end + 1,
-        z: d.z,
+        end: d.end,
+        z: d.n as i64,
     }
 }
 
