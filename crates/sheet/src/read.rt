@@ -1,6 +1,9 @@
 // A sheet read: its sections in order, each its count and as many entries, up to the first fault; and nothing after
 // them. The faces are put into a lent list, and no record is made for the lines.
+use crate::empty::no_building;
 use crate::empty::no_setting;
+use crate::empty::no_step;
+use crate::empty::no_wind;
 use crate::faces::faces_from;
 use crate::flat::MOST_NUMBERS;
 use crate::flat::clear;
@@ -103,17 +106,25 @@ pub fn read_into(s: &[u8], flat: &mut [i64]) -> Head
     clear(flat);
     let heights = opens_tall(s);
     let ended = is_ended(s);
-    let none = no_setting();
-    let building = none.building;
+    let building = no_building();
     let mut b = Before {
         year: 1,
         building,
         lowest: 0,
         highest: -1,
     };
-    let mut winds = none.winds;
-    let mut internals = none.internals;
-    let mut profile = none.profile;
+    let mut winds = Winds {
+        count: 0,
+        entry: [no_wind(); 8],
+    };
+    let mut internals = Internals {
+        count: 0,
+        entry: [0i64; 4],
+    };
+    let mut profile = Profile {
+        count: 0,
+        entry: [no_step(); 16],
+    };
     let mut faces: u32 = 0;
     let mut line: u32 = 1;
     let mut next: usize = 0;

@@ -49,5 +49,7 @@ number-at-spec =
     tie.close
     (tie.spec (λ c. search needs) (λ c. search needs) natural-before-requires (λ c n. absurd (n refl))
     (λ c. search needs)
-    (λ c. let d = c .before .before .before .natural-before in fit (below (d .result .n) (omega (arith, d .ensures .0))) tt)
+    (λ c.
+    let d = c .before .before .before .natural-before in
+    fit (below (d .result .n) (omega (arith, d .ensures .0))) tt)
     returns-2 (λ c κs. search needs) (λ c. search needs) returns-3)

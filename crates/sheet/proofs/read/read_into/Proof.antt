@@ -6,7 +6,7 @@ use mathlib.Core.List.{List, []}
 use native.Mathlib.Omega.{arith}
 use lib.Dec.{ltb}
 use lib.IntN.{ℤ, pos, negℤ}
-use lib.ListN.{length, getD}
+use lib.ListN.{length, getD, replicate}
 use lib.Seq.{sets, length-sets}
 use Rattle.whole.specs.Lists.{firstOf}
 use Rattle.whole.proofs.Lists.{firstOf-length}
@@ -84,12 +84,16 @@ as-long : (c : tie.After-clear Inv-loop2 μ-loop2 Inv-loop μ-loop) → length (
 as-long c = ap length (c .clear .ensures) ∙ firstOf-length (pos 0) (length (lent c)) []
 
 loop-holds : tie.Need-loop-holds Inv-loop2 μ-loop2 Inv-loop μ-loop
-unfolding recorded flatFaces
+unfolding recorded firstOf flatFaces
 loop-holds c =
-    let n = c .before .before .before .before .before in
+    let p = c .before in
+    let w = p .before in
+    let n = w .before in
     let h = n .before .before in
     let l = h .before .before in
-    let e = n .no-setting .ensures in
+    let e = n .no-building .ensures in
+    let wind = w .no-wind .ensures in
+    let step = p .no-step .ensures in
     let list =
     l .clear .ensures ∙ ap (λ (k : ℕ). firstOf (pos 0) k []) (sym (as-long l)) in (
       omega arith,
@@ -98,15 +102,15 @@ loop-holds c =
         B,
         read-start (length (l .clear .last .0)) (l .before .before .before .args .s .now) (h .opens-tall .result)
             (h .opens-tall .ensures)
-            (λ i. record { year = pos 1; building = e i .building; lowest = pos 0; highest = negℤ (pos 1) })
+            (λ i. record { year = pos 1; building = e i; lowest = pos 0; highest = negℤ (pos 1) })
             (λ i. record {
               setting =
                   record {
                     year = pos 1;
-                    building = e i .building;
-                    winds = e i .winds;
-                    internals = e i .internals;
-                    profile = e i .profile;
+                    building = e i;
+                    winds = record { count = 0; entry = replicate 8 (wind i) };
+                    internals = record { count = 0; entry = replicate 4 (pos 0) };
+                    profile = record { count = 0; entry = replicate 16 (step i) };
                   };
               faces = 0;
               list = list i;
@@ -120,7 +124,7 @@ module _ (c : tie.After-section-at Inv-loop2 μ-loop2 Inv-loop μ-loop) where
   outer = c .before .before
 
   abbrev ending : tie.After-is-ended Inv-loop2 μ-loop2 Inv-loop μ-loop
-  ending = outer .before .before .before .before .before .before .before
+  ending = outer .before .before .before .before .before
 
   abbrev begun : tie.After-opens-tall Inv-loop2 μ-loop2 Inv-loop μ-loop
   begun = ending .before
@@ -366,7 +370,7 @@ winds-room c =
     let e = c .before .before .before .before in
     entry-room (entry e) (of e (c .before .enum-told3 .given .1))
 
-internals-room : (c : tie.After-internals2 Inv-loop2 μ-loop2 Inv-loop μ-loop)
+internals-room : (c : tie.After-internals Inv-loop2 μ-loop2 Inv-loop μ-loop)
     → kept (c .before .before .before .before .before) .setting .internals .count < 4
 internals-room c =
     let e = c .before .before .before .before in
@@ -469,7 +473,7 @@ loop-again c =
 -- behind the last section
 module _ (c : tie.After-loop Inv-loop2 μ-loop2 Inv-loop μ-loop) where
   abbrev opened : tie.After-opens-tall Inv-loop2 μ-loop2 Inv-loop μ-loop
-  opened = c .before .before .before .before .before .before .before .before .before
+  opened = c .before .before .before .before .before .before .before
 
   all : c .before .loop .i ≡ length (sections (opened .opens-tall .result))
   all = omega (arith, c .before .before .section-count .ensures, c .before .loop .inv .0, c .loop-test .left)
@@ -509,7 +513,7 @@ pub read-into-spec : {M : Type 1} → statement M
 read-into-spec =
     tie.close
     (tie.spec Inv-loop2 μ-loop2 Inv-loop μ-loop (λ c κs. search needs) (λ c κs. search needs) (λ c κs. search needs)
-    (λ c κs. search needs) (λ c κs. search needs) loop-holds (λ c κs. search needs) (λ c κs. text-ended c)
+    (λ c κs. search needs) (λ c κs. search needs) (λ c κs. search needs) (λ c κs. search needs) loop-holds (λ c κs. search needs) (λ c κs. text-ended c)
     (λ c κs. search needs) same-length returns add-line faces-from-requires
     (λ c.
     omega (arith, low (number (unread c) .before), counted-so-far (unread c) .lines, plain c .faces-from .ensures .0))
