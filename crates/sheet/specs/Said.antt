@@ -137,6 +137,10 @@ PlainLine t heights s from w =
     × (w .number ≡ saysOf t heights (held (lineAt s from)))
     × (letter (at (held (lineAt s from)) 0) ≤ 90)
 
+abbrev pub faceLine : ℕ → ℤ → ℤ → ℤ → ℤ → ℤ → ℕ → FaceLine
+faceLine zone mark height x y z next =
+    record { next = next; face = record { zone = zone; mark = mark; height = height; x = x; y = y; z = z } }
+
 -- a face line in form that begins at a place
 abbrev pub PlainFace : Bool → List ℕ → ℕ → FaceLine → Type 0
 PlainFace heights s from r =

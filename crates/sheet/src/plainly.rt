@@ -11,7 +11,7 @@ ghost use lib.IntN.{pos};
 ghost use lib.ListN.{length, getD, take, drop};
 ghost use Rattle.whole.specs.Digits.{digits};
 ghost use Rattle.sheet.specs.Said.{Ended, DigitsStand, NumberStands, MarkStands, HeightStands};
-ghost use Rattle.sheet.specs.Said.{NumbersStand, PlainFace};
+ghost use Rattle.sheet.specs.Said.{NumbersStand, faceLine, PlainFace};
 
 // Digits that stand in a text: the place behind them, and their number. Where there are none, that place is 0.
 pub(crate) struct Natural {
@@ -248,6 +248,22 @@ fn no_line() -> FaceLine
     }
 }
 
+fn face_line(zone: u8, m: Spelled, h: Spelled, x: Spelled, y: Spelled, z: Spelled) -> FaceLine
+    ensures { λ r. ⌜ r ≡ faceLine zone (m .z) (h .z) (x .z) (y .z) (z .z) (z .end) ⌝ }
+{
+    FaceLine {
+        next: z.end,
+        face: Face {
+            zone,
+            mark: m.z,
+            height: h.z,
+            x: x.z,
+            y: y.z,
+            z: z.z,
+        },
+    }
+}
+
 // A face line: zone, mark, the height where faces have one, and the areas.
 pub(crate) fn face_at(s: &[u8], at: usize, heights: bool) -> FaceLine
     requires { ⌜ Ended (now s) ⌝ }
@@ -274,15 +290,5 @@ pub(crate) fn face_at(s: &[u8], at: usize, heights: bool) -> FaceLine
         return no_line();
     }
     let z = number_at(s, y.end, 10);
-    FaceLine {
-        next: z.end,
-        face: Face {
-            zone,
-            mark: m.z,
-            height: h.z,
-            x: x.z,
-            y: y.z,
-            z: z.z,
-        },
-    }
+    face_line(zone, m, h, x, y, z)
 }

@@ -3,8 +3,7 @@ use Prim.Native.Nat.{_+_, _<_}
 use mathlib.Core.Path.{_≡_, refl, ap, sym, _∙_, subst}
 use native.Mathlib.Omega.{arith}
 use lib.ListN.{length}
-use mir.Syntax.{w64}
-use Rattle.whole.proofs.Size.{returned}
+use Rattle.sheet.specs.declared.plainly.FaceLine.{FaceLine}
 use Rattle.sheet.specs.Said.{PlainFace}
 use Rattle.sheet.proofs.PlainLine.{face-plain, height-on}
 use borrow.Author.Needs.{needs}
@@ -50,7 +49,7 @@ number-at-requires-3 c κs =
 returns-6 : tie.Need-returns-6
 returns-6 c =
     λ n.
-    let z = c .before .before .before .before .before in
+    let z = c .before in
     let y = z .before .before .before in
     let x = y .before .before .before in
     let h = x .before .before .before in
@@ -58,25 +57,15 @@ returns-6 c =
     let l = m .before .before in
     let a = l .before .before .args in
     let lo = l .letter-at .ensures (m .before .if1 .left) in
-    let p =
-    face-plain (l .letter-at .result) (lo .1) (lo .2) (a .s .now) (a .at) (lo .3) (a .heights) (m .mark-at .result .z)
+    let is = c .face-line .ensures in
+    subst (PlainFace (a .heights) (a .s .now) (a .at)) (sym is)
+    (face-plain (l .letter-at .result) (lo .1) (lo .2) (a .s .now) (a .at) (lo .3) (a .heights) (m .mark-at .result .z)
     (h .height-at .result .z) (x .number-at .result .z) (y .number-at2 .result .z) (z .number-at3 .result .z)
     (m .mark-at .result .end) (h .height-at .result .end) (x .number-at .result .end) (y .number-at2 .result .end)
     (z .number-at3 .result .end) (m .mark-at .ensures (h .before .if2 .left))
     (x .number-at .ensures (y .before .if4 .left)) (y .number-at2 .ensures (z .before .if5 .left))
-    (z .number-at3 .ensures n) (h .height-at .ensures (x .before .if3 .left)) in
-    let told5 = c in
-    let told4 = told5 .before in
-    let told3 = told4 .before in
-    let told2 = told3 .before in
-    rw (
-      returned w64 (m .mark-at .result .z) (told2 .before .struct-told .given .1 .0 .1) .same,
-      returned w64 (h .height-at .result .z) (told2 .struct-told2 .given .1 .0 .1) .same,
-      returned w64 (x .number-at .result .z) (told3 .struct-told3 .given .1 .0 .1) .same,
-      returned w64 (y .number-at2 .result .z) (told4 .struct-told4 .given .1 .0 .1) .same,
-      returned w64 (z .number-at3 .result .z) (told5 .struct-told5 .given .1 .0 .1) .same,
-    )
-    p
+    (z .number-at3 .ensures (λ e. n (ap (λ (r : FaceLine). r .next) is ∙ e)))
+    (h .height-at .ensures (x .before .if3 .left)))
 
 pub face-at-spec : {M : Type 1} → statement M
 face-at-spec =
@@ -85,4 +74,4 @@ face-at-spec =
     mark-at-requires (λ c κs. search needs) (λ c n. absurd (n (c .no-line2 .ensures))) height-at-requires
     (λ c κs. search needs) (λ c n. absurd (n (c .no-line3 .ensures))) number-at-requires (λ c κs. search needs)
     (λ c n. absurd (n (c .no-line4 .ensures))) number-at-requires-2 (λ c κs. search needs)
-    (λ c n. absurd (n (c .no-line5 .ensures))) number-at-requires-3 returns-6)
+    (λ c n. absurd (n (c .no-line5 .ensures))) number-at-requires-3 (λ c κs. search needs) returns-6)
