@@ -10,8 +10,10 @@ pub mod RoundTrip
 pub mod Answered
 pub mod FacesBack
 pub mod Steps
+pub mod Opens
 pub mod OneMore
 pub mod SoFar
+pub mod FaceLines
 pub mod Plain
 pub mod PlainLine
 pub mod Worked

@@ -1,6 +1,6 @@
 -- Laws of what is kept with one entry more: it is that of what is then carried, what is judged by it, and it counts one
 -- more of its section and none of a later one.
-use Prim.Native.Nat.{ℕ, zero, suc, _+_, _*_, _≤_}
+use Prim.Native.Nat.{ℕ, zero, suc, _+_, _*_, _≤_, _<_}
 use mathlib.Core.Path.{_≡_, refl, sym}
 use mathlib.Core.Bool.{Bool, true, false}
 use mathlib.Core.List.{List, [], _∷_}
@@ -188,6 +188,22 @@ one-more lent F c fs = omega (arith, length-append (c .faces) (faceOf (hasHeight
 -- of these sections nothing is kept
 abbrev pub Unread : Kept → List Section → Type 0
 Unread k ts = Every (λ t. countIn k t ≡ 0) ts
+
+-- so of the faces, whose section is the last, while one is still to be read
+pub no-face-yet : (h : Bool) (i : ℕ) (k : Kept) → i < length (sections h) → Unread k (drop i (sections h))
+    → k .faces ≡ 0
+no-face-yet true zero k l u = u .1 .1 .1 .1 .1 .0
+no-face-yet true (suc zero) k l u = u .1 .1 .1 .1 .0
+no-face-yet true (suc (suc zero)) k l u = u .1 .1 .1 .0
+no-face-yet true (suc (suc (suc zero))) k l u = u .1 .1 .0
+no-face-yet true (suc (suc (suc (suc zero)))) k l u = u .1 .0
+no-face-yet true (suc (suc (suc (suc (suc zero))))) k l u = u .0
+no-face-yet true (suc (suc (suc (suc (suc (suc n)))))) k l u = absurd (omega (arith, l))
+no-face-yet false zero k l u = u .1 .1 .1 .0
+no-face-yet false (suc zero) k l u = u .1 .1 .0
+no-face-yet false (suc (suc zero)) k l u = u .1 .0
+no-face-yet false (suc (suc (suc zero))) k l u = u .0
+no-face-yet false (suc (suc (suc (suc n)))) k l u = absurd (omega (arith, l))
 
 pub none-later : (lent : ℕ) (h : Bool) (i : ℕ) (c : Carried) (fs : List Field)
     → Unread (keptOf lent c) (drop (suc i) (sections h))

@@ -1,15 +1,16 @@
 -- Laws of a plain line: digits that stand one after another are those of a number, and fields in form that stand one
 -- after another up to LF are the line.
-use Prim.Native.Nat.{ℕ, suc, _+_, _-_, _*_, _/_, _%_, _^_, _≤_, _<_}
+use Prim.Native.Nat.{ℕ, zero, suc, _+_, _-_, _*_, _/_, _%_, _^_, _≤_, _<_}
 use mathlib.Core.Path.{_≡_, refl, ap, _∙_, sym}
-use mathlib.Core.Bool.{Bool, true, false, cond}
+use mathlib.Core.Bool.{Bool, true, false, not, cond, false≢true}
 use mathlib.Core.List.{List, [], _∷_, _++_, map, append-assoc}
 use native.Mathlib.Omega.{arith}
 use native.Mathlib.Numerals.{add-one}
-use native.Mathlib.Nat.{pow-le-pow-right, le-refl}
-use lib.Dec.{eqb, lit<}
-use lib.IntN.{ℤ, pos, negsuc}
-use borrow.Author.Tests.{eqb-true}
+use native.Mathlib.Nat.{le-refl}
+use lib.Dec.{eqb, ltb}
+use lib.IntN.{ℤ, pos, negsuc, negℤ}
+use borrow.Author.Tests.{eqb-true, ltb-true, ltb-false}
+use Rattle.whole.proofs.Tests.{by-test}
 use lib.ListN.{length, getD, take, drop, set}
 use lib.Seq.{drop-cons, take-suc, take-set-le, lt-length-set, getD-set-same, getD-set-other, sets}
 use Rattle.whole.specs.Digits.{digits, decimal}
@@ -20,7 +21,7 @@ use Rattle.whole.proofs.Size.{num≤, nat, back}
 use Rattle.whole.proofs.Pieces.{map-append}
 use Rattle.field.specs.declared.Field.{Field}
 use Rattle.lines.specs.Lines.{fieldText, lineText}
-use Rattle.sheet.specs.Said.{numberField, Short}
+use Rattle.sheet.specs.Said.{Ended, numberField, Short, DigitsStand, NumberStands}
 use Rattle.whole.proofs.Digits.{digits-small, digits-more}
 
 -- ---- digits
@@ -56,19 +57,37 @@ module _ (s : List ℕ) (i : ℕ) (h : i < length s) where
     pub digit-first : drop i s ≡ digits (byte - 48) ++ drop (i + 1) s
     digit-first = next-byte ∙ sym (ap (λ (t : List ℕ). t ++ drop (i + 1) s) (digits-one byte lo hi))
 
--- so many digits at most
-pub few-digits : (n k : ℕ) → n < 10 ^ k → k ≤ 7 → n < 10 ^ 7
-few-digits n k h l = omega (arith, pow-le-pow-right {n = 10} (lit< tt) {i = k} {j = 7} l)
+-- behind a byte that is no LF stands another
+pub on : (s : List ℕ) {i : ℕ} → Ended s → i < length s → (getD s i 0 ≡ 10 → ⊥) → i + 1 < length s
+on s {i} e h n =
+    by-test (ltb (i + 1) (length s)) (λ t. ltb-true (i + 1) (length s) t)
+    (λ t.
+    let q : length s - 1 ≡ i = omega (arith, ltb-false (i + 1) (length s) t) in
+    absurd (n (rw q at e)))
 
--- a number with a minus sign or without: what stands behind the sign
-pub sign-text : (minus : Bool) (s : List ℕ) {at start : ℕ} (n : ℕ) (z : ℤ) (t : List ℕ) → at < length s
-    → minus ≡ eqb (getD s at 0) 45 → start ≡ cond minus (at + 1) at
-    → decimal z ≡ cond minus (45 ∷ digits n) (digits n) → drop start s ≡ digits n ++ t → drop at s ≡ decimal z ++ t
-sign-text true s {at = at} n z t h m e d r =
-    next-byte s at h
-    ∙ (λ i. eqb-true (getD s at 0) 45 (sym m) i ∷ (ap (λ (k : ℕ). drop k s) (sym e) ∙ r) i)
-    ∙ ap (λ (l : List ℕ). l ++ t) (sym d)
-sign-text false s n z t h m e d r = ap (λ (k : ℕ). drop k s) (sym e) ∙ r ∙ ap (λ (l : List ℕ). l ++ t) (sym d)
+-- a text that is told to end in LF
+pub told : (b : Bool) → not b ≡ false → b ≡ true
+told true e = refl
+told false e = absurd (false≢true (sym e))
+
+-- digits with a minus sign before them, and without
+pub minus-stands : (s : List ℕ) (at n x next : ℕ) → at < length s → getD s at 0 ≡ 45 → (n ≡ 0 → ⊥) → n < 10 ^ 7
+    → DigitsStand s (at + 1) n x next → NumberStands s at (negℤ (pos n)) x next
+unfolding decimal
+minus-stands s at zero x next h b some few d = absurd (some refl)
+minus-stands s at (suc n) x next h b some few d =
+    record {
+      within = d .within;
+      short = few;
+      text = next-byte s at h ∙ (λ i. b i ∷ d .text i);
+      goes-on = d .goes-on;
+    }
+
+pub plain-stands : (s : List ℕ) (at n x next : ℕ) → n < 10 ^ 7 → DigitsStand s at n x next
+    → NumberStands s at (pos n) x next
+unfolding decimal
+plain-stands s at n x next few d =
+    record { within = d .within; short = few; text = d .text; goes-on = d .goes-on }
 
 -- two bytes
 pub two-bytes : (s : List ℕ) (i b x : ℕ) → i + 2 ≤ length s → b ≡ getD s i 0 → getD s (i + 1) 0 ≡ x
@@ -98,7 +117,7 @@ pub passed : ℕ → List ℤ → List ℕ
 passed x [] = []
 passed x (z ∷ zs) = lineText (map numberField (z ∷ zs)) ++ (x ∷ [])
 
-number-text : (z : ℤ) → fieldText (numberField z) ≡ decimal z
+pub number-text : (z : ℤ) → fieldText (numberField z) ≡ decimal z
 unfolding decimal
 number-text (pos n) = refl
 number-text (negsuc n) = refl
@@ -136,15 +155,14 @@ passed-more (y ∷ zs) z x t =
     ∙ ap (λ (l : List Field). lineText l ++ (x ∷ t)) (sym (map-append numberField (y ∷ zs) (z ∷ [])))
     ∙ sym (append-assoc (lineText (map numberField ((y ∷ zs) ++ (z ∷ [])))) (x ∷ []) t)
 
--- the same in a text, with the byte x behind it
-pub passed-next : (s : List ℕ) (next end : ℕ) (zs : List ℤ) (z : ℤ) {ys : List ℤ} {w x : ℕ} → w ≡ 32
-    → drop next s ≡ decimal z ++ drop end s → end < length s → getD s end 0 ≡ x → ys ≡ zs ++ (z ∷ [])
-    → passed w zs ++ drop next s ≡ passed x ys ++ drop (end + 1) s
-passed-next s next end zs z {x = x} sp e h b y =
-    (λ i. passed (sp i) zs ++ e i)
-    ∙ ap (λ (t : List ℕ). passed 32 zs ++ (decimal z ++ t)) (next-byte s end h ∙ rw b)
-    ∙ passed-more zs z x (drop (end + 1) s)
-    ∙ ap (λ (l : List ℤ). passed x l ++ drop (end + 1) s) (sym y)
+-- the same in a text
+pub passed-next : {s : List ℕ} {next : ℕ} {z : ℤ} {x end : ℕ} → NumberStands s next z x end
+    → (zs : List ℤ) {ys : List ℤ} {w : ℕ} → w ≡ 32 → ys ≡ zs ++ (z ∷ [])
+    → passed w zs ++ drop next s ≡ passed x ys ++ drop end s
+passed-next {s} {z = z} {x} {end} n zs sp y =
+    (λ i. passed (sp i) zs ++ n .text i)
+    ∙ passed-more zs z x (drop end s)
+    ∙ ap (λ (l : List ℤ). passed x l ++ drop end s) (sym y)
 
 -- a number stored behind k others
 module _ (number : List ℤ) (k : ℕ) (h : k < length number) {v z : ℤ} (e : v ≡ z) where

@@ -2,7 +2,7 @@
 use Prim.Native.Nat.{ℕ, suc, _+_, _^_, _≤_, _<_}
 use mathlib.Core.Path.{_≡_, refl, ap, _∙_, sym, subst}
 use mathlib.Core.Bool.{Bool, true, false, cond, false≢true}
-use mathlib.Core.List.{List, [], _∷_, _++_, map}
+use mathlib.Core.List.{List, [], _∷_, _++_, map, append-assoc}
 use native.Mathlib.Omega.{arith}
 use lib.Dec.{ltb, leb, eqb}
 use lib.IntN.{ℤ, pos, negsuc, natAbs}
@@ -15,7 +15,7 @@ use Rattle.whole.proofs.Lists.{getD-map, map-every, every-by}
 use Rattle.field.specs.declared.Field.{Field}
 use Rattle.field.specs.declared.Field.the-variants.{Bad, Letter, Dash}
 use Rattle.lines.specs.declared.Line.{Line}
-use Rattle.lines.specs.Lines.{split, lineText, InForm}
+use Rattle.lines.specs.Lines.{split, fieldText, lineText, InForm}
 use Rattle.lines.specs.Held.{held, heldLine, firstLine, lineAt}
 use Rattle.lines.proofs.Lines.{split-until, split-seam}
 use Rattle.lines.proofs.Held.{held-all}
@@ -34,7 +34,9 @@ use Rattle.rules.specs.Form.{hasForm, inForm, numberForms}
 use Rattle.rules.specs.Sections.{forms, countFaults, lineFault}
 use Rattle.rules.proofs.Line.{fault-in}
 use Rattle.sheet.specs.declared.plainly.Numbers.{Numbers}
-use Rattle.sheet.specs.Said.{sixNumbers, numberField, Short, NumbersStand, faceCount, faceBy, PlainLine}
+use Rattle.sheet.specs.Said.{sixNumbers, numberField, Short, NumberStands, MarkStands, HeightStands}
+use Rattle.sheet.specs.Said.{NumbersStand, PlainFace}
+use Rattle.sheet.proofs.Plain.{number-text}
 
 -- ---- the line
 
@@ -175,114 +177,129 @@ numbers-plain n s from w some few (h, six, stand, zeros) =
       rw (l .0) (no-letter zs),
     )
 
--- ---- a letter before numbers: a face line, and a count
+-- ---- a line field by field: a count, and a face
 
--- a letter, a dash or none, and numbers
-abbrev pub lettered : ℕ → Bool → List ℤ → List Field
-lettered zone true zs = Letter zone ∷ Dash ∷ map numberField zs
-lettered zone false zs = Letter zone ∷ map numberField zs
+-- f stands at a place, a space behind it, and then fields
+fields-on : (s : List ℕ) (from behind : ℕ) (f g : Field) (fs : List Field) (t : List ℕ)
+    → drop from s ≡ fieldText f ++ (32 ∷ drop behind s) → drop behind s ≡ lineText (g ∷ fs) ++ t
+    → drop from s ≡ lineText (f ∷ g ∷ fs) ++ t
+unfolding lineText
+fields-on s from behind f g fs t e r =
+    e
+    ∙ ap (λ (l : List ℕ). fieldText f ++ (32 ∷ l)) r
+    ∙ sym (append-assoc (fieldText f) (32 ∷ lineText (g ∷ fs)) t)
 
-face-said : (zone : ℕ) (dash heights : Bool) (a b c d e f : ℤ)
-    → numbersOf (faceBy zone dash heights (a ∷ b ∷ c ∷ d ∷ e ∷ f ∷ []))
-    ≡ numbersOf (faceOf heights (lettered zone dash (take (faceCount dash heights) (a ∷ b ∷ c ∷ d ∷ e ∷ f ∷ []))))
-face-said zone true true a b c d e f = rw (number-is a, number-is b, number-is c, number-is d)
-face-said zone true false a b c d e f = rw (number-is a, number-is b, number-is c)
-face-said zone false true a b c d e f = rw (mark-is a, number-is b, number-is c, number-is d, number-is e)
-face-said zone false false a b c d e f = rw (mark-is a, number-is b, number-is c, number-is d)
+-- a number there
+module _ {s : List ℕ} {from : ℕ} {z : ℤ} {x next : ℕ} (n : NumberStands s from z x next) where
+  number-stands : drop from s ≡ fieldText (numberField z) ++ (x ∷ drop next s)
+  number-stands = n .text ∙ ap (λ (l : List ℕ). l ++ (x ∷ drop next s)) (sym (number-text z))
 
--- they are a face line in form
-module _ (zone : ℕ) (lo : 65 ≤ zone) (hi : zone ≤ 90) where
-  fields-form : (dash : Bool) (zs : List ℤ) → Every Short zs → Every InForm (lettered zone dash zs)
-  fields-form true zs h = ((lo, hi), (tt, numbers-form zs h))
-  fields-form false zs h = ((lo, hi), numbers-form zs h)
-
-  zone-first : (dash : Bool) (zs : List ℤ) → letter (at (lettered zone dash zs) 0) ≤ 90
-  zone-first true zs = hi
-  zone-first false zs = hi
-
-  face-form : (dash heights : Bool) (a b c d e f : ℤ)
-      → Every Short (take (faceCount dash heights) (a ∷ b ∷ c ∷ d ∷ e ∷ f ∷ []))
-      → inForm (forms heights (Entry F))
-      (lettered zone dash (take (faceCount dash heights) (a ∷ b ∷ c ∷ d ∷ e ∷ f ∷ []))) ≡ true
-  unfolding inForm hasForm
-  face-form true true a b c d e f h = numbers-short (a ∷ b ∷ c ∷ d ∷ []) h
-  face-form true false a b c d e f h = numbers-short (a ∷ b ∷ c ∷ []) h
-  face-form false true a b c d e f h = rw (mark-short a (h .0)) (numbers-short (b ∷ c ∷ d ∷ e ∷ []) (h .1))
-  face-form false false a b c d e f h = rw (mark-short a (h .0)) (numbers-short (b ∷ c ∷ d ∷ []) (h .1))
-
-  face-text : (s : List ℕ) (from : ℕ) (dash : Bool) (z : ℤ) (zs : List ℤ) (t : List ℕ)
-      → drop from s ≡ zone ∷ 32 ∷ drop (from + 2) s
-      → (dash ≡ true → drop (from + 2) s ≡ 45 ∷ 32 ∷ drop (from + 2 + 2) s)
-      → drop (cond dash (from + 2 + 2) (from + 2)) s ≡ lineText (map numberField (z ∷ zs)) ++ t
-      → drop from s ≡ lineText (lettered zone dash (z ∷ zs)) ++ t
+  number-last : drop from s ≡ lineText (numberField z ∷ []) ++ (x ∷ drop next s)
   unfolding lineText
-  face-text s from true z zs t e d r =
-      e ∙ ap (λ (l : List ℕ). zone ∷ 32 ∷ l) (d refl ∙ ap (λ (l : List ℕ). 45 ∷ 32 ∷ l) r)
-  face-text s from false z zs t e d r = e ∙ ap (λ (l : List ℕ). zone ∷ 32 ∷ l) r
+  number-last = number-stands
 
-  -- where they stand in a text
-  module _ (s : List ℕ) (from next : ℕ) (h : next ≤ length s) (e : drop from s ≡ zone ∷ 32 ∷ drop (from + 2) s) where
-    abbrev Dashed : Bool → Type 0
-    Dashed dash = dash ≡ true → drop (from + 2) s ≡ 45 ∷ 32 ∷ drop (from + 2 + 2) s
+number-on : {s : List ℕ} {from : ℕ} {z : ℤ} {next : ℕ} → NumberStands s from z 32 next
+    → (g : Field) (fs : List Field) (t : List ℕ) → drop next s ≡ lineText (g ∷ fs) ++ t
+    → drop from s ≡ lineText (numberField z ∷ g ∷ fs) ++ t
+number-on {s} {from} {z} {next} n g fs t = fields-on s from next (numberField z) g fs t (number-stands n)
 
-    abbrev Stand : Bool → Bool → List ℤ → Type 0
-    Stand dash heights v =
-        NumbersStand s (cond dash (from + 2 + 2) (from + 2)) (take (faceCount dash heights) v) next
+-- as a mark
+pub mark-number : {s : List ℕ} {from : ℕ} {z : ℤ} {next : ℕ} → NumberStands s from z 32 next
+    → MarkStands s from z next
+mark-number {z = z} n =
+    record {
+      field = numberField z;
+      formed = number-form z (n .short);
+      marks = mark-short z (n .short);
+      says = mark-is z;
+      text = number-stands n;
+      goes-on = n .goes-on (λ e. omega (arith, e));
+    }
 
-    line-is : (dash : Bool) (z : ℤ) (zs : List ℤ) → length (lettered zone dash (z ∷ zs)) ≤ 6 → Dashed dash
-        → NumbersStand s (cond dash (from + 2 + 2) (from + 2)) (z ∷ zs) next
-        → (held (lineAt s from) ≡ lettered zone dash (z ∷ zs)) × (lineAt s from .next ≡ next)
-    line-is dash z zs six d stand =
-        line-stands s from next (lettered zone dash (z ∷ zs)) h (some dash) six
-        (fields-form dash (z ∷ zs) (stand .1)) (face-text s from dash z zs (10 ∷ drop next s) e d (stand .0))
-      where
-        some : (dash : Bool) → 0 < length (lettered zone dash (z ∷ zs))
-        some true = omega arith
-        some false = omega arith
+-- behind a height, or none, the text goes on
+pub height-on : (heights : Bool) (s : List ℕ) (z : ℤ) (from next : ℕ) → from < length s
+    → HeightStands heights s from z next → next < length s
+height-on true s z from next h hs = hs .goes-on (λ e. omega (arith, e))
+height-on false s z from next h hs = omega (arith, hs .0)
 
-    face-held : (dash heights : Bool) (a b c d e f : ℤ) → Dashed dash
-        → Stand dash heights (a ∷ b ∷ c ∷ d ∷ e ∷ f ∷ [])
-        → (held (lineAt s from) ≡ lettered zone dash (take (faceCount dash heights) (a ∷ b ∷ c ∷ d ∷ e ∷ f ∷ [])))
-        × (lineAt s from .next ≡ next)
-    face-held true true a b c d e f = line-is true a (b ∷ c ∷ d ∷ []) (omega arith)
-    face-held true false a b c d e f = line-is true a (b ∷ c ∷ []) (omega arith)
-    face-held false true a b c d e f = line-is false a (b ∷ c ∷ d ∷ e ∷ []) (omega arith)
-    face-held false false a b c d e f = line-is false a (b ∷ c ∷ d ∷ []) (omega arith)
+-- a letter and a space stand at a place
+module _ (zone : ℕ) (lo : 65 ≤ zone) (hi : zone ≤ 90)
+    (s : List ℕ) (from : ℕ) (e : drop from s ≡ zone ∷ 32 ∷ drop (from + 2) s) where
+  pub face-plain : (heights : Bool) (m h x y z : ℤ) (a b c d next : ℕ) → MarkStands s (from + 2) m a
+      → NumberStands s b x 32 c → NumberStands s c y 32 d → NumberStands s d z 10 next → HeightStands heights s a h b
+      → PlainFace heights s from
+      (record { next = next; face = record { zone = zone; mark = m; height = h; x = x; y = y; z = z } })
+  unfolding inForm hasForm
+  face-plain true m h x y z a b c d next ms xs ys zs hs =
+      let f = ms .field in
+      let four = numberField h ∷ numberField x ∷ numberField y ∷ numberField z ∷ [] in
+      let all : Every Short (h ∷ x ∷ y ∷ z ∷ []) = (hs .short, (xs .short, (ys .short, (zs .short, tt)))) in
+      let t : List ℕ = 10 ∷ drop next s in
+      let l =
+      line-stands s from next (Letter zone ∷ f ∷ four) (zs .within) (omega arith) (omega arith)
+      ((lo, hi), (ms .formed, numbers-form (h ∷ x ∷ y ∷ z ∷ []) all))
+      (fields-on s from (from + 2) (Letter zone) f four t e
+      (fields-on s (from + 2) a f (numberField h) (numberField x ∷ numberField y ∷ numberField z ∷ []) t (ms .text)
+      (number-on hs (numberField x) (numberField y ∷ numberField z ∷ []) t
+      (number-on xs (numberField y) (numberField z ∷ []) t
+      (number-on ys (numberField z) [] t (number-last zs)))))) in (
+        l .1,
+        rw (l .0) (rw (ms .marks) (numbers-short (h ∷ x ∷ y ∷ z ∷ []) all)),
+        rw (l .0)
+            (λ i. record {
+              zone = zone;
+              mark = sym (ms .says) i;
+              height = sym (number-is h) i;
+              x = sym (number-is x) i;
+              y = sym (number-is y) i;
+              z = sym (number-is z) i;
+            }),
+      )
+  face-plain false m h x y z a b c d next ms xs ys zs hs =
+      let f = ms .field in
+      let three = numberField x ∷ numberField y ∷ numberField z ∷ [] in
+      let all : Every Short (x ∷ y ∷ z ∷ []) = (xs .short, (ys .short, (zs .short, tt))) in
+      let t : List ℕ = 10 ∷ drop next s in
+      let l =
+      line-stands s from next (Letter zone ∷ f ∷ three) (zs .within) (omega arith) (omega arith)
+      ((lo, hi), (ms .formed, numbers-form (x ∷ y ∷ z ∷ []) all))
+      (fields-on s from (from + 2) (Letter zone) f three t e
+      (fields-on s (from + 2) a f (numberField x) (numberField y ∷ numberField z ∷ []) t (ms .text)
+      (ap (λ (k : ℕ). drop k s) (hs .0)
+      ∙ number-on xs (numberField y) (numberField z ∷ []) t
+      (number-on ys (numberField z) [] t (number-last zs))))) in (
+        l .1,
+        rw (l .0) (rw (ms .marks) (numbers-short (x ∷ y ∷ z ∷ []) all)),
+        rw (l .0)
+            (λ i. record {
+              zone = zone;
+              mark = sym (ms .says) i;
+              height = hs .1 i;
+              x = sym (number-is x) i;
+              y = sym (number-is y) i;
+              z = sym (number-is z) i;
+            }),
+      )
 
-    face-six : (dash heights : Bool) (a b c d e f : ℤ) → Dashed dash
-        → Stand dash heights (a ∷ b ∷ c ∷ d ∷ e ∷ f ∷ [])
-        → PlainLine F heights s from
-        (record { next = next; number = numbersOf (faceBy zone dash heights (a ∷ b ∷ c ∷ d ∷ e ∷ f ∷ [])) })
-    face-six dash heights a b c d e f dashed stand =
-        let l = face-held dash heights a b c d e f dashed stand in (
-          l .1,
-          rw (l .0) (face-form dash heights a b c d e f (stand .1)),
-          rw (l .0) (face-said zone dash heights a b c d e f),
-          rw (l .0) (zone-first dash _),
-        )
+  -- the count of a section
+  pub count-plain : (t : Section) (before : Before) (z : ℤ) (next : ℕ) → NumberStands s (from + 2) z 10 next
+      → (first (countFaults (before .year) t zone z) ≡ lineFault (Count t) before (held (lineAt s from)))
+      × (lineAt s from .next ≡ next) × (natAbs z ≡ size (at (held (lineAt s from)) 1))
+  count-plain t before z next stands =
+      let fs = Letter zone ∷ numberField z ∷ [] in
+      let l =
+      line-stands s from next fs (stands .within) (omega arith) (omega arith)
+      ((lo, hi), (number-form z (stands .short), tt))
+      (fields-on s from (from + 2) (Letter zone) (numberField z) [] (10 ∷ drop next s) e (number-last stands)) in (
+        rw (l .0) (rw (number-is z) at (sym (fault-in (Count t) before fs (counts z)))),
+        l .1,
+        rw (l .0) (sizes z),
+      )
+    where
+      counts : (z : ℤ)
+          → inForm (forms (hasHeights (before .year)) (Count t)) (Letter zone ∷ numberField z ∷ []) ≡ true
+      counts z = count-form zone z
 
-    pub face-plain : (dash heights : Bool) (v : List ℤ) → length v ≡ 6 → Dashed dash → Stand dash heights v
-        → PlainLine F heights s from (record { next = next; number = numbersOf (faceBy zone dash heights v) })
-    face-plain dash heights v six dashed =
-        subst
-        (λ (l : List ℤ). Stand dash heights l
-        → PlainLine F heights s from (record { next = next; number = numbersOf (faceBy zone dash heights l) }))
-        (sym (six-are v six)) (face-six dash heights _ _ _ _ _ _ dashed)
-
-    -- the count of a section
-    pub count-plain : (t : Section) (before : Before) (z : ℤ) → NumbersStand s (from + 2) (z ∷ []) next
-        → (first (countFaults (before .year) t zone z) ≡ lineFault (Count t) before (held (lineAt s from)))
-        × (lineAt s from .next ≡ next) × (natAbs z ≡ size (at (held (lineAt s from)) 1))
-    count-plain t before z stand =
-        let l = line-is false z [] (omega arith) (λ t. absurd (false≢true t)) stand in (
-          rw (l .0) (rw (number-is z) at (sym (fault-in (Count t) before (lettered zone false (z ∷ [])) (counts z)))),
-          l .1,
-          rw (l .0) (sizes z),
-        )
-      where
-        counts : (z : ℤ) → inForm (forms (hasHeights (before .year)) (Count t)) (lettered zone false (z ∷ [])) ≡ true
-        counts z = count-form zone z
-
-        sizes : (z : ℤ) → natAbs z ≡ size (numberField z)
-        sizes (pos n) = refl
-        sizes (negsuc n) = refl
+      sizes : (z : ℤ) → natAbs z ≡ size (numberField z)
+      sizes (pos n) = refl
+      sizes (negsuc n) = refl

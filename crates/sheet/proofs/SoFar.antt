@@ -108,9 +108,9 @@ module _ {lent : ℕ} {s : List ℕ} {h : Bool} {sec : Section} {i : ℕ} {b : B
   count-stops =
       line-stops s (Count (sectionAt h i)) (map Count later) (r .carries) (r .judges) line next hx hf count-called
 
-  pub count-read : f ≡ 0 → {left : ℕ} → left ≡ size (at (held x) 1)
+  count-on : f ≡ 0 → {left : ℕ} → left ≡ size (at (held x) 1)
       → ReadSoFar lent s h (sectionAt h i) left (suc i) b k (line + 1) (x .next)
-  count-read z {left} hl =
+  count-on z {left} hl =
       let u : Unread k (sectionAt h i ∷ later) = rw next-section at (r .unread) in
       let m : left ≤ about (sectionAt h i) .most (b .year) =
       rw hl (count-most (sectionAt h i) b (held x) (sym hf ∙ z)) in
@@ -126,6 +126,11 @@ module _ {lent : ℕ} {s : List ℕ} {h : Bool} {sec : Section} {i : ℕ} {b : B
         unread = u .1;
         lines = omega (arith, r .lines, most-roomed (b .year) (sectionAt h i));
       }
+
+  pub count-read : f ≡ 0 → {left : ℕ} → left ≡ size (at (held x) 1) → {after : ℕ} → after ≡ x .next
+      → ReadSoFar lent s h (sectionAt h i) left (suc i) b k (line + 1) after
+  count-read z {left} hl e =
+      subst (λ (n : ℕ). ReadSoFar lent s h (sectionAt h i) left (suc i) b k (line + 1) n) (sym e) (count-on z hl)
 
 -- ---- an entry of the section
 

@@ -4,13 +4,13 @@ use job::Faces;
 use job::MOST_FACES;
 use job::no_face;
 ghost use mathlib.Core.Path.{_≡_};
-ghost use mathlib.Core.List.{[]};
-ghost use Prim.Native.Nat.{_*_, _≤_, _<_};
+ghost use mathlib.Core.List.{[], _∷_};
+ghost use Prim.Native.Nat.{_+_, _*_, _≤_, _<_};
 ghost use lib.IntN.{pos};
 ghost use lib.ListN.{length, set};
 ghost use lib.Seq.{sets};
 ghost use Rattle.whole.specs.Lists.{firstOf};
-ghost use Rattle.entry.specs.Flat.{perFace, faceIn, facesIn};
+ghost use Rattle.entry.specs.Flat.{perFace, numbersOf, faceIn, facesIn};
 ghost use Rattle.job.specs.Carried.{noFace, mostFaces};
 
 // The numbers of as many faces as a record has room for.
@@ -46,6 +46,31 @@ pub(crate) fn put_numbers(flat: &mut [i64], n: u32, v: [i64; 6])
         put_number(flat, at + k, z);
         k += 1;
     }
+}
+
+// Six numbers from a place on.
+fn put_six(flat: &mut [i64], at: usize, zone: i64, mark: i64, height: i64, x: i64, y: i64, z: i64)
+    requires { ⌜ at + 6 ≤ length (now flat) ⌝ }
+    ensures { λ r. ⌜ now (flat .exit) ≡ sets (now (flat .entry)) at (zone ∷ mark ∷ height ∷ x ∷ y ∷ z ∷ []) ⌝ }
+{
+    flat[at] = zone;
+    flat[at + 1] = mark;
+    flat[at + 2] = height;
+    flat[at + 3] = x;
+    flat[at + 4] = y;
+    flat[at + 5] = z;
+}
+
+// Face n, from 0, in the same way.
+pub(crate) fn put_face(flat: &mut [i64], n: u32, f: Face)
+    ensures { λ r. ⌜ now (flat .exit) ≡ sets (now (flat .entry)) (perFace * n) (numbersOf f) ⌝ }
+{
+    let at = 6 * (n as usize);
+    if flat.len() < at + 6 {
+        put_numbers(flat, n, [f.zone as i64, f.mark, f.height, f.x, f.y, f.z]);
+        return;
+    }
+    put_six(flat, at, f.zone as i64, f.mark, f.height, f.x, f.y, f.z);
 }
 
 // Face i, from 0.

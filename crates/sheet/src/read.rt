@@ -1,10 +1,15 @@
 // A sheet read: its sections in order, each its count and as many entries, up to the first fault; and nothing after
 // them. The faces are put into a lent list, and no record is made for the lines.
+use crate::empty::no_building;
 use crate::empty::no_setting;
+use crate::empty::no_step;
+use crate::empty::no_wind;
+use crate::faces::faces_from;
 use crate::flat::MOST_NUMBERS;
 use crate::flat::clear;
 use crate::flat::faces_in;
 use crate::flat::put_numbers;
+use crate::plainly::is_ended;
 use crate::said::building_in;
 use crate::said::count_said;
 use crate::said::entry_said;
@@ -78,10 +83,17 @@ fn accepted(b: Before, winds: Winds, internals: Internals, profile: Profile, fac
     }
 }
 
-// Whether the text opens a sheet with heights; a first line that is too long for a sheet is refused either way.
+// Whether the text opens a sheet with heights; a first line that is too long for a sheet is refused either way. A
+// field that is a letter is its first byte.
 fn opens_tall(s: &[u8]) -> bool
     ensures { λ r. ⌜ walk (sheet r) nothing 1 (linesIn (now (s .entry))) ≡ reading (now (s .entry)) ⌝ }
 {
+    if s.len() == 0 {
+        return false;
+    }
+    if s[0] != b'V' {
+        return false;
+    }
     let x = line_at(s, 0);
     letter_of(field_at(x, 0)) == b'V'
 }
@@ -93,33 +105,47 @@ pub fn read_into(s: &[u8], flat: &mut [i64]) -> Head
 {
     clear(flat);
     let heights = opens_tall(s);
-    let none = no_setting();
-    let building = none.building;
+    let ended = is_ended(s);
+    let building = no_building();
     let mut b = Before {
         year: 1,
         building,
         lowest: 0,
         highest: -1,
     };
-    let mut winds = none.winds;
-    let mut internals = none.internals;
-    let mut profile = none.profile;
+    let mut winds = Winds {
+        count: 0,
+        entry: [no_wind(); 8],
+    };
+    let mut internals = Internals {
+        count: 0,
+        entry: [0i64; 4],
+    };
+    let mut profile = Profile {
+        count: 0,
+        entry: [no_step(); 16],
+    };
     let mut faces: u32 = 0;
     let mut line: u32 = 1;
     let mut next: usize = 0;
     for i in 0..section_count(heights) {
         // the count of the section, and as many entries
         let sec = section_at(heights, i);
-        let x = count_said(sec, s, next, b);
+        let x = count_said(sec, s, next, b, ended);
         let n = x.fault;
         if n != 0 {
             return refused(Verdict { number: n, line }, flat);
         }
         line += 1;
-        next = x.next;
-        let mut left = x.count;
+        let count = x.count;
+        let plain = faces_from(sec, s, x.next, b, ended, flat, faces, count);
+        let done = plain.done;
+        line += done;
+        next = plain.next;
+        faces += done;
+        let mut left = count - done;
         while left != 0 {
-            let x = entry_said(sec, s, next, b);
+            let x = entry_said(sec, s, next, b, ended);
             let n = x.fault;
             if n != 0 {
                 return refused(Verdict { number: n, line }, flat);

@@ -1,7 +1,8 @@
 // What a line says as numbers, its fault, and where the next one begins.
 use crate::plainly::Numbers;
-use crate::plainly::face_at;
 use crate::plainly::letter_at;
+use crate::plainly::none;
+use crate::plainly::number_at;
 use crate::plainly::numbers_at;
 use building::Building;
 use building::Dated;
@@ -21,7 +22,7 @@ use rules::Section;
 use rules::entries;
 use rules::faults::line_fault;
 ghost use mathlib.Core.Path.{_≡_};
-ghost use mathlib.Core.Bool.{true};
+ghost use mathlib.Core.Bool.{Bool, true};
 ghost use mathlib.Core.List.{List};
 ghost use Prim.Native.Nat.{ℕ, _≤_};
 ghost use lib.IntN.{natAbs, pos};
@@ -34,7 +35,7 @@ ghost use Rattle.entry.specs.Says.{letter};
 ghost use Rattle.entry.specs.Flat.{numbersOf, faceIn};
 ghost use Rattle.rules.specs.Sections.{faultsOf};
 ghost use Rattle.sheet.specs.Said.{saysOf, sixNumbers, buildingIn, windIn, stepIn};
-ghost use Rattle.sheet.specs.Said.{entrySaid, countSaid, PlainLine};
+ghost use Rattle.sheet.specs.Said.{Ended, entrySaid, countSaid, PlainLine};
 
 pub(crate) struct Said {
     pub(crate) fault: u32,
@@ -164,23 +165,29 @@ fn by_fields(sec: Section, s: &[u8], at: usize, b: Before) -> Said
     }
 }
 
-fn entry_at(sec: Section, s: &[u8], at: usize, heights: bool) -> Numbers
-    ensures { λ r. ⌜ ((r .next ≡ 0 → ⊥) → PlainLine sec heights (now (s .entry)) at r) ⌝ }
+// Of a plain line in a text that ends in LF. Plain face lines are read in a loop of their own.
+fn entry_at(sec: Section, s: &[u8], at: usize, ended: bool) -> Numbers
+    requires { ⌜ (ended ≡ true → Ended (now s)) ⌝ }
+    ensures { λ r. ⌜ ((r .next ≡ 0 → ⊥) → (heights : Bool) → PlainLine sec heights (now (s .entry)) at r) ⌝ }
 {
+    if !ended {
+        return none();
+    }
     match sec {
         Section::V => numbers_at(s, at, 1),
         Section::B => numbers_at(s, at, 6),
         Section::W => numbers_at(s, at, 2),
         Section::I => numbers_at(s, at, 1),
         Section::P => numbers_at(s, at, 2),
-        Section::F => face_at(s, at, heights),
+        Section::F => none(),
     }
 }
 
-pub(crate) fn entry_said(sec: Section, s: &[u8], at: usize, b: Before) -> Said
+pub(crate) fn entry_said(sec: Section, s: &[u8], at: usize, b: Before, ended: bool) -> Said
+    requires { ⌜ (ended ≡ true → Ended (now s)) ⌝ }
     ensures { λ r. ⌜ r ≡ entrySaid sec b (lineAt (now (s .entry)) at) ⌝ }
 {
-    let w = entry_at(sec, s, at, has_heights(b.year));
+    let w = entry_at(sec, s, at, ended);
     if w.next == 0 {
         return by_fields(sec, s, at, b);
     }
@@ -204,21 +211,25 @@ fn count_by_fields(sec: Section, s: &[u8], at: usize, b: Before) -> Counted
     }
 }
 
-pub(crate) fn count_said(sec: Section, s: &[u8], at: usize, b: Before) -> Counted
+pub(crate) fn count_said(sec: Section, s: &[u8], at: usize, b: Before, ended: bool) -> Counted
+    requires { ⌜ (ended ≡ true → Ended (now s)) ⌝ }
     ensures { λ r. ⌜ r ≡ countSaid sec b (lineAt (now (s .entry)) at) ⌝ }
 {
+    if !ended {
+        return count_by_fields(sec, s, at, b);
+    }
     let letter = letter_at(s, at);
     if letter == 0 {
         return count_by_fields(sec, s, at, b);
     }
-    let w = numbers_at(s, at + 2, 1);
-    if w.next == 0 {
+    let w = number_at(s, at + 2, 10);
+    if w.end == 0 {
         return count_by_fields(sec, s, at, b);
     }
-    let z = w.number[0];
+    let z = w.z;
     Counted {
         fault: entries::count_fault(b.year, sec, letter, z),
-        next: w.next,
+        next: w.end,
         count: whole::magnitude(z) as u32,
     }
 }

@@ -1,70 +1,77 @@
--- `face_at` meets its contract: a letter, a dash or none, and numbers up to LF.
-use Prim.Native.Nat.{_+_, _<_, _≤_}
+-- `face_at` meets its contract: a letter, a mark, a height or none, and the areas up to LF.
+use Prim.Native.Nat.{_+_, _<_}
 use mathlib.Core.Path.{_≡_, refl, ap, sym, _∙_, subst}
-use mathlib.Core.Bool.{Bool, true, false, cond}
-use mathlib.Core.List.{_∷_}
-use lib.ListN.{length, drop}
 use native.Mathlib.Omega.{arith}
-use Rattle.rules.specs.declared.Section.the-variants.{F}
-use Rattle.sheet.specs.declared.plainly.Numbers.{Numbers}
-use Rattle.sheet.specs.Said.{faceCount, PlainLine}
-use Rattle.sheet.proofs.PlainLine.{face-plain}
+use lib.ListN.{length}
+use Rattle.sheet.specs.declared.plainly.FaceLine.{FaceLine}
+use Rattle.sheet.specs.Said.{PlainFace}
+use Rattle.sheet.proofs.PlainLine.{face-plain, height-on}
 use borrow.Author.Needs.{needs}
 use Rattle.sheet.proofs.plainly.face_at.Statement.{statement}
 use Rattle.sheet.proofs.plainly.face_at.Tie as tie
 
--- between one and six
-few : (dash heights : Bool) → (0 < faceCount dash heights) × (faceCount dash heights ≤ 6)
-few true true = (omega arith, omega arith)
-few true false = (omega arith, omega arith)
-few false true = (omega arith, omega arith)
-few false false = (omega arith, omega arith)
+add-mark-at : tie.Need-add-mark-at
+add-mark-at c = let h = c .before .letter-at .ensures (c .if1 .left) .0 in search needs
 
--- a letter and a space stand there
-abbrev lettered : tie.Else1 → Type 0
-lettered c =
-    let l = c .before in
-    let a = l .before .before .args in
-    (a .at + 2 ≤ length (a .s .now)) × (65 ≤ l .letter-at .result) × (l .letter-at .result ≤ 90)
-    × (drop (a .at) (a .s .now) ≡ l .letter-at .result ∷ 32 ∷ drop (a .at + 2) (a .s .now))
+mark-at-requires : tie.Need-mark-at-requires
+mark-at-requires c κs = (c .before .before .before .pre, c .before .letter-at .ensures (c .if1 .left) .0)
 
-letter : (c : tie.Else1) → lettered c
-letter c = c .before .letter-at .ensures (c .if1 .left)
+height-at-requires : tie.Need-height-at-requires
+height-at-requires c κs =
+    let m = c .before .before in
+    (m .before .before .before .before .pre, m .mark-at .ensures (c .if2 .left) .goes-on)
 
-add-dash-at : tie.Need-add-dash-at
-add-dash-at c = let h = letter c in search needs
+number-at-requires : tie.Need-number-at-requires
+number-at-requires c κs =
+    let h = c .before .before in
+    let m = h .before .before .before in
+    let o = m .before .before .before .before in (
+      o .pre,
+      height-on (o .args .heights) (o .args .s .now) (h .height-at .result .z) (m .mark-at .result .end)
+          (h .height-at .result .end) (m .mark-at .ensures (h .before .if2 .left) .goes-on)
+          (h .height-at .ensures (c .if3 .left)),
+    )
 
-add-past : tie.Need-add-past
-add-past c = let h = letter (c .before) in search needs
+number-at-requires-2 : tie.Need-number-at-requires-2
+number-at-requires-2 c κs =
+    let x = c .before .before in (
+      number-at-requires (x .before) κs .0,
+      x .number-at .ensures (c .if4 .left) .goes-on (λ e. omega (arith, e)),
+    )
 
-past-requires : tie.Need-past-requires
-past-requires c κs = let h = letter (c .before) in search needs
+number-at-requires-3 : tie.Need-number-at-requires-3
+number-at-requires-3 c κs =
+    let y = c .before .before in (
+      number-at-requires-2 (y .before) κs .0,
+      y .number-at2 .ensures (c .if5 .left) .goes-on (λ e. omega (arith, e)),
+    )
 
-numbers-at-requires : tie.Need-numbers-at-requires
-numbers-at-requires c κs =
-    let d = c .before .before in
-    rw (c .face-count .ensures) (few (d .dash-at .result) (d .before .before .before .before .args .heights))
-
-returns-2 : tie.Need-returns-2
-returns-2 c =
+returns-6 : tie.Need-returns-6
+returns-6 c =
     λ n.
-    let w = c .before in
-    let k = w .before in
-    let p = k .before in
-    let d = p .before in
-    let e = d .before in
-    let a = e .before .before .before .args in
-    let l = letter e in
-    let is = c .face-numbers .ensures in
-    let q = w .numbers-at .ensures (λ z. n (ap (λ (x : Numbers). x .next) is ∙ z)) in
-    subst (PlainLine F (a .heights) (a .s .now) (a .at)) (sym is)
-    (face-plain (e .before .letter-at .result) (l .1) (l .2) (a .s .now) (a .at) (w .numbers-at .result .next) (q .0)
-    (l .3) (d .dash-at .result) (a .heights) (w .numbers-at .result .number) (q .1)
-    (λ t. d .dash-at .ensures t .1) (rw (p .past .ensures, k .face-count .ensures) at (q .2)))
+    let z = c .before in
+    let y = z .before .before .before in
+    let x = y .before .before .before in
+    let h = x .before .before .before in
+    let m = h .before .before .before in
+    let l = m .before .before in
+    let a = l .before .before .args in
+    let lo = l .letter-at .ensures (m .before .if1 .left) in
+    let is = c .face-line .ensures in
+    subst (PlainFace (a .heights) (a .s .now) (a .at)) (sym is)
+    (face-plain (l .letter-at .result) (lo .1) (lo .2) (a .s .now) (a .at) (lo .3) (a .heights) (m .mark-at .result .z)
+    (h .height-at .result .z) (x .number-at .result .z) (y .number-at2 .result .z) (z .number-at3 .result .z)
+    (m .mark-at .result .end) (h .height-at .result .end) (x .number-at .result .end) (y .number-at2 .result .end)
+    (z .number-at3 .result .end) (m .mark-at .ensures (h .before .if2 .left))
+    (x .number-at .ensures (y .before .if4 .left)) (y .number-at2 .ensures (z .before .if5 .left))
+    (z .number-at3 .ensures (λ e. n (ap (λ (r : FaceLine). r .next) is ∙ e)))
+    (h .height-at .ensures (x .before .if3 .left)))
 
 pub face-at-spec : {M : Type 1} → statement M
 face-at-spec =
     tie.close
-    (tie.spec (λ c κs. search needs) (λ c κs. search needs) (λ c n. absurd (n (c .none .ensures))) add-dash-at
-    (λ c κs. search needs) add-past past-requires (λ c κs. search needs) numbers-at-requires (λ c κs. search needs)
-    returns-2)
+    (tie.spec (λ c κs. search needs) (λ c κs. search needs) (λ c n. absurd (n (c .no-line .ensures))) add-mark-at
+    mark-at-requires (λ c κs. search needs) (λ c n. absurd (n (c .no-line2 .ensures))) height-at-requires
+    (λ c κs. search needs) (λ c n. absurd (n (c .no-line3 .ensures))) number-at-requires (λ c κs. search needs)
+    (λ c n. absurd (n (c .no-line4 .ensures))) number-at-requires-2 (λ c κs. search needs)
+    (λ c n. absurd (n (c .no-line5 .ensures))) number-at-requires-3 (λ c κs. search needs) returns-6)

@@ -1,24 +1,27 @@
 -- `read_into` meets its contract: line by line, what comes of the rest is what comes of the whole text.
-use Prim.Native.Nat.{ℕ, suc, _*_, _≤_, _<_, _-_}
-use mathlib.Core.Path.{_≡_, refl, ap, _∙_, sym}
-use mathlib.Core.Bool.{Bool}
+use Prim.Native.Nat.{ℕ, suc, _+_, _*_, _≤_, _<_, _-_}
+use mathlib.Core.Path.{_≡_, refl, ap, _∙_, sym, subst}
+use mathlib.Core.Bool.{Bool, true}
 use mathlib.Core.List.{List, []}
 use native.Mathlib.Omega.{arith}
+use lib.Dec.{ltb}
 use lib.IntN.{ℤ, pos, negℤ}
-use lib.ListN.{length, getD}
+use lib.ListN.{length, getD, replicate}
 use lib.Seq.{sets, length-sets}
 use Rattle.whole.specs.Lists.{firstOf}
 use Rattle.whole.proofs.Lists.{firstOf-length}
+use Rattle.whole.proofs.Tests.{by-test}
+use borrow.Author.Tests.{ltb-true, ltb-false}
 use Rattle.verdict.specs.Verdict.{accepted, refusal}
 use Rattle.field.specs.declared.Field.{Field}
 use Rattle.lines.specs.declared.Line.{Line}
 use Rattle.lines.specs.Held.{held, lineAt}
 use Rattle.rules.specs.declared.Before.{Before}
 use Rattle.rules.specs.declared.Section.{Section}
-use Rattle.rules.specs.declared.Section.the-variants.{B}
+use Rattle.rules.specs.declared.Section.the-variants.{B, F}
 use Rattle.rules.specs.declared.Kind.{Kind}
 use Rattle.rules.specs.declared.Kind.the-variants.{Count, Entry}
-use Rattle.rules.specs.Sections.{sections, sectionAt, lineFault}
+use Rattle.rules.specs.Sections.{about, sections, sectionAt, lineFault}
 use Rattle.building.specs.Year.{hasHeights}
 use Rattle.entry.specs.Flat.{flatFaces, perFace}
 use Rattle.entry.specs.Says.{yearOf, buildingOf, windOf, internalOf, stepOf}
@@ -31,11 +34,12 @@ use Rattle.job.proofs.Alone.{few-sections}
 use Rattle.job.proofs.Room.{limit-roomed}
 use Rattle.sheet.specs.declared.said.Said.{Said}
 use Rattle.sheet.specs.declared.said.Counted.{Counted}
-use Rattle.sheet.specs.Said.{saysOf, buildingIn, windIn, stepIn, entrySaid, countSaid}
+use Rattle.sheet.specs.Said.{Ended, saysOf, buildingIn, windIn, stepIn, entrySaid, countSaid}
 use Rattle.sheet.specs.Parts.{settingOf}
 use Rattle.sheet.specs.Sheet.{reading}
 use Rattle.sheet.proofs.Plain.{read-back}
-use Rattle.sheet.proofs.OneMore.{Kept}
+use Rattle.sheet.proofs.OneMore.{Kept, countIn, no-face-yet}
+use Rattle.sheet.proofs.FaceLines.{faces-so-far}
 use Rattle.sheet.proofs.SoFar.{ReadSoFar, EntryLine, read-start, count-stops, count-read, entry-stops}
 use Rattle.sheet.proofs.SoFar.{entry-room, entry-read, section-end, end-extra, end-accepted, told-as, as-long-as}
 use mir.ValLaws.{toZ-ofZ}
@@ -51,24 +55,24 @@ keptIn b winds internals profile faces list =
     record { setting = settingOf b winds internals profile; faces = faces; list = list }
 
 abbrev Inv-loop2 : tie.InvT-loop2
-Inv-loop2 s flat₀ heights b₀ winds₀ internals₀ profile₀ faces₀ line₀ next₀ i sec n left₀ end
+Inv-loop2 s flat₀ heights ended b₀ winds₀ internals₀ profile₀ faces₀ line₀ next₀ i sec n count done left₀ end
     flat b winds internals profile faces line next left =
     (length flat ≡ length flat₀) × ReadSoFar (length flat) s heights (sectionAt heights i) left (suc i) b
     (keptIn b winds internals profile faces flat) line next
 
 abbrev μ-loop2 : tie.MeasureT-loop2
-μ-loop2 s flat₀ heights b₀ winds₀ internals₀ profile₀ faces₀ line₀ next₀ i sec n left₀ end
+μ-loop2 s flat₀ heights ended b₀ winds₀ internals₀ profile₀ faces₀ line₀ next₀ i sec n count done left₀ end
     flat b winds internals profile faces line next left =
     left
 
 abbrev Inv-loop : tie.InvT-loop
-Inv-loop s flat₀ heights b₀ winds₀ internals₀ profile₀ faces₀ line₀ next₀ i₀ end
+Inv-loop s flat₀ heights ended b₀ winds₀ internals₀ profile₀ faces₀ line₀ next₀ i₀ end
     flat b winds internals profile faces line next i =
     (i ≤ end) × (length flat ≡ length flat₀) × ((sec : Section) × ReadSoFar (length flat) s heights sec 0 i b
     (keptIn b winds internals profile faces flat) line next)
 
 abbrev μ-loop : tie.MeasureT-loop
-μ-loop s flat₀ heights b₀ winds₀ internals₀ profile₀ faces₀ line₀ next₀ i₀ end
+μ-loop s flat₀ heights ended b₀ winds₀ internals₀ profile₀ faces₀ line₀ next₀ i₀ end
     flat b winds internals profile faces line next i =
     end - i
 
@@ -80,12 +84,16 @@ as-long : (c : tie.After-clear Inv-loop2 μ-loop2 Inv-loop μ-loop) → length (
 as-long c = ap length (c .clear .ensures) ∙ firstOf-length (pos 0) (length (lent c)) []
 
 loop-holds : tie.Need-loop-holds Inv-loop2 μ-loop2 Inv-loop μ-loop
-unfolding recorded flatFaces
+unfolding recorded firstOf flatFaces
 loop-holds c =
-    let n = c .before .before .before .before .before in
-    let h = n .before in
+    let p = c .before in
+    let w = p .before in
+    let n = w .before in
+    let h = n .before .before in
     let l = h .before .before in
-    let e = n .no-setting .ensures in
+    let e = n .no-building .ensures in
+    let wind = w .no-wind .ensures in
+    let step = p .no-step .ensures in
     let list =
     l .clear .ensures ∙ ap (λ (k : ℕ). firstOf (pos 0) k []) (sym (as-long l)) in (
       omega arith,
@@ -94,15 +102,15 @@ loop-holds c =
         B,
         read-start (length (l .clear .last .0)) (l .before .before .before .args .s .now) (h .opens-tall .result)
             (h .opens-tall .ensures)
-            (λ i. record { year = pos 1; building = e i .building; lowest = pos 0; highest = negℤ (pos 1) })
+            (λ i. record { year = pos 1; building = e i; lowest = pos 0; highest = negℤ (pos 1) })
             (λ i. record {
               setting =
                   record {
                     year = pos 1;
-                    building = e i .building;
-                    winds = e i .winds;
-                    internals = e i .internals;
-                    profile = e i .profile;
+                    building = e i;
+                    winds = record { count = 0; entry = replicate 8 (wind i) };
+                    internals = record { count = 0; entry = replicate 4 (pos 0) };
+                    profile = record { count = 0; entry = replicate 16 (step i) };
                   };
               faces = 0;
               list = list i;
@@ -115,8 +123,11 @@ module _ (c : tie.After-section-at Inv-loop2 μ-loop2 Inv-loop μ-loop) where
   abbrev outer : tie.At-loop Inv-loop2 μ-loop2 Inv-loop μ-loop
   outer = c .before .before
 
+  abbrev ending : tie.After-is-ended Inv-loop2 μ-loop2 Inv-loop μ-loop
+  ending = outer .before .before .before .before .before
+
   abbrev begun : tie.After-opens-tall Inv-loop2 μ-loop2 Inv-loop μ-loop
-  begun = outer .before .before .before .before .before .before .before
+  begun = ending .before
 
   abbrev cleared : tie.After-clear Inv-loop2 μ-loop2 Inv-loop μ-loop
   cleared = begun .before .before
@@ -126,6 +137,9 @@ module _ (c : tie.After-section-at Inv-loop2 μ-loop2 Inv-loop μ-loop) where
 
   abbrev text : List ℕ
   text = cleared .before .before .before .args .s .now
+
+  text-ended : ending .is-ended .result ≡ true → Ended text
+  text-ended = ending .is-ended .ensures
 
   few : outer .loop .i < length (sections heights)
   few = omega (arith, outer .before .section-count .ensures, c .before .loop-test .taken)
@@ -180,16 +194,94 @@ add-line c =
     let a = c .before .before in
     omega (arith, low a, outer a .loop .inv .2 .1 .lines)
 
+-- the entries are still to be read
+module _ (c : tie.Else1 Inv-loop2 μ-loop2 Inv-loop μ-loop) where
+  abbrev number : tie.After-count-said Inv-loop2 μ-loop2 Inv-loop μ-loop
+  number = c .before
+
+  abbrev before-it : tie.At-loop Inv-loop2 μ-loop2 Inv-loop μ-loop
+  before-it = outer (number .before)
+
+  abbrev kept-yet : Kept
+  kept-yet =
+      let t = before-it .loop in
+      keptIn (t .b) (t .winds) (t .internals) (t .profile) (t .faces) (t .flat)
+
+  abbrev called : ℕ
+  called = number .count-said .result .count
+
+  counted-so-far : ReadSoFar (length (before-it .loop .flat)) (text (number .before)) (heights (number .before))
+      (sectionAt (heights (number .before)) (before-it .loop .i)) called (suc (before-it .loop .i))
+      (before-it .loop .b) kept-yet
+      (before-it .loop .line + 1) (number .count-said .result .next)
+  counted-so-far =
+      count-read (before-it .loop .inv .2 .1) (few (number .before)) {x = counted number} refl (count-fault number)
+      (c .if1 .left) (ap (λ (r : Counted). r .count) (count-is number))
+      (ap (λ (r : Counted). r .next) (count-is number))
+
+  none-yet : before-it .loop .faces ≡ 0
+  none-yet =
+      no-face-yet (heights (number .before)) (before-it .loop .i) kept-yet (few (number .before))
+      (before-it .loop .inv .2 .1 .unread)
+
+  faces-fit : number .before .section-at .result ≡ F → before-it .loop .faces + called ≤ mostFaces
+  faces-fit e =
+      let year = before-it .loop .b .year in
+      let r =
+      subst (λ (t : Section). countIn kept-yet t + called ≤ about t .most year)
+      (sym (number .before .section-at .ensures) ∙ e) (counted-so-far .room) in
+      omega (arith, r, limit-roomed year)
+
+-- the plain faces, if it is their section
+module _ (c : tie.After-flat3 Inv-loop2 μ-loop2 Inv-loop μ-loop) where
+  abbrev plain : tie.After-faces-from Inv-loop2 μ-loop2 Inv-loop μ-loop
+  plain = c .before
+
+  abbrev unread : tie.Else1 Inv-loop2 μ-loop2 Inv-loop μ-loop
+  unread = plain .before .before
+
+  abbrev its : tie.At-loop Inv-loop2 μ-loop2 Inv-loop μ-loop
+  its = before-it unread
+
+  abbrev passed : ℕ
+  passed = plain .faces-from .result .done
+
+  abbrev list-then : List ℤ
+  list-then = plain .faces-from .last .1 .1 .1 .1 .1 .0
+
+  faces-put : ReadSoFar (length (its .loop .flat)) (text (number unread .before)) (heights (number unread .before))
+      (sectionAt (heights (number unread .before)) (its .loop .i))
+      (called unread - passed) (suc (its .loop .i)) (its .loop .b)
+      (keptIn (its .loop .b) (its .loop .winds) (its .loop .internals) (its .loop .profile)
+      (its .loop .faces + passed) (list-then))
+      (its .loop .line + 1 + passed) (plain .faces-from .result .next)
+  faces-put =
+      let e = plain .faces-from .ensures in
+      let a = number unread .before in
+      faces-so-far (length (its .loop .flat)) (text a) (heights a) (its .loop .i) (its .loop .b) (its .loop .winds)
+      (its .loop .internals) (its .loop .profile) passed (called unread) (its .loop .faces)
+      (its .loop .flat) (its .loop .line + 1) (number unread .count-said .result .next)
+      (plain .faces-from .result .next) (list-then) (counted-so-far unread)
+      (λ h. sym (a .section-at .ensures) ∙ e .1 h) (e .0) (e .2)
+
+  same-room : length (list-then) ≡ length (its .loop .flat)
+  same-room =
+      ap (λ (k : Kept). length (k .list)) (faces-put .keeps) ∙ firstOf-length (pos 0) (length (its .loop .flat)) _
+
+faces-from-requires : tie.Need-faces-from-requires Inv-loop2 μ-loop2 Inv-loop μ-loop
+faces-from-requires c κs =
+    (text-ended (number (c .before) .before), λ e. omega (arith, faces-fit (c .before) e))
+
+add-faces : tie.Need-add-faces Inv-loop2 μ-loop2 Inv-loop μ-loop
+add-faces c =
+    let e = plain c .faces-from .ensures in
+    by-test (ltb 0 (passed c))
+    (λ t. omega (arith, faces-fit (unread c) (e .1 (ltb-true 0 (passed c) t)), e .0))
+    (λ t. let z : passed c ≡ 0 = omega (arith, ltb-false 0 (passed c) t) in
+    omega (arith, z, none-yet (unread c)))
+
 loop2-holds : tie.Need-loop2-holds Inv-loop2 μ-loop2 Inv-loop μ-loop
-loop2-holds c =
-    let n = c .before in
-    let a = n .before in
-    let next = ap (λ (r : Counted). r .next) (count-is n) in (
-      refl,
-      rw next
-          (count-read (outer a .loop .inv .2 .1) (few a) {x = counted n} refl (count-fault n) (c .if1 .left)
-          (ap (λ (r : Counted). r .count) (count-is n))),
-    )
+loop2-holds c = (refl, rw (same-room c) (faces-put c))
 
 -- a line behind the count
 module _ (c : tie.After-entry-said Inv-loop2 μ-loop2 Inv-loop μ-loop) where
@@ -197,7 +289,7 @@ module _ (c : tie.After-entry-said Inv-loop2 μ-loop2 Inv-loop μ-loop) where
   turn = c .before .before
 
   abbrev section : tie.After-section-at Inv-loop2 μ-loop2 Inv-loop μ-loop
-  section = turn .before .before .before
+  section = turn .before .before .before .before .before .before
 
   abbrev kept : Kept
   kept =
@@ -227,7 +319,7 @@ module _ (c : tie.After-refused2 Inv-loop2 μ-loop2 Inv-loop μ-loop) where
       (entry-fault judged) (c .before .before .if2 .taken)
 
   long-here : length (turn judged .loop2 .flat) ≡ length (lent (cleared (section judged)))
-  long-here = turn judged .loop2 .inv .0 ∙ long (section judged)
+  long-here = turn judged .loop2 .inv .0 ∙ same-room (turn judged .before) ∙ long (section judged)
 
 returns-2 : tie.Need-returns-2 Inv-loop2 μ-loop2 Inv-loop μ-loop
 returns-2 c =
@@ -278,7 +370,7 @@ winds-room c =
     let e = c .before .before .before .before in
     entry-room (entry e) (of e (c .before .enum-told3 .given .1))
 
-internals-room : (c : tie.After-internals2 Inv-loop2 μ-loop2 Inv-loop μ-loop)
+internals-room : (c : tie.After-internals Inv-loop2 μ-loop2 Inv-loop μ-loop)
     → kept (c .before .before .before .before .before) .setting .internals .count < 4
 internals-room c =
     let e = c .before .before .before .before in
@@ -290,10 +382,10 @@ steps-room c =
     let e = c .before .before .before .before in
     entry-room (entry e) (of e (c .before .enum-told5 .given .1))
 
-abbrev put-in : tie.After-flat4 Inv-loop2 μ-loop2 Inv-loop μ-loop → tie.Else2 Inv-loop2 μ-loop2 Inv-loop μ-loop
+abbrev put-in : tie.After-flat5 Inv-loop2 μ-loop2 Inv-loop μ-loop → tie.Else2 Inv-loop2 μ-loop2 Inv-loop μ-loop
 put-in c = c .before .before .before .before .before .before
 
-faces-room : (c : tie.After-flat4 Inv-loop2 μ-loop2 Inv-loop μ-loop) → kept (put-in c .before) .faces < mostFaces
+faces-room : (c : tie.After-flat5 Inv-loop2 μ-loop2 Inv-loop μ-loop) → kept (put-in c .before) .faces < mostFaces
 faces-room c =
     let e = put-in c in
     let k = c .before .before .before in
@@ -368,17 +460,20 @@ loop2-again-6 c =
 
 abbrev section-of : (c : tie.After-loop2 Inv-loop2 μ-loop2 Inv-loop μ-loop)
     → tie.After-section-at Inv-loop2 μ-loop2 Inv-loop μ-loop
-section-of c = c .before .before .before .before
+section-of c = c .before .before .before .before .before .before .before
 
 loop-again : tie.Need-loop-again Inv-loop2 μ-loop2 Inv-loop μ-loop
 loop-again c =
-    let t = c .before .loop2 .inv in
-    (omega arith, t .0 ∙ outer (section-of c) .loop .inv .1, (_, section-end (t .1) (c .loop2-test .left)))
+    let t = c .before .loop2 .inv in (
+      omega arith,
+      t .0 ∙ same-room (c .before .before) ∙ outer (section-of c) .loop .inv .1,
+      (_, section-end (t .1) (c .loop2-test .left)),
+    )
 
 -- behind the last section
 module _ (c : tie.After-loop Inv-loop2 μ-loop2 Inv-loop μ-loop) where
   abbrev opened : tie.After-opens-tall Inv-loop2 μ-loop2 Inv-loop μ-loop
-  opened = c .before .before .before .before .before .before .before .before
+  opened = c .before .before .before .before .before .before .before
 
   all : c .before .loop .i ≡ length (sections (opened .opens-tall .result))
   all = omega (arith, c .before .before .section-count .ensures, c .before .loop .inv .0, c .loop-test .left)
@@ -418,8 +513,13 @@ pub read-into-spec : {M : Type 1} → statement M
 read-into-spec =
     tie.close
     (tie.spec Inv-loop2 μ-loop2 Inv-loop μ-loop (λ c κs. search needs) (λ c κs. search needs) (λ c κs. search needs)
-    (λ c κs. search needs) loop-holds (λ c κs. search needs) (λ c κs. search needs) (λ c κs. search needs) same-length
-    returns add-line loop2-holds (λ c κs. search needs) (λ c κs. search needs) same-length-2 returns-2
+    (λ c κs. search needs) (λ c κs. search needs) (λ c κs. search needs) (λ c κs. search needs) loop-holds (λ c κs. search needs) (λ c κs. text-ended c)
+    (λ c κs. search needs) same-length returns add-line faces-from-requires
+    (λ c.
+    omega (arith, low (number (unread c) .before), counted-so-far (unread c) .lines, plain c .faces-from .ensures .0))
+    add-faces (λ c. plain c .faces-from .ensures .0) loop2-holds
+    (λ c κs. text-ended (c .before .before .before .before .before .before .before)) (λ c κs. search needs)
+    same-length-2 returns-2
     (λ c. omega (arith, low (here c), now c .loop2 .inv .1 .lines)) (λ c. search needs) (λ c. search needs)
     (λ c. search needs) (λ c. search needs) loop2-again (λ c. search needs) (λ c κs. search needs) (λ c. search needs)
     loop2-again-2 (λ c. search needs) (λ c κs. search needs) (λ c. omega (arith, winds-room c))

@@ -1,12 +1,9 @@
 -- `entry_said` meets its contract: a plain line is in form, and then it has the faults of its entry.
-use mathlib.Core.Path.{_≡_, sym, subst, _∙_}
-use mathlib.Core.Bool.{Bool}
-use Rattle.whole.proofs.Size.{said}
+use mathlib.Core.Path.{_≡_, sym, _∙_}
 use Rattle.lines.specs.Held.{held, lineAt}
 use Rattle.building.specs.Year.{hasHeights}
 use Rattle.rules.specs.declared.Kind.the-variants.{Entry}
 use Rattle.rules.proofs.Line.{fault-in}
-use Rattle.sheet.specs.Said.{PlainLine}
 use borrow.Author.Needs.{needs}
 use Rattle.sheet.proofs.said.entry_said.Statement.{statement}
 use Rattle.sheet.proofs.said.entry_said.Tie as tie
@@ -15,14 +12,10 @@ returns-2 : tie.Need-returns-2
 returns-2 c =
     let e = c .before .before in
     let w = e .before .before in
-    let h = w .before in
-    let a = h .before .before .before .args in
+    let a = w .before .before .args in
     let s = a .s .now in
     let fs = held (lineAt s (a .at)) in
-    let tall = said hasHeights (a .b .year) (h .has-heights .ensures) (h .before .struct-told .given .0 .1) in
-    let p =
-    subst (λ (t : Bool). PlainLine (a .sec) t s (a .at) (w .entry-at .result)) tall
-    (w .entry-at .ensures (e .if1 .left)) in
+    let p = w .entry-at .ensures (e .if1 .left) (hasHeights (a .b .year)) in
     λ i. record {
       fault = (c .fault-of .ensures fs (p .3) (p .2) ∙ sym (fault-in (Entry (a .sec)) (a .b) fs (p .1))) i;
       next = sym (p .0) i;
@@ -32,5 +25,5 @@ returns-2 c =
 pub entry-said-spec : {M : Type 1} → statement M
 entry-said-spec =
     tie.close
-    (tie.spec (λ c κs. search needs) (λ c κs. search needs) (λ c κs. search needs) (λ c. search needs)
+    (tie.spec (λ c κs. c .before .pre) (λ c κs. search needs) (λ c. search needs)
     (λ c κs. search needs) returns-2)
