@@ -1,5 +1,5 @@
-/* Checks damaged sheets as `aral check` does, one after another in one process: damaged SEED SHEETS. Each must get words
-   and the status of its verdict; so must its first line where it is taken for an observation. To be compiled with
+/* Checks damaged sheets as `aral check` does, one after another in one process: damaged SEED SHEETS. Each must get
+   words and the status of its verdict; so must its first line where it is taken for an observation. To be compiled with
    sanitizers, which end it where memory is misused. It stops where something is not so. */
 #define _POSIX_C_SOURCE 200809L
 #include "aralimogga.h"

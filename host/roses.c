@@ -20,8 +20,8 @@ static struct { unsigned long files, accepted, number[12], parts, empty, cuts, n
 
 static void print_rose(const char *name, const aral_rose *r)
 {
-    printf("%s: %u %u, accepted %u, closed %u, pending %u %u %llu %llu;", name, r->number, r->line, r->accepted, r->closed,
-           r->pending.stage, r->pending.direction, (unsigned long long)r->pending.kind,
+    printf("%s: %u %u, accepted %u, closed %u, pending %u %u %llu %llu;", name, r->number, r->line, r->accepted,
+           r->closed, r->pending.stage, r->pending.direction, (unsigned long long)r->pending.kind,
            (unsigned long long)r->pending.value);
     for (int i = 0, shown = 0; i < CELLS && shown < 12; i++)
         if (r->cell[i]) shown++, printf(" %d/%d %u", i / ARAL_BEAUFORT_NUMBERS, i % ARAL_BEAUFORT_NUMBERS, r->cell[i]);

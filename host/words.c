@@ -98,7 +98,8 @@ static const char *numbered(const char *words, const char *number)
 {
     static char name[80];
     int before = (int)strcspn(words, "#");
-    snprintf(name, sizeof name, "%.*s%s%s", before, words, words[before] ? number : "", words + before + !!words[before]);
+    snprintf(name, sizeof name, "%.*s%s%s", before, words, words[before] ? number : "",
+             words + before + !!words[before]);
     return name;
 }
 

@@ -86,8 +86,8 @@ module _ (j : Job) (t : Taken j) (w i k : ℕ) (n : Numbers j w i) (from : 1 ≤
   -- the coefficients, by the record's face and by the carried one
   pub coefficients-same : (a : ℕ) (x : UnderWind) (c : CaseOf) → x ≡ underWind g u (faceAt g k)
       → c ≡ record { wind = u; internal = internalAt g i }
-      → cond (x .acts) (coefficientsOf (outsideOf (j .year) (j .building) (c .wind .direction) (f .zone)) a (c .internal))
-      noCoefficients
+      → cond (x .acts) (coefficientsOf (outsideOf (j .year) (j .building) (c .wind .direction) (f .zone)) a
+      (c .internal)) noCoefficients
       ≡ cond (acts (faceAt g k) (u .direction)) (coefficientsOf (outsideOf (carried j .year) (carried j .building)
       (u .direction) (faceAt g k .zone)) a (internalAt g i)) noCoefficients
   unfolding carried

@@ -65,8 +65,8 @@ module _ (c : Carried) (o : InOrder c) (axis : Axis) (side : Side) where
   unfolding accountOf
   account-there k h =
       let n = length (c .faces) in
-      ap (λ (x : Extreme). cond (eqb (x .verdict .number) 0) (accountOn c line x (pos (k + 1))) (noAccount (x .verdict)))
-      shown-is
+      ap (λ (x : Extreme). cond (eqb (x .verdict .number) 0) (accountOn c line x (pos (k + 1)))
+      (noAccount (x .verdict))) shown-is
       ∙ ap (λ (t : Bool). cond t (noAccount (refusal 9 0)) (faceAccount c line e (k + 1)))
       (is-within (pos 1) (pos n) (pos (k + 1)) (pos-≤ 1 (k + 1) (omega arith)) (pos-≤ (k + 1) n (omega arith)))
 

@@ -94,8 +94,10 @@ answer-is : (sheet : List ℕ) (line : ℤ) (k : ℕ) {force newtons : ℤ} → 
 answer-is sheet line k q =
     let given = q .5 in
     let back = q .6 in
-    let e = sym (ap (λ (g : List ℕ × ℤ × ℤ). accountOf (reading (g .0)) (g .1) (g .2)) given) ∙ sym (q .4) in
-    (ap (λ (x : Account). x .force) e ∙ ap (λ (b : ℤ × ℤ). b .0) back, ap (λ (x : Account). x .newtons) e ∙ ap (λ (b : ℤ × ℤ). b .1) back)
+    let e = sym (ap (λ (g : List ℕ × ℤ × ℤ). accountOf (reading (g .0)) (g .1) (g .2)) given) ∙ sym (q .4) in (
+      ap (λ (x : Account). x .force) e ∙ ap (λ (b : ℤ × ℤ). b .0) back,
+      ap (λ (x : Account). x .newtons) e ∙ ap (λ (b : ℤ × ℤ). b .1) back,
+    )
 
 module _ (sheet : List ℕ) (c : Carried) (e : reading sheet ≡ Accepted c) (axis : Axis) (side : Side) where
   o : InOrder c
@@ -169,7 +171,8 @@ module _ (c : Carried) (line face : ℤ) where
   no-such-face axis side is n =
       let shown = ap (hostLine (c .year) (sixExtremes c)) is ∙ line-is (c .year) (sixExtremes c) axis side in
       let own = faceAccount c line (hostExtreme (c .year) (shownIn (sixExtremes c) axis side)) (natAbs face) in
-      ap (λ (x : host.Extreme). cond (eqb (x .verdict .number) 0) (accountOn c line x face) (noAccount (x .verdict))) shown
+      ap (λ (x : host.Extreme). cond (eqb (x .verdict .number) 0) (accountOn c line x face)
+      (noAccount (x .verdict))) shown
       ∙ by-test (beyond (pos 1) (pos (length (c .faces))) face)
       (λ t. ap (λ (b : Bool). cond b (noAccount (refusal 9 0)) own) t)
       (λ t. let w = within 1 (length (c .faces)) face t in absurd (n (natAbs face) (w .from) (w .to) (sym (w .plain))))

@@ -29,8 +29,10 @@ returns-2 c =
     let s = e .before in
     let a = s .args in
     let fits : SFits w64 (a .job .year) = search needs in
+    let year = toZ-ofZ w64 (a .job .year) fits in
+    let direction = toZ-ofZ w64 (a .direction) (s .fits .direction) in
     c .in-book .ensures
-    ∙ (λ i. coefficientsOf (outsideOf (toZ-ofZ w64 (a .job .year) fits i) (a .job .building) (toZ-ofZ w64 (a .direction) (s .fits .direction) i) (a .zone))
+    ∙ (λ i. coefficientsOf (outsideOf (year i) (a .job .building) (direction i) (a .zone))
     (a .alternative) (toZ-ofZ w64 (a .internal) (s .fits .internal) i))
     ∙ ap (λ (t : Bool). cond t (own s) noCoefficients) (sym (not-false (s .args .acts) (e .if1 .left)))
 

@@ -31,7 +31,8 @@ use Rattle.account.specs.declared.steps.CaseOf.{CaseOf}
 use Rattle.account.specs.Coefficients.{outsideIn, coefficientsOf, noCoefficients}
 use Rattle.account.proofs.InColumn.{newtons-read}
 use Rattle.account.proofs.Case.{Numbers, case-numbers}
-use Rattle.account.proofs.Bounds.{shown-low, area-carried, met, under-is, under-low, internal-low, coefficients-same}
+use Rattle.account.proofs.Bounds.{shown-low, area-carried, met, under-is, under-low, internal-low}
+use Rattle.account.proofs.Bounds.{coefficients-same}
 use Rattle.account.proofs.Together.{put-together}
 use Rattle.account.proofs.steps.face_account.Statement.{statement}
 use Rattle.account.proofs.steps.face_account.Tie as tie
@@ -240,8 +241,8 @@ returns c =
       force = force-same n i;
       newtons = newtons-same n i;
     })
-    ∙ put-together (carried (j st)) (line st) (shown st) (k st) (face st .zone) (zone-is n) (result x) coefficients-are u
-    (under (d x)) (r n .area-on .result) (here-is n) (z n .force-of .result) force-is (n .newtons-at .result)
+    ∙ put-together (carried (j st)) (line st) (shown st) (k st) (face st .zone) (zone-is n) (result x)
+    coefficients-are u (under (d x)) (r n .area-on .result) (here-is n) (z n .force-of .result) force-is (n .newtons-at .result)
     (newtons-is n)
 
 pub face-account-spec : {M : Type 1} → statement M

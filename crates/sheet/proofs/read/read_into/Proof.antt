@@ -513,7 +513,8 @@ pub read-into-spec : {M : Type 1} → statement M
 read-into-spec =
     tie.close
     (tie.spec Inv-loop2 μ-loop2 Inv-loop μ-loop (λ c κs. search needs) (λ c κs. search needs) (λ c κs. search needs)
-    (λ c κs. search needs) (λ c κs. search needs) (λ c κs. search needs) (λ c κs. search needs) loop-holds (λ c κs. search needs) (λ c κs. text-ended c)
+    (λ c κs. search needs) (λ c κs. search needs) (λ c κs. search needs) (λ c κs. search needs) loop-holds
+    (λ c κs. search needs) (λ c κs. text-ended c)
     (λ c κs. search needs) same-length returns add-line faces-from-requires
     (λ c.
     omega (arith, low (number (unread c) .before), counted-so-far (unread c) .lines, plain c .faces-from .ensures .0))

@@ -45,7 +45,8 @@ loop-holds c =
       c .before .pre .1,
       few-more 0 (s .from - s .from) _ (omega arith) (e .1),
       λ profile h.
-          ap (plusAxes (axesOf (s .b) profile (s .w) (firstOf noFace (s .from) (facesIn (s .to) (now (s .flat)))))) (e .0)
+          ap (plusAxes (axesOf (s .b) profile (s .w) (firstOf noFace (s .from) (facesIn (s .to) (now (s .flat))))))
+          (e .0)
           ∙ plus-no-axes _,
       c .before .pre .5,
     )

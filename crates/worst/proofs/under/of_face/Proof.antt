@@ -68,8 +68,11 @@ returns c =
     let speed-fits : SFits w64 (v .speed-at .result) = search needs in
     let pressure-fits : SFits w64 (c .pressure-of .result) = search needs in
     let own : Factor → ℤ = λ k. speedAt k (w .speed) in
-    let speed-is = toZ-ofZ w64 _ speed-fits ∙ v .speed-at .ensures ∙ ap (speedAt (f .factor-of .result)) (speed f .same) ∙ ap own (factor f) in
-    let pressure-is = toZ-ofZ w64 _ pressure-fits ∙ c .pressure-of .ensures ∙ ap (λ k. pressure density (own k)) (factor f) in
+    let speed-is =
+    toZ-ofZ w64 _ speed-fits ∙ v .speed-at .ensures ∙ ap (speedAt (f .factor-of .result)) (speed f .same)
+    ∙ ap own (factor f) in
+    let pressure-is =
+    toZ-ofZ w64 _ pressure-fits ∙ c .pressure-of .ensures ∙ ap (λ k. pressure density (own k)) (factor f) in
     λ i. record { acts = t .takes-part .ensures i; speed = speed-is i; pressure = pressure-is i }
 
 pub of-face-spec : {M : Type 1} → statement M
