@@ -28,6 +28,7 @@ use Rattle.worst.proofs.PerFace.{internal-numbered}
 use Rattle.worst.proofs.Ranges.{pressure-small}
 use Rattle.worst.proofs.Rows.{ready}
 use Rattle.worst.proofs.FaceUnder.{face-numbered, under-numbered, under-counted}
+use Rattle.column.specs.Column.{numberOn}
 use Rattle.account.specs.declared.coefficients.Coefficients.{Coefficients}
 use Rattle.account.specs.declared.steps.CaseOf.{CaseOf}
 use Rattle.account.specs.Coefficients.{outsideIn, coefficientsOf, noCoefficients}
@@ -40,6 +41,12 @@ pub shown-low : (t : Bool) (a : Answer) (k : ℕ) (i : ℤ) → natAbs (outsideI
     → natAbs (cond t (coefficientsOf a k i) noCoefficients .net) ≤ 2200
 shown-low true a k i h l = net-low (outsideIn a k) i h l
 shown-low false a k i h l = omega arith
+
+-- of a face's areas that of an axis
+pub area-is : (axis : Axis) (f : Face) → numberOn axis (f .x) (f .y) (f .z) ≡ area axis f
+area-is X f = refl
+area-is Y f = refl
+area-is Z f = refl
 
 -- a height is no part of an area
 pub area-carried : (j : Job) (axis : Axis) (f : Face) → area axis f ≡ area axis (asCarried j f)

@@ -4,6 +4,7 @@ ghost use mathlib.Core.Path.{_≡_};
 ghost use Rattle.job.specs.Walk.{judged};
 ghost use Rattle.account.specs.Account.{noAccount, accountOf};
 use building::limits::beyond;
+use column::report_line::shown_of;
 use job::Job;
 use verdict::Verdict;
 
@@ -62,11 +63,7 @@ pub fn no_account(v: Verdict) -> Account
 pub fn account_of(job: Job, line: i64, face: i64) -> Account
     ensures { λ r. ⌜ r ≡ accountOf (judged job) line face ⌝ }
 {
-    let w = worst::worst_cases(job);
-    if w.verdict.number != 0 {
-        return no_account(w.verdict);
-    }
-    let shown = answers::line_of(w.year, w.six, line);
+    let shown = shown_of(job, line);
     if shown.verdict.number != 0 {
         return no_account(shown.verdict);
     }

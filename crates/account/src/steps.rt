@@ -5,11 +5,10 @@ ghost use Prim.Native.Nat.{_≤_};
 ghost use lib.IntN.{natAbs, _*ℤ_};
 ghost use Rattle.book.specs.Question.{outsideOf};
 ghost use Rattle.job.specs.Carried.{carried};
-ghost use Rattle.worst.specs.Forces.{area, windAt, internalAt};
+ghost use Rattle.worst.specs.Forces.{windAt, internalAt};
 ghost use Rattle.worst.specs.Worst.{given, sixExtremes};
 ghost use Rattle.worst.specs.Rows.{Taken};
 ghost use Rattle.answers.specs.Answers.{hostLine};
-ghost use Rattle.column.specs.Column.{axisOf};
 ghost use Rattle.account.specs.Account.{faceAccount};
 ghost use Rattle.account.specs.Coefficients.{outsideIn, coefficientsOf, noCoefficients};
 use crate::Account;
@@ -19,23 +18,10 @@ use crate::coefficients::no_coefficients;
 use crate::newtons::newtons_at;
 use answers::Extreme;
 use building::Dated;
-use entry::Face;
+use column::report_line::on_axis;
 use entry::Wind;
 use job::Job;
 use verdict::Verdict;
-
-// On the axis of a report line.
-fn area_on(line: i64, f: Face) -> i64
-    ensures { λ r. ⌜ r ≡ area (axisOf line) f ⌝ }
-{
-    if line < 3 {
-        return f.x;
-    }
-    if line < 5 {
-        return f.y;
-    }
-    f.z
-}
 
 fn force_of(net: i32, pressure: i64, area: i64) -> i64
     requires { ⌜ (natAbs net ≤ 2200) × (natAbs pressure ≤ 1500000000) × (natAbs area ≤ 100000) ⌝ }
@@ -114,7 +100,7 @@ pub(crate) fn face_account(job: Job, line: i64, shown: Extreme, face: u32) -> Ac
         alternative,
         case.internal,
     );
-    let area = area_on(line, f);
+    let area = on_axis(line, f.x, f.y, f.z);
     let force = force_of(c.net, under.pressure, area);
     let newtons = newtons_at(job, line, k);
     let rows = c.rows;

@@ -126,6 +126,8 @@ pub use Rattle.answers.proofs.coefficient_of.Reads as coefficient-of
 pub use Rattle.answers.proofs.double_of.Reads as double-of
 pub use Rattle.answers.proofs.no_extreme.Reads as no-extreme
 pub use Rattle.answers.proofs.line_of.Reads as line-of
+pub use Rattle.column.proofs.report_line.on_axis.Reads as on-axis
+pub use Rattle.column.proofs.report_line.shown_of.Reads as shown-of
 pub use Rattle.column.proofs.column_of.Reads as column-of
 pub use Rattle.column.proofs.column_in.Reads as column-in
 pub use Rattle.claims.proofs.LentFaces as gather

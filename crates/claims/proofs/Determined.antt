@@ -456,6 +456,12 @@ take-out-determined κ a r r′ s s′ p q = same p q
 
 -- ---- column
 
+on-axis-determined : OneAnswer of.on-axis.Post
+on-axis-determined κ a r r′ s s′ p q = same p q
+
+shown-of-determined : OneAnswer of.shown-of.Post
+shown-of-determined κ a r r′ s s′ p q = same p q
+
 column-of-determined : OneAnswerAndBuffer of.column-of.Post (λ κ s. now (s .1 .1 .0))
 column-of-determined κ a r r′ s s′ p q = same-both p q
 

@@ -430,6 +430,12 @@ take-out-asks κ a = tt
 
 -- ---- column
 
+on-axis-asks : AsksNothing of.on-axis.Asked
+on-axis-asks κ a = tt
+
+shown-of-asks : AsksNothing of.shown-of.Asked
+shown-of-asks κ a = tt
+
 column-of-asks : AsksNothing of.column-of.Asked
 column-of-asks κ a = tt
 

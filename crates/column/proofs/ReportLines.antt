@@ -11,11 +11,13 @@ use Rattle.worst.specs.declared.Side.the-variants.{Greatest, Least}
 use Rattle.worst.specs.declared.Axis.{Axis}
 use Rattle.worst.specs.declared.Axis.the-variants.{X, Y, Z}
 use Rattle.worst.specs.declared.Six.{Six}
+use Rattle.worst.specs.declared.AxisForces.{AxisForces}
+use Rattle.worst.specs.Rows.{alongAxis}
 use Rattle.job.specs.Carried.{Carried}
 use Rattle.worst.specs.Worst.{extreme, sixExtremes, shownIn, lineNumber}
 use Rattle.answers.specs.declared.Extreme.{Extreme}
 use Rattle.answers.specs.Answers.{noHostExtreme, hostExtreme, reportLine, hostLine}
-use Rattle.column.specs.Column.{axisOf}
+use Rattle.column.specs.Column.{axisOf, numberOn}
 
 pub data Told (year : ℤ) (six : Six) (line : ℤ) : Extreme → Type 0 where
   one : (axis : Axis) (side : Side) → line ≡ pos (lineNumber axis side)
@@ -49,6 +51,12 @@ axis-told Y Greatest = refl
 axis-told Y Least = refl
 axis-told Z Greatest = refl
 axis-told Z Least = refl
+
+-- of the forces of a face that of the line's axis
+pub along-is : (axis : Axis) (f : AxisForces) → numberOn axis (f .x) (f .y) (f .z) ≡ alongAxis axis f
+along-is X f = refl
+along-is Y f = refl
+along-is Z f = refl
 
 -- ---- of six extremes that of a line, and of a job's six that of an axis and a side
 

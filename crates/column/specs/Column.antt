@@ -30,6 +30,12 @@ forcesShown axis g e =
 abbrev pub axisOf : ℤ → Axis
 axisOf line = cond (ltZ line (pos 3)) X (cond (ltZ line (pos 5)) Y Z)
 
+-- of three numbers, one for each axis
+abbrev pub numberOn : Axis → ℤ → ℤ → ℤ → ℤ
+numberOn X x y z = x
+numberOn Y x y z = y
+numberOn Z x y z = z
+
 -- in the case of a report line
 abbrev pub forcesOn : ℤ → Reading → List ℤ
 forcesOn line (Accepted c) = forcesShown (axisOf line) (given c) (hostTotal (Accepted c) line)

@@ -6,6 +6,7 @@ ghost use Rattle.whole.specs.Lists.{firstOf};
 ghost use Rattle.job.specs.Carried.{mostFaces};
 ghost use Rattle.worst.specs.Rows.{rows, alongAxis, forceIn};
 ghost use Rattle.column.specs.Column.{atChoice, axisOf};
+use crate::report_line::on_axis;
 use job::MOST_FACES;
 use worst::AxisForces;
 use worst::CellForces;
@@ -20,13 +21,7 @@ pub(crate) struct Forces {
 fn along(line: i64, f: AxisForces) -> i64
     ensures { λ r. ⌜ r ≡ alongAxis (axisOf line) f ⌝ }
 {
-    if line < 3 {
-        return f.x;
-    }
-    if line < 5 {
-        return f.y;
-    }
-    f.z
+    on_axis(line, f.x, f.y, f.z)
 }
 
 // The force of one face at its alternative k.

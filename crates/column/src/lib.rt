@@ -10,6 +10,7 @@ ghost use Rattle.answers.specs.Answers.{hostLine};
 ghost use Rattle.sharing.specs.Column.{column, sharing};
 ghost use Rattle.column.specs.Column.{forcesOn, columnVerdict, columnAfter};
 ghost use Rattle.job.specs.Setting.{recordWith};
+use crate::report_line::shown_of;
 use answers::Extreme;
 use job::Faces;
 use job::Job;
@@ -19,6 +20,7 @@ use verdict::Verdict;
 
 pub mod faces; // the faces of a lent list
 mod forces; // the force of each face in the case of a line
+pub mod report_line; // a line's axis, and what it shows
 
 // The newtons of the faces, in the case that a line shows.
 fn share_case(job: Job, line: i64, shown: Extreme, list: &mut [i64]) -> Verdict
@@ -40,11 +42,7 @@ pub fn column_of(job: Job, line: i64, list: &mut [i64]) -> Verdict
     ensures { λ r. ⌜ (r ≡ columnVerdict (judged job) line (now (list .entry)))
         × (now (list .exit) ≡ columnAfter (judged job) line (now (list .entry))) ⌝ }
 {
-    let w = worst::worst_cases(job);
-    if w.verdict.number != 0 {
-        return w.verdict;
-    }
-    let shown = answers::line_of(w.year, w.six, line);
+    let shown = shown_of(job, line);
     if shown.verdict.number != 0 {
         return shown.verdict;
     }

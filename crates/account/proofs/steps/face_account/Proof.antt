@@ -25,14 +25,14 @@ use Rattle.worst.proofs.Rows.{ready}
 use Rattle.worst.proofs.FaceUnder.{face-numbered}
 use Rattle.answers.specs.declared.Extreme.{Extreme}
 use Rattle.sharing.specs.Column.{column}
-use Rattle.column.specs.Column.{axisOf, forcesShown, columnAfter}
+use Rattle.column.specs.Column.{axisOf, numberOn, forcesShown, columnAfter}
 use Rattle.account.specs.declared.coefficients.Coefficients.{Coefficients}
 use Rattle.account.specs.declared.steps.CaseOf.{CaseOf}
 use Rattle.account.specs.Coefficients.{outsideIn, coefficientsOf, noCoefficients}
 use Rattle.account.proofs.InColumn.{newtons-read}
 use Rattle.account.proofs.Case.{Numbers, case-numbers}
 use Rattle.account.proofs.Bounds.{shown-low, area-carried, met, under-is, under-low, internal-low}
-use Rattle.account.proofs.Bounds.{coefficients-same}
+use Rattle.account.proofs.Bounds.{area-is, coefficients-same}
 use Rattle.account.proofs.Together.{put-together}
 use Rattle.account.proofs.steps.face_account.Statement.{statement}
 use Rattle.account.proofs.steps.face_account.Tie as tie
@@ -149,25 +149,32 @@ module _ (o : tie.After-coefficients-of) where
       (under-low (j (s d)) (p .0) (shown (s d) .wind) (shown (s d) .internal) (k (s d)) (numbers (s d)) (p .3) (p .4))
 
 -- and its area
-module _ (r : tie.After-area-on) where
+module _ (r : tie.After-on-axis) where
   abbrev o : tie.After-coefficients-of
-  o = r .before
+  o = r .before .before .before .before
 
   abbrev start : tie.Start
   start = s (d o)
 
-  area-is : r .area-on .result ≡ area (axisOf (line start)) (face start)
-  area-is = r .area-on .ensures ∙ ap (λ (z : ℤ). area (axisOf z) (face start)) (line-same start)
+  area-same : r .on-axis .result ≡ area (axisOf (line start)) (face start)
+  area-same =
+      let f = face start in
+      let x : SFits w64 (f .x) = search needs in
+      let y : SFits w64 (f .y) = search needs in
+      let z : SFits w64 (f .z) = search needs in
+      r .on-axis .ensures
+      ∙ (λ i. numberOn (axisOf (line-same start i)) (toZ-ofZ w64 _ x i) (toZ-ofZ w64 _ y i) (toZ-ofZ w64 _ z i))
+      ∙ area-is (axisOf (line start)) f
 
-  area-same : toZ w64 (ofZ w64 (r .area-on .result)) ≡ r .area-on .result
-  area-same = let fits : SFits w64 (r .area-on .result) = search needs in toZ-ofZ w64 _ fits
+  area-back : toZ w64 (ofZ w64 (r .on-axis .result)) ≡ r .on-axis .result
+  area-back = let fits : SFits w64 (r .on-axis .result) = search needs in toZ-ofZ w64 _ fits
 
-  area-low : natAbs (r .area-on .result) ≤ 100000
+  area-low : natAbs (r .on-axis .result) ≤ 100000
   area-low =
       let p = start .pre in
       let m =
       met (j start) (p .0) (shown start .wind) (shown start .internal) (k start) (numbers start) (p .3) (p .4) in
-      subst (λ (z : ℤ). natAbs z ≤ 100000) (sym area-is) (area-small (axisOf (line start)) (face start) (m .face))
+      subst (λ (z : ℤ). natAbs z ≤ 100000) (sym area-same) (area-small (axisOf (line start)) (face start) (m .face))
 
 abbrev Below : ℕ → ℤ → Type 0
 Below n z = natAbs z ≤ n
@@ -177,7 +184,7 @@ force-of-requires c κs =
     let r = c .before .before in (
       subst (Below 2200) (sym (net-same (o r))) (net-small (o r)),
       subst (Below 1500000000) (sym (pressure-same (o r))) (pressure-low (o r)),
-      subst (Below 100000) (sym (area-same r)) (area-low r),
+      subst (Below 100000) (sym (area-back r)) (area-low r),
     )
 
 -- each part is the account's
@@ -185,7 +192,7 @@ module _ (n : tie.After-newtons-at) where
   abbrev z : tie.After-force-of
   z = n .before
 
-  abbrev r : tie.After-area-on
+  abbrev r : tie.After-on-axis
   r = z .before .before .before
 
   abbrev q : tie.Start
@@ -194,9 +201,9 @@ module _ (n : tie.After-newtons-at) where
   zone-is : face q .zone ≡ faceAt (given (carried (j q))) (k q) .zone
   zone-is = ap (λ (f : Face). f .zone) (sym (face-numbered (j q) (k q) (q .pre .3) (q .pre .4)))
 
-  here-is : r .area-on .result ≡ area (axisOf (line q)) (faceAt (given (carried (j q))) (k q))
+  here-is : r .on-axis .result ≡ area (axisOf (line q)) (faceAt (given (carried (j q))) (k q))
   here-is =
-      area-is r ∙ area-carried (j q) (axisOf (line q)) (face q)
+      area-same r ∙ area-carried (j q) (axisOf (line q)) (face q)
       ∙ ap (area (axisOf (line q))) (sym (face-numbered (j q) (k q) (q .pre .3) (q .pre .4)))
 
   force-same : toZ w64 (ofZ w64 (z .force-of .result)) ≡ z .force-of .result
@@ -227,7 +234,7 @@ returns c =
     ∙ coefficients-same (j st) (p .0) (shown st .wind) (shown st .internal) (k st) (numbers st) (p .3) (p .4) (a x) u
     (case (d x)) (under (d x)) (d x .before .before .case-of .ensures) in
     let force-is =
-    z n .force-of .ensures ∙ (λ i. net-same x i *ℤ pressure-same x i *ℤ area-same (r n) i) in
+    z n .force-of .ensures ∙ (λ i. net-same x i *ℤ pressure-same x i *ℤ area-back (r n) i) in
     (λ i. record {
       verdict = accepted;
       zone = face st .zone;
@@ -237,12 +244,12 @@ returns c =
       net = net-same x i;
       speed = speed-same x i;
       pressure = pressure-same x i;
-      area = area-same (r n) i;
+      area = area-back (r n) i;
       force = force-same n i;
       newtons = newtons-same n i;
     })
     ∙ put-together (carried (j st)) (line st) (shown st) (k st) (face st .zone) (zone-is n) (result x)
-    coefficients-are u (under (d x)) (r n .area-on .result) (here-is n) (z n .force-of .result) force-is (n .newtons-at .result)
+    coefficients-are u (under (d x)) (r n .on-axis .result) (here-is n) (z n .force-of .result) force-is (n .newtons-at .result)
     (newtons-is n)
 
 pub face-account-spec : {M : Type 1} → statement M
@@ -251,5 +258,5 @@ face-account-spec =
     (tie.spec (λ c. search needs) (λ c. search needs) (λ c. search needs) (λ c. few (c .before))
     (λ c. few (c .before .before)) case-of-requires (λ c κs. search needs) coefficients-of-requires
     (λ c κs. search needs) force-of-requires
-    (λ c κs. few (c .before .before .before .before .before .before .before .before .before .before .before .before))
+    (λ c κs. few (start (c .before .before .before)))
     returns)

@@ -1,42 +1,26 @@
--- `forces::along` meets its contract: two lines to an axis, and each reads its own.
+-- `forces::along` meets its contract: the number of the line's axis.
 use mathlib.Core.Path.{_≡_, _∙_}
-use mathlib.Core.Bool.{false}
-use lib.IntN.{pos}
-use lib.Signed.{ltZ}
+use borrow.Author.Needs.{needs}
 use mir.Syntax.{w64}
 use mir.Val.{SFits}
 use mir.ValLaws.{toZ-ofZ}
-use borrow.Author.Needs.{needs}
-use Rattle.whole.proofs.Order.{true-lt, false-lt}
-use Rattle.whole.proofs.Size.{param, num, lt-yes, lt-no}
+use Rattle.column.specs.Column.{axisOf, numberOn}
+use Rattle.column.proofs.ReportLines.{along-is}
 use Rattle.column.proofs.forces.along.Statement.{statement}
 use Rattle.column.proofs.forces.along.Tie as tie
 
-not-x : (c : tie.Else1) → ltZ (c .before .args .line) (pos 3) ≡ false
-not-x c = false-lt (lt-no (param (c .before .fits .line)) (num (pos 3)) (c .if1 .left))
-
 returns : tie.Need-returns
 returns c =
-    let s = c .before .before in
-    let f : SFits w64 (s .args .f .x) = search needs in
-    toZ-ofZ w64 (s .args .f .x) f
-    ∙ rw (true-lt (lt-yes (param (s .fits .line)) (num (pos 3)) (c .before .if1 .taken)))
-
-returns-2 : tie.Need-returns-2
-returns-2 c =
-    let a = c .before .before in
-    let s = a .before in
-    let f : SFits w64 (s .args .f .y) = search needs in
-    toZ-ofZ w64 (s .args .f .y) f
-    ∙ rw (not-x a, true-lt (lt-yes (param (s .fits .line)) (num (pos 5)) (c .before .if2 .taken)))
-
-returns-3 : tie.Need-returns-3
-returns-3 c =
-    let a = c .before .before in
-    let s = a .before in
-    let f : SFits w64 (s .args .f .z) = search needs in
-    toZ-ofZ w64 (s .args .f .z) f
-    ∙ rw (not-x a, false-lt (lt-no (param (s .fits .line)) (num (pos 5)) (c .before .if2 .left)))
+    let s = c .before .before .before .before in
+    let f = s .args .f in
+    let x : SFits w64 (f .x) = search needs in
+    let y : SFits w64 (f .y) = search needs in
+    let z : SFits w64 (f .z) = search needs in
+    toZ-ofZ w64 (c .on-axis .result) (record { sfits = c .on-axis .ok })
+    ∙ c .on-axis .ensures
+    ∙ (λ i. numberOn (axisOf (toZ-ofZ w64 (s .args .line) (s .fits .line) i)) (toZ-ofZ w64 (f .x) x i)
+    (toZ-ofZ w64 (f .y) y i) (toZ-ofZ w64 (f .z) z i))
+    ∙ along-is (axisOf (s .args .line)) f
 
 pub along-spec : {M : Type 1} → statement M
-along-spec = tie.close (tie.spec returns returns-2 returns-3)
+along-spec = tie.close (tie.spec (λ c κs. search needs) returns)
