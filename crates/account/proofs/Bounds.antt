@@ -29,16 +29,16 @@ use Rattle.worst.proofs.Ranges.{pressure-small}
 use Rattle.worst.proofs.Rows.{ready}
 use Rattle.worst.proofs.FaceUnder.{face-numbered, under-numbered, under-counted}
 use Rattle.column.specs.Column.{numberOn}
-use Rattle.account.specs.declared.coefficients.Coefficients.{Coefficients}
+use Rattle.account.specs.declared.coefficients.FaceCoefficients.{FaceCoefficients}
 use Rattle.account.specs.declared.steps.CaseOf.{CaseOf}
-use Rattle.account.specs.Coefficients.{outsideIn, coefficientsOf, noCoefficients}
+use Rattle.account.specs.Coefficients.{outsideIn, faceCoefficients, noCoefficients}
 use Rattle.account.proofs.Case.{Numbers}
 
 net-low : (o i : ℤ) → natAbs o ≤ 1200 → natAbs i ≤ 100 → natAbs (net o i) ≤ 2200
 net-low o i h l = minus-small o (i *ℤ pos 10) h (times-small i (pos 10) {k = 100} {l = 10} l (omega arith))
 
 pub shown-low : (t : Bool) (a : Answer) (k : ℕ) (i : ℤ) → natAbs (outsideIn a k) ≤ 1200 → natAbs i ≤ 100
-    → natAbs (cond t (coefficientsOf a k i) noCoefficients .net) ≤ 2200
+    → natAbs (cond t (faceCoefficients a k i) noCoefficients .net) ≤ 2200
 shown-low true a k i h l = net-low (outsideIn a k) i h l
 shown-low false a k i h l = omega arith
 
@@ -93,12 +93,12 @@ module _ (j : Job) (t : Taken j) (w i k : ℕ) (n : Numbers j w i) (from : 1 ≤
   -- the coefficients, by the record's face and by the carried one
   pub coefficients-same : (a : ℕ) (x : UnderWind) (c : CaseOf) → x ≡ underWind g u (faceAt g k)
       → c ≡ record { wind = u; internal = internalAt g i }
-      → cond (x .acts) (coefficientsOf (outsideOf (j .year) (j .building) (c .wind .direction) (f .zone)) a
+      → cond (x .acts) (faceCoefficients (outsideOf (j .year) (j .building) (c .wind .direction) (f .zone)) a
       (c .internal)) noCoefficients
-      ≡ cond (acts (faceAt g k) (u .direction)) (coefficientsOf (outsideOf (carried j .year) (carried j .building)
+      ≡ cond (acts (faceAt g k) (u .direction)) (faceCoefficients (outsideOf (carried j .year) (carried j .building)
       (u .direction) (faceAt g k .zone)) a (internalAt g i)) noCoefficients
   unfolding carried
   coefficients-same a x c ex ec =
       let e = sym (face-numbered j k from to) in
-      λ m. cond (ex m .acts) (coefficientsOf (outsideOf (j .year) (j .building) (ec m .wind .direction) (e m .zone)) a
+      λ m. cond (ex m .acts) (faceCoefficients (outsideOf (j .year) (j .building) (ec m .wind .direction) (e m .zone)) a
       (ec m .internal)) noCoefficients

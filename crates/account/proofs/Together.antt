@@ -18,9 +18,9 @@ use Rattle.answers.specs.declared.Extreme.{Extreme}
 use Rattle.sharing.specs.Column.{column}
 use Rattle.column.specs.Column.{axisOf, forcesShown}
 use Rattle.account.specs.declared.Account.{Account}
-use Rattle.account.specs.declared.coefficients.Coefficients.{Coefficients}
-use Rattle.account.specs.Account.{noRows, rowsOf, faceAccount}
-use Rattle.account.specs.Coefficients.{coefficientsOf, noCoefficients}
+use Rattle.account.specs.declared.coefficients.FaceCoefficients.{FaceCoefficients}
+use Rattle.account.specs.Account.{noRows, citedRows, faceAccount}
+use Rattle.account.specs.Coefficients.{faceCoefficients, noCoefficients}
 
 pub no-force : (p a : ℤ) → pos 0 *ℤ p *ℤ a ≡ pos 0
 no-force p a = ap (λ z. z *ℤ a) (zero-*ℤ p) ∙ zero-*ℤ a
@@ -51,7 +51,7 @@ module _ (c : Carried) (line : ℤ) (e : Extreme) (k : ℕ) where
   onAxis = area (axisOf line) f
 
   -- the steps, put together, by whether the face takes part and at a force
-  abbrev pub account : Coefficients → ℤ → Account
+  abbrev pub account : FaceCoefficients → ℤ → Account
   account o z =
       record {
         verdict = accepted;
@@ -67,8 +67,8 @@ module _ (c : Carried) (line : ℤ) (e : Extreme) (k : ℕ) where
         newtons = getD (column (forcesShown (axisOf line) g e)) (k - 1) (pos 0);
       }
 
-  abbrev pub coefficientsShown : Bool → Coefficients
-  coefficientsShown t = cond t (coefficientsOf asked a internal) noCoefficients
+  abbrev pub coefficientsShown : Bool → FaceCoefficients
+  coefficientsShown t = cond t (faceCoefficients asked a internal) noCoefficients
 
   pub account-is : let o = coefficientsShown (acts f (w .direction)) in
       account o (o .net *ℤ under .pressure *ℤ onAxis) ≡ faceAccount c line e k
@@ -81,7 +81,7 @@ module _ (c : Carried) (line : ℤ) (e : Extreme) (k : ℕ) where
       go : (t : Bool) → let o = coefficientsShown t in
           account o (o .net *ℤ under .pressure *ℤ onAxis)
           ≡ account (record {
-            rows = cond t (rowsOf asked) noRows;
+            rows = cond t (citedRows asked) noRows;
             outside = cond t (getD (outsides g w f) (a - 1) (pos 0)) (pos 0);
             net = cond t n (pos 0);
           }) (cond t (n *ℤ under .pressure *ℤ onAxis) (pos 0))
@@ -89,7 +89,7 @@ module _ (c : Carried) (line : ℤ) (e : Extreme) (k : ℕ) where
       go false = ap (account noCoefficients) (no-force (under .pressure) onAxis)
 
   -- part by part, as the code has them
-  pub put-together : (zone : ℕ) → zone ≡ f .zone → (o : Coefficients)
+  pub put-together : (zone : ℕ) → zone ≡ f .zone → (o : FaceCoefficients)
       → o ≡ coefficientsShown (acts f (w .direction))
       → (u : UnderWind) → u ≡ under → (here : ℤ) → here ≡ onAxis → (z : ℤ) → z ≡ o .net *ℤ u .pressure *ℤ here
       → (n : ℤ) → n ≡ getD (column (forcesShown (axisOf line) g e)) (k - 1) (pos 0)

@@ -29,13 +29,13 @@ use Rattle.account.specs.declared.Account.{Account}
 abbrev pub noRows : Rows
 noRows = record { lower = 0; upper = 0; part = 0; whole = 0 }
 
-abbrev pub rowsOf : Answer → Rows
-rowsOf (Answered c) = record { lower = c .lower; upper = c .upper; part = c .part; whole = c .whole }
-rowsOf (Refused v) = noRows
+abbrev pub citedRows : Answer → Rows
+citedRows (Answered c) = record { lower = c .lower; upper = c .upper; part = c .part; whole = c .whole }
+citedRows (Refused v) = noRows
 
 abbrev pub rowsUnder : Carried → Wind → Face → Rows
 rowsUnder c w f =
-    cond (acts f (w .direction)) (rowsOf (outsideOf (c .year) (c .building) (w .direction) (f .zone))) noRows
+    cond (acts f (w .direction)) (citedRows (outsideOf (c .year) (c .building) (w .direction) (f .zone))) noRows
 
 -- at its alternative k
 abbrev pub outsideUnder : Given → Wind → Face → ℕ → ℤ

@@ -6,14 +6,14 @@ ghost use lib.IntN.{pos, natAbs};
 ghost use lib.ListN.{getD};
 ghost use Rattle.book.specs.Answer.{valuesIn};
 ghost use Rattle.book.specs.Question.{outsideOf, net};
-ghost use Rattle.account.specs.Account.{noRows, rowsOf};
-ghost use Rattle.account.specs.Coefficients.{outsideIn, coefficientsOf, noCoefficients};
+ghost use Rattle.account.specs.Account.{noRows, citedRows};
+ghost use Rattle.account.specs.Coefficients.{outsideIn, faceCoefficients, noCoefficients};
 use crate::Rows;
 use book::Answer;
 use book::Values;
 use building::Dated;
 
-pub struct Coefficients {
+pub struct FaceCoefficients {
     pub rows: Rows,
     pub outside: i32,
     pub net: i32,
@@ -30,11 +30,11 @@ pub(crate) fn no_rows() -> Rows
     }
 }
 
-pub(crate) fn no_coefficients() -> Coefficients
+pub(crate) fn no_coefficients() -> FaceCoefficients
     ensures { λ r. ⌜ r ≡ noCoefficients ⌝ }
 {
     let rows = no_rows();
-    Coefficients {
+    FaceCoefficients {
         rows,
         outside: 0,
         net: 0,
@@ -76,7 +76,7 @@ fn outside_in(a: Answer, alternative: u8) -> i32
 }
 
 fn rows_of(a: Answer) -> Rows
-    ensures { λ r. ⌜ r ≡ rowsOf a ⌝ }
+    ensures { λ r. ⌜ r ≡ citedRows a ⌝ }
 {
     match a {
         Answer::Answered(c) => Rows {
@@ -104,14 +104,14 @@ pub(crate) fn in_book(
     zone: u8,
     alternative: u8,
     internal: i64,
-) -> Coefficients
+) -> FaceCoefficients
     requires { ⌜ (natAbs (outsideIn (outsideOf (d .year) (d .building) direction zone) alternative) ≤ 1200)
         × (natAbs internal ≤ 100) ⌝ }
-    ensures { λ r. ⌜ r ≡ coefficientsOf (outsideOf (d .year) (d .building) direction zone) alternative internal ⌝ }
+    ensures { λ r. ⌜ r ≡ faceCoefficients (outsideOf (d .year) (d .building) direction zone) alternative internal ⌝ }
 {
     let a = book::outside(d, direction, zone);
     let outside = outside_in(a, alternative);
     let rows = rows_of(a);
     let net = less(outside, internal);
-    Coefficients { rows, outside, net }
+    FaceCoefficients { rows, outside, net }
 }

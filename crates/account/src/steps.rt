@@ -10,9 +10,9 @@ ghost use Rattle.worst.specs.Worst.{given, sixExtremes};
 ghost use Rattle.worst.specs.Rows.{Taken};
 ghost use Rattle.answers.specs.Answers.{hostLine};
 ghost use Rattle.account.specs.Account.{faceAccount};
-ghost use Rattle.account.specs.Coefficients.{outsideIn, coefficientsOf, noCoefficients};
+ghost use Rattle.account.specs.Coefficients.{outsideIn, faceCoefficients, noCoefficients};
 use crate::Account;
-use crate::coefficients::Coefficients;
+use crate::coefficients::FaceCoefficients;
 use crate::coefficients::in_book;
 use crate::coefficients::no_coefficients;
 use crate::newtons::newtons_at;
@@ -38,10 +38,10 @@ fn coefficients_of(
     zone: u8,
     alternative: u8,
     internal: i64,
-) -> Coefficients
+) -> FaceCoefficients
     requires { ⌜ (natAbs (outsideIn (outsideOf (job .year) (job .building) direction zone) alternative) ≤ 1200)
         × (natAbs internal ≤ 100) ⌝ }
-    ensures { λ r. ⌜ r ≡ cond acts (coefficientsOf (outsideOf (job .year) (job .building) direction zone) alternative
+    ensures { λ r. ⌜ r ≡ cond acts (faceCoefficients (outsideOf (job .year) (job .building) direction zone) alternative
         internal) noCoefficients ⌝ }
 {
     if !acts {

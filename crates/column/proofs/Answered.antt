@@ -33,7 +33,8 @@ module _ (r : Reading) (line : ℤ) (old : List ℤ) where
   shared v new z e h = let t = eq-eqb _ 0 z in (rw t e, rw t h)
 
 -- where a line is shown the job is taken
-module _ (j : Job) (line : ℤ) (e : Extreme) (shown : e ≡ hostTotal (judged j) line) (some : e .verdict .number ≡ 0) where
+module _ (j : Job) (line : ℤ) (e : Extreme) (shown : e ≡ hostTotal (judged j) line)
+    (some : e .verdict .number ≡ 0) where
   pub taken-by : Taken j
   taken-by = go (judged j) refl shown (judge.job-judged j)
     where

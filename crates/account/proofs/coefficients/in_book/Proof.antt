@@ -8,7 +8,7 @@ use mir.Val.{SFits, toZ, ofZ}
 use mir.ValLaws.{toZ-ofZ}
 use Rattle.book.specs.declared.Answer.{Answer}
 use Rattle.book.specs.Question.{outsideOf, net}
-use Rattle.account.specs.Account.{rowsOf}
+use Rattle.account.specs.Account.{citedRows}
 use Rattle.account.specs.Coefficients.{outsideIn}
 use Rattle.account.proofs.coefficients.in_book.Statement.{statement}
 use Rattle.account.proofs.coefficients.in_book.Tie as tie
@@ -49,7 +49,7 @@ returns c =
     let fits : SFits w32 (c .less .result) = search needs in
     let net-is = toZ-ofZ w32 _ fits ∙ c .less .ensures ∙ (λ i. net (outside o i) (internal o i)) in
     λ i. record {
-      rows = (r .rows-of .ensures ∙ ap rowsOf (answered o)) i;
+      rows = (r .rows-of .ensures ∙ ap citedRows (answered o)) i;
       outside = outside o i;
       net = net-is i;
     }

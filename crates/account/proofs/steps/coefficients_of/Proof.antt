@@ -7,15 +7,15 @@ use mir.Syntax.{w64}
 use mir.Val.{SFits}
 use mir.ValLaws.{toZ-ofZ}
 use Rattle.book.specs.Question.{outsideOf}
-use Rattle.account.specs.declared.coefficients.Coefficients.{Coefficients}
-use Rattle.account.specs.Coefficients.{coefficientsOf, noCoefficients}
+use Rattle.account.specs.declared.coefficients.FaceCoefficients.{FaceCoefficients}
+use Rattle.account.specs.Coefficients.{faceCoefficients, noCoefficients}
 use Rattle.account.proofs.steps.coefficients_of.Statement.{statement}
 use Rattle.account.proofs.steps.coefficients_of.Tie as tie
 
-abbrev own : tie.Start → Coefficients
+abbrev own : tie.Start → FaceCoefficients
 own s =
     let a = s .args in
-    coefficientsOf (outsideOf (a .job .year) (a .job .building) (a .direction) (a .zone)) (a .alternative) (a .internal)
+    faceCoefficients (outsideOf (a .job .year) (a .job .building) (a .direction) (a .zone)) (a .alternative) (a .internal)
 
 returns : tie.Need-returns
 returns c =
@@ -32,7 +32,7 @@ returns-2 c =
     let year = toZ-ofZ w64 (a .job .year) fits in
     let direction = toZ-ofZ w64 (a .direction) (s .fits .direction) in
     c .in-book .ensures
-    ∙ (λ i. coefficientsOf (outsideOf (year i) (a .job .building) (direction i) (a .zone))
+    ∙ (λ i. faceCoefficients (outsideOf (year i) (a .job .building) (direction i) (a .zone))
     (a .alternative) (toZ-ofZ w64 (a .internal) (s .fits .internal) i))
     ∙ ap (λ (t : Bool). cond t (own s) noCoefficients) (sym (not-false (s .args .acts) (e .if1 .left)))
 

@@ -26,9 +26,9 @@ use Rattle.worst.proofs.FaceUnder.{face-numbered}
 use Rattle.answers.specs.declared.Extreme.{Extreme}
 use Rattle.sharing.specs.Column.{column}
 use Rattle.column.specs.Column.{axisOf, numberOn, forcesShown, columnAfter}
-use Rattle.account.specs.declared.coefficients.Coefficients.{Coefficients}
+use Rattle.account.specs.declared.coefficients.FaceCoefficients.{FaceCoefficients}
 use Rattle.account.specs.declared.steps.CaseOf.{CaseOf}
-use Rattle.account.specs.Coefficients.{outsideIn, coefficientsOf, noCoefficients}
+use Rattle.account.specs.Coefficients.{outsideIn, faceCoefficients, noCoefficients}
 use Rattle.account.proofs.InColumn.{newtons-read}
 use Rattle.account.proofs.Case.{Numbers, case-numbers}
 use Rattle.account.proofs.Bounds.{shown-low, area-carried, met, under-is, under-low, internal-low}
@@ -114,7 +114,7 @@ module _ (o : tie.After-coefficients-of) where
   abbrev a : ℕ
   a = getD (shown (s d) .alternative) (k (s d) - 1) 0
 
-  abbrev result : Coefficients
+  abbrev result : FaceCoefficients
   result = o .coefficients-of .result
 
   direction : toZ w64 (ofZ w64 (case d .wind .direction)) ≡ case d .wind .direction
@@ -137,7 +137,7 @@ module _ (o : tie.After-coefficients-of) where
 
   net-small : natAbs (result .net) ≤ 2200
   net-small =
-      subst (λ (c : Coefficients). natAbs (c .net) ≤ 2200) (sym (o .coefficients-of .ensures))
+      subst (λ (c : FaceCoefficients). natAbs (c .net) ≤ 2200) (sym (o .coefficients-of .ensures))
       (shown-low (d .under-wind .result .acts)
       (outsideOf (j (s d) .year) (j (s d) .building) (toZ w64 (ofZ w64 (case d .wind .direction))) (face (s d) .zone)) a
       (toZ w64 (ofZ w64 (case d .internal))) (small (s d) _) (low d))
@@ -229,7 +229,7 @@ returns c =
     let u = d x .under-wind .result in
     let coefficients-are =
     x .coefficients-of .ensures
-    ∙ (λ i. cond (u .acts) (coefficientsOf (outsideOf (j st .year) (j st .building) (direction x i) (face st .zone))
+    ∙ (λ i. cond (u .acts) (faceCoefficients (outsideOf (j st .year) (j st .building) (direction x i) (face st .zone))
     (a x) (internal x i)) noCoefficients)
     ∙ coefficients-same (j st) (p .0) (shown st .wind) (shown st .internal) (k st) (numbers st) (p .3) (p .4) (a x) u
     (case (d x)) (under (d x)) (d x .before .before .case-of .ensures) in
@@ -249,8 +249,8 @@ returns c =
       newtons = newtons-same n i;
     })
     ∙ put-together (carried (j st)) (line st) (shown st) (k st) (face st .zone) (zone-is n) (result x)
-    coefficients-are u (under (d x)) (r n .on-axis .result) (here-is n) (z n .force-of .result) force-is (n .newtons-at .result)
-    (newtons-is n)
+    coefficients-are u (under (d x)) (r n .on-axis .result) (here-is n) (z n .force-of .result) force-is
+    (n .newtons-at .result) (newtons-is n)
 
 pub face-account-spec : {M : Type 1} → statement M
 face-account-spec =
