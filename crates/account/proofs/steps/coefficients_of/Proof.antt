@@ -15,7 +15,8 @@ use Rattle.account.proofs.steps.coefficients_of.Tie as tie
 abbrev own : tie.Start → FaceCoefficients
 own s =
     let a = s .args in
-    faceCoefficients (outsideOf (a .job .year) (a .job .building) (a .direction) (a .zone)) (a .alternative) (a .internal)
+    faceCoefficients (outsideOf (a .job .year) (a .job .building) (a .direction) (a .zone)) (a .alternative)
+    (a .internal)
 
 returns : tie.Need-returns
 returns c =
