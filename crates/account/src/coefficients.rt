@@ -9,7 +9,7 @@ use crate::Rows;
 use book::{Answer, Values};
 use building::Dated;
 
-#[derive(Drop)]
+#[derive(Clone, Copy)]
 pub struct FaceCoefficients {
     pub rows: Rows,
     pub outside: i32,

@@ -15,7 +15,7 @@ mod steps; // from there to its force
 
 // The numbers of two printed rows, and the fraction of the way from one to the other, part / whole in lowest terms.
 #[repr(C)]
-#[derive(Drop)]
+#[derive(Clone, Copy)]
 pub struct Rows {
     pub lower: u32,
     pub upper: u32,
@@ -27,7 +27,7 @@ pub struct Rows {
 // m/s, the pressure number, the area on the line's axis, the force in units and the newtons of the column. All zero
 // where it is refused; no rows and no coefficients where the face takes no part.
 #[repr(C)]
-#[derive(Drop)]
+#[derive(Clone, Copy)]
 pub struct Account {
     pub verdict: Verdict,
     pub zone: u8,

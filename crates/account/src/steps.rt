@@ -52,7 +52,7 @@ fn coefficients_of(
 }
 
 // The wind and the internal coefficient of a case.
-#[derive(Drop)]
+#[derive(Clone, Copy)]
 pub struct CaseOf {
     pub wind: Wind,
     pub internal: i64,

@@ -13,7 +13,7 @@ use verdict::Verdict;
 
 // The length of a text that is written, 0 where it is refused.
 #[repr(C)]
-#[derive(Drop)]
+#[derive(Clone, Copy)]
 pub struct Text {
     pub verdict: Verdict,
     pub length: u64,
@@ -22,7 +22,7 @@ pub struct Text {
 // As many coefficients in thousandths as the count says, then zeros; the numbers of the two rows of their table that
 // they lie between, and the fraction of the way, part / whole, in lowest terms. All zero where it is refused.
 #[repr(C)]
-#[derive(Drop)]
+#[derive(Clone, Copy)]
 pub struct Coefficient {
     pub verdict: Verdict,
     pub count: u32,
@@ -35,7 +35,7 @@ pub struct Coefficient {
 
 // A total, in units and as newtons with a remainder, and the first case that reaches it; all zero where it is refused.
 #[repr(C)]
-#[derive(Drop)]
+#[derive(Clone, Copy)]
 pub struct Extreme {
     pub verdict: Verdict,
     pub total: i64,
@@ -49,7 +49,7 @@ pub struct Extreme {
 
 // Where exact is 1, low and high are the number.
 #[repr(C)]
-#[derive(Drop)]
+#[derive(Clone, Copy)]
 pub struct Double {
     pub exact: u32,
     pub low: f64,

@@ -14,7 +14,7 @@ mod walls;
 mod zones;
 
 // A coefficient's alternatives in thousandths, in order.
-#[derive(Drop)]
+#[derive(Clone, Copy)]
 pub enum Values {
     One(i32),
     Two(i32, i32),
@@ -22,7 +22,7 @@ pub enum Values {
 
 // A coefficient and where it comes from: it lies between the rows with these numbers of its table, `part` / `whole`
 // of the way from `lower` to `upper`, in lowest terms. On a row itself both are that row, and the fraction is 0 / 1.
-#[derive(Drop)]
+#[derive(Clone, Copy)]
 pub struct Cited {
     pub values: Values,
     pub lower: u32,
@@ -32,7 +32,7 @@ pub struct Cited {
 }
 
 // A coefficient; or the refusal.
-#[derive(Drop)]
+#[derive(Clone, Copy)]
 pub enum Answer {
     Answered(Cited),
     Refused(Verdict),
@@ -52,14 +52,14 @@ pub fn outside(d: Dated, direction: i64, place: u8) -> Answer
 }
 
 // The first and the last of a zone's outside coefficients, in thousandths: one that it has alone is both.
-#[derive(Drop)]
+#[derive(Clone, Copy)]
 pub struct Ends {
     pub first: i32,
     pub last: i32,
 }
 
 // Those of four zones, in their order: zeros for one whose question is refused.
-#[derive(Drop)]
+#[derive(Clone, Copy)]
 pub struct Four {
     pub first: Ends,
     pub second: Ends,

@@ -7,7 +7,7 @@ ghost use Rattle.book.specs.NoHalf.{NoHalf};
 ghost use Rattle.book.specs.Spot.{row_spot};
 
 // From row `lower` to row `upper` of a table, by their numbers, `part` / `whole` of the way, in lowest terms.
-#[derive(Drop)]
+#[derive(Clone, Copy)]
 pub(crate) struct Spot {
     pub lower: u32,
     pub upper: u32,

@@ -16,14 +16,14 @@ use building::Sizes;
 use building::ratio::up_to;
 
 // A printed limit: a numerator and a denominator.
-#[derive(Drop)]
+#[derive(Clone, Copy)]
 struct Limit(u32, u32);
 
 // The gable's blocks, in the book's order: h/b to.
 const HEIGHTS: [Limit; 3] = [Limit(1, 2), Limit(3, 2), Limit(6, 1)];
 
 // A printed row: its number, the number at which it stands, and its hundredths.
-#[derive(Drop)]
+#[derive(Clone, Copy)]
 struct Row(u16, u16, [i16; 4]);
 
 // Straight eaves, which a mansard has at 90 degrees.
@@ -69,7 +69,7 @@ const TALL: [Row; 8] = [
 const FIRST: [usize; 8] = [0, 7, 14, 22, 23, 26, 29, 33];
 
 // A printed row of single slopes: the number at which it stands, and its hundredths.
-#[derive(Drop)]
+#[derive(Clone, Copy)]
 struct Slope(u16, [i16; 10]);
 
 // h/b comes up to the limit of a block.
@@ -173,7 +173,7 @@ fn printed_slope(n: usize) -> Slope
     }
 }
 
-#[derive(Drop)]
+#[derive(Clone, Copy)]
 struct Stand(u16, u16);
 
 // Row i of part k: its number, and the number at which it stands.

@@ -11,7 +11,7 @@ use building::Sizes;
 use building::ratio::up_to;
 
 // A row: h/b up to a limit and a/b up to a limit, each a numerator and a denominator; wind 0; wind 90; local.
-#[derive(Drop)]
+#[derive(Clone, Copy)]
 struct Wall(u32, u32, u32, u32, [i16; 4], [i16; 4], i16);
 
 // h/b to, a/b to; wind 0: A B C D; wind 90: A B C D; local.

@@ -20,7 +20,7 @@ pub mod year;
 // The numbers of a building's line: cm, g/m³, the roof's kind and number. 64 bits, so that no number of a host
 // program is cut.
 #[repr(C)]
-#[derive(Drop)]
+#[derive(Clone, Copy)]
 pub struct Building {
     pub h: i64,
     pub a: i64,
@@ -31,7 +31,7 @@ pub struct Building {
 }
 
 // A building with the year whose sheet it stands in, which it is judged by.
-#[derive(Drop)]
+#[derive(Clone, Copy)]
 pub struct Dated {
     pub year: i64,
     pub building: Building,
@@ -40,7 +40,7 @@ pub struct Dated {
 // What of a building the tables ask for, without signs. Lengths have 32 bits, and so their products with a limit fit
 // 64.
 // Along over across is compared with the rows of its roof's table.
-#[derive(Drop)]
+#[derive(Clone, Copy)]
 pub struct Sizes {
     pub h: u32,
     pub a: u32,
@@ -52,7 +52,7 @@ pub struct Sizes {
 
 // A field of a line by its number, from 1, and what may stand there where a range says it, 0 and 0 where none does.
 // Field 0 is the line as a whole.
-#[derive(Drop)]
+#[derive(Clone, Copy)]
 pub struct Spot {
     pub field: u32,
     pub least: i64,
@@ -60,7 +60,7 @@ pub struct Spot {
 }
 
 // A question in order is one about these sizes; or its refusal.
-#[derive(Drop)]
+#[derive(Clone, Copy)]
 pub enum Question {
     Of(Sizes),
     Refused(Verdict),

@@ -10,7 +10,7 @@ use job::MOST_FACES;
 use worst::{AxisForces, CellForces, FaceForces};
 
 // In the order of the faces, with zeros past the last.
-#[derive(Drop)]
+#[derive(Clone, Copy)]
 pub(crate) struct Forces {
     pub(crate) face: [i64; MOST_FACES],
 }

@@ -13,7 +13,7 @@ mod faces;
 mod refusals;
 
 #[repr(C)]
-#[derive(Drop)]
+#[derive(Clone, Copy)]
 pub struct EditedJob {
     pub verdict: Verdict,
     pub job: Job,

@@ -4,7 +4,7 @@ pub mod says;
 
 // A wind: its direction in degrees and its speed in 0.1 m/s.
 #[repr(C)]
-#[derive(Drop)]
+#[derive(Clone, Copy)]
 pub struct Wind {
     pub direction: i64,
     pub speed: i64,
@@ -12,7 +12,7 @@ pub struct Wind {
 
 // A step of the profile: a height in cm, and the factor of the wind's speed there in thousandths.
 #[repr(C)]
-#[derive(Drop)]
+#[derive(Clone, Copy)]
 pub struct Step {
     pub height: i64,
     pub factor: i64,
@@ -20,7 +20,7 @@ pub struct Step {
 
 // A face: its zone's letter, the direction that it is marked for, its height in cm, and its projected areas in dm².
 #[repr(C)]
-#[derive(Drop)]
+#[derive(Clone, Copy)]
 pub struct Face {
     pub zone: u8,
     pub mark: i64,

@@ -4,7 +4,7 @@ ghost use Rattle.whole.specs.Digits.{all_digits, value};
 ghost use Rattle.field.specs.Field.{unsigned, negative, numeral, field_from};
 
 // What a field says. Minus holds no 0. Bad is out of form.
-#[derive(Drop)]
+#[derive(Clone, Copy)]
 pub enum Field {
     Bad,
     Plus(u32),

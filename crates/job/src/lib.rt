@@ -18,28 +18,28 @@ pub const MOST_FACES: usize = 240;
 
 // The first entries count, as many as the count says.
 #[repr(C)]
-#[derive(Drop)]
+#[derive(Clone, Copy)]
 pub struct Winds {
     pub count: u32,
     pub entry: [Wind; 8],
 }
 
 #[repr(C)]
-#[derive(Drop)]
+#[derive(Clone, Copy)]
 pub struct Internals {
     pub count: u32,
     pub entry: [i64; 4],
 }
 
 #[repr(C)]
-#[derive(Drop)]
+#[derive(Clone, Copy)]
 pub struct Profile {
     pub count: u32,
     pub entry: [Step; 16],
 }
 
 #[repr(C)]
-#[derive(Drop)]
+#[derive(Clone, Copy)]
 pub struct Faces {
     pub count: u32,
     pub entry: [Face; MOST_FACES],
@@ -47,7 +47,7 @@ pub struct Faces {
 
 // A sheet of year 1 carries no profile and no heights: whatever they hold here counts for nothing.
 #[repr(C)]
-#[derive(Drop)]
+#[derive(Clone, Copy)]
 pub struct Job {
     pub year: i64,
     pub building: Building,
@@ -59,7 +59,7 @@ pub struct Job {
 
 // All of a job but its faces.
 #[repr(C)]
-#[derive(Drop)]
+#[derive(Clone, Copy)]
 pub struct Setting {
     pub year: i64,
     pub building: Building,

@@ -5,13 +5,13 @@ ghost use Rattle.lines.specs.Held.{slot, no_line, line_at, held, field_length};
 
 use field::Field;
 
-#[derive(Drop)]
+#[derive(Clone, Copy)]
 pub struct Slot {
     pub field: Field,
 }
 
 // The fields of a line, and the place after its LF. Where it has more than six fields or no LF, the count is 0.
-#[derive(Drop)]
+#[derive(Clone, Copy)]
 pub struct Line {
     pub count: usize,
     pub next: usize,

@@ -9,7 +9,7 @@ ghost use Rattle.mend.specs.OneWalk.{at_start, fates_from, added_text, added_num
 use crate::walk;
 
 // A line and a place in it, both from 1.
-#[derive(Drop)]
+#[derive(Clone, Copy)]
 struct Position {
     line: u64,
     place: u64,

@@ -13,7 +13,7 @@ mod fill; // the text and the list written
 // What mending comes to, laid out for C: the length of the mended text, how many changes were listed, and what the
 // mended text is told as a sheet. Where it is refused, all but the verdict is zero.
 #[repr(C)]
-#[derive(Drop)]
+#[derive(Clone, Copy)]
 pub struct Mending {
     pub verdict: Verdict,
     pub length: u64,

@@ -5,7 +5,7 @@ ghost use Rattle.mend.specs.OneWalk.{at_start, fates_from, tallied, nothing_tall
 use crate::walk;
 
 // With the last byte that stays, LF if there is none.
-#[derive(Drop)]
+#[derive(Clone, Copy)]
 pub(crate) struct Tally {
     pub(crate) kept: usize,
     pub(crate) taken: usize,

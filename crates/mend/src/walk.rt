@@ -8,7 +8,7 @@ use crate::ahead;
 // What stands before a byte: the last byte that each pass from the second on has met; whether a zero here would lead;
 // and, behind a leading zero, whether only digits follow up to the field's end. And what became of the last byte: the
 // kind of the change, 0 if it stays.
-#[derive(Drop)]
+#[derive(Clone, Copy)]
 pub(crate) struct Seen {
     pub(crate) two: u8,
     pub(crate) three: u8,

@@ -6,7 +6,7 @@ ghost use Rattle.page.specs.Writing.{Put, writing, buffer_after};
 use verdict::Verdict;
 
 // What writing comes to: the text's length, or a refusal.
-#[derive(Drop)]
+#[derive(Clone, Copy)]
 pub enum Writing {
     Length(usize),
     Refused(Verdict),

@@ -6,7 +6,7 @@ ghost use Rattle.whole.specs.Newton.{newton};
 ghost use Rattle.pair.specs.Total.{pair_of, within_newtons, lesser, addable, pair_sum, pair_difference, as_units};
 
 #[repr(C)]
-#[derive(Drop)]
+#[derive(Clone, Copy)]
 pub struct Pair {
     pub newtons: i64,
     pub remainder: u64,

@@ -6,7 +6,7 @@ ghost use Rattle.panel.specs.Chart.{low_of, high_of, point_in, point_of};
 
 pub mod newtons; // the panel and the chart point of newtons with a remainder
 
-#[derive(Drop)]
+#[derive(Clone, Copy)]
 pub enum Panel {
     // The double equal to the total.
     Exact(f64),
@@ -60,7 +60,7 @@ pub fn panel_of(total: i64) -> Panel
 
 // Low and high on each axis.
 #[repr(C)]
-#[derive(Drop)]
+#[derive(Clone, Copy)]
 pub struct Point {
     pub x_low: f64,
     pub x_high: f64,

@@ -8,7 +8,7 @@ use crate::numbers::{MOST_WALKED, PER_ROW};
 use pair::Pair;
 
 // The totals on the three axes.
-#[derive(Drop)]
+#[derive(Clone, Copy)]
 pub(crate) struct Totals {
     pub(crate) x: Pair,
     pub(crate) y: Pair,

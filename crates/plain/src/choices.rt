@@ -34,7 +34,7 @@ pub(crate) fn ways(list: &[i64], faces: usize) -> u32
 }
 
 // A face's alternative, and how many choices the faces after it have, with the number of the choice among these.
-#[derive(Drop)]
+#[derive(Clone, Copy)]
 pub(crate) struct Turn {
     pub(crate) alternative: u8,
     pub(crate) left: u32,

@@ -12,7 +12,7 @@ mod line; // a line that is not ended
 mod judge; // what becomes of a line that is
 
 // What a number or a line says: it is out of form or out of range, or else the number, which of a line is its cell.
-#[derive(Drop)]
+#[derive(Clone, Copy)]
 pub enum Said {
     OutOfForm,
     OutOfRange,
@@ -21,7 +21,7 @@ pub enum Said {
 
 // What there is of a number that is not ended: its kind, and what its digits stand for (specs/Pending.antt).
 #[repr(C)]
-#[derive(Drop)]
+#[derive(Clone, Copy)]
 pub struct Started {
     pub kind: u64,
     pub value: u64,
@@ -29,7 +29,7 @@ pub struct Started {
 
 // What there is of a line that is not ended: its stage, the direction before its first space, and its last number.
 #[repr(C)]
-#[derive(Drop)]
+#[derive(Clone, Copy)]
 pub struct Pending {
     pub stage: u32,
     pub direction: u32,
@@ -39,7 +39,7 @@ pub struct Pending {
 // A rose under way, laid out for C: its refusal, if it has one; the lines accepted; how many of them stand in each
 // cell, 13 to a sector; whether nothing more is taken, if not 0; and the line that is not ended.
 #[repr(C)]
-#[derive(Drop)]
+#[derive(Clone, Copy)]
 pub struct Rose {
     pub verdict: Verdict,
     pub accepted: u32,

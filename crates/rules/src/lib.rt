@@ -8,7 +8,7 @@ pub mod shape;
 pub mod spots;
 
 // A section of the sheet, by its letter.
-#[derive(Drop)]
+#[derive(Clone, Copy)]
 pub enum Section {
     V,
     B,
@@ -19,7 +19,7 @@ pub enum Section {
 }
 
 // A line that is called for: the count of a section, or an entry of it.
-#[derive(Drop)]
+#[derive(Clone, Copy)]
 pub enum Kind {
     Count(Section),
     Entry(Section),
@@ -27,7 +27,7 @@ pub enum Kind {
 
 // What the lines before one say that it is judged by: the year, the building, and the lowest and the highest height of
 // the profile, 0 and -1 where it has none yet.
-#[derive(Drop)]
+#[derive(Clone, Copy)]
 pub struct Before {
     pub year: i64,
     pub building: Building,
@@ -36,7 +36,7 @@ pub struct Before {
 }
 
 // What one field of a line must be.
-#[derive(Drop)]
+#[derive(Clone, Copy)]
 pub enum FieldForm {
     // a letter
     Capital,

@@ -56,7 +56,7 @@ pub fn section_letter(s: Section) -> u8
 }
 
 // The least and the greatest count of a section.
-#[derive(Drop)]
+#[derive(Clone, Copy)]
 pub struct Limits {
     pub least: u32,
     pub most: u32,

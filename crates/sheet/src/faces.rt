@@ -10,7 +10,7 @@ use rules::entries::face_fault;
 use rules::{Before, Section};
 
 // How many faces were read, and the place behind them.
-#[derive(Drop)]
+#[derive(Clone, Copy)]
 pub(crate) struct Rest {
     pub(crate) done: u32,
     pub(crate) next: usize,

@@ -9,28 +9,28 @@ use entry::{BOTH, Face};
 use job::no_face;
 
 // Digits that stand in a text: the place behind them, and their number. Where there are none, that place is 0.
-#[derive(Drop)]
+#[derive(Clone, Copy)]
 pub(crate) struct Natural {
     pub(crate) end: usize,
     pub(crate) n: u32,
 }
 
 // The same with a sign.
-#[derive(Drop)]
+#[derive(Clone, Copy)]
 pub(crate) struct Spelled {
     pub(crate) end: usize,
     pub(crate) z: i64,
 }
 
 // A face, and the place behind its line; 0 where it is not plain.
-#[derive(Drop)]
+#[derive(Clone, Copy)]
 pub(crate) struct FaceLine {
     pub(crate) next: usize,
     pub(crate) face: Face,
 }
 
 // The numbers of a line, with zeros behind them, and the place behind its LF; 0 where it has others.
-#[derive(Drop)]
+#[derive(Clone, Copy)]
 pub(crate) struct Numbers {
     pub(crate) next: usize,
     pub(crate) number: [i64; 6],

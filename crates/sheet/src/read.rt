@@ -23,7 +23,7 @@ use verdict::Verdict;
 
 // What comes of reading without a record: accepted or refused, all of the job but its faces, and how many these are;
 // all zero where it is refused.
-#[derive(Drop)]
+#[derive(Clone, Copy)]
 pub struct Head {
     pub verdict: Verdict,
     pub setting: Setting,
@@ -31,7 +31,7 @@ pub struct Head {
 }
 
 // What comes of reading: accepted or refused, and the job, all zero where it is refused.
-#[derive(Drop)]
+#[derive(Clone, Copy)]
 pub struct Read {
     pub verdict: Verdict,
     pub job: Job,

@@ -19,14 +19,14 @@ use lines::{Line, field_at, line_at};
 use rules::faults::line_fault;
 use rules::{Before, Kind, Section, entries};
 
-#[derive(Drop)]
+#[derive(Clone, Copy)]
 pub(crate) struct Said {
     pub(crate) fault: u32,
     pub(crate) next: usize,
     pub(crate) number: [i64; 6],
 }
 
-#[derive(Drop)]
+#[derive(Clone, Copy)]
 pub(crate) struct Counted {
     pub(crate) fault: u32,
     pub(crate) next: usize,

@@ -26,7 +26,7 @@ mod reach;
 // were called for, and the number of its entry, 0 at its count; the field, from 1, 0 for the line as a whole, and its
 // bytes; and what may stand there, where a range says it. All is 0 where the sheet is accepted.
 #[repr(C)]
-#[derive(Drop)]
+#[derive(Clone, Copy)]
 pub struct Slip {
     pub number: u32,
     pub line: u32,

@@ -4,7 +4,7 @@ ghost use Rattle.lines.specs.Held as held;
 ghost use Rattle.slip.specs.Slip.{part_of, bytes_at};
 
 // From its first byte up to that behind its last.
-#[derive(Drop)]
+#[derive(Clone, Copy)]
 pub struct Part {
     pub from: usize,
     pub to: usize,

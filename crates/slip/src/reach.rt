@@ -20,7 +20,7 @@ use rules::shape::{section_at, section_count};
 use rules::{Before, Kind, Section};
 
 // The line that is called for, if one is.
-#[derive(Drop)]
+#[derive(Clone, Copy)]
 pub enum Called {
     Nothing,
     Line(Kind),
@@ -28,7 +28,7 @@ pub enum Called {
 
 // Behind some lines of a sheet: the line that is called for, what it is judged by, and how many entries of its section
 // were read.
-#[derive(Drop)]
+#[derive(Clone, Copy)]
 pub struct Reached {
     pub called: Called,
     pub before: Before,

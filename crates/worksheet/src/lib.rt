@@ -18,14 +18,14 @@ mod parts; // the part of a face
 
 // It holds its faces in place. The sums are those of each wind and internal coefficient.
 #[repr(C)]
-#[derive(Drop)]
+#[derive(Clone, Copy)]
 pub struct Worksheet {
     pub job: Job,
     pub sums: Stored,
 }
 
 #[repr(C)]
-#[derive(Drop)]
+#[derive(Clone, Copy)]
 pub struct Edited {
     pub verdict: Verdict,
     pub worksheet: Worksheet,

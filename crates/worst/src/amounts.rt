@@ -7,7 +7,7 @@ ghost use Rattle.worst.specs.Amounts.{amount_in, AmountSmall, AmountFits};
 
 use pair::Pair;
 
-#[derive(Drop)]
+#[derive(Clone, Copy)]
 pub struct Amount {
     pub newtons: i64,
     pub units: i64,

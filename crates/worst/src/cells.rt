@@ -14,7 +14,7 @@ use job::Internals;
 use pair::Pair;
 
 // The cells of one wind, one for each internal coefficient.
-#[derive(Drop)]
+#[derive(Clone, Copy)]
 pub(crate) struct WindCells {
     pub(crate) cell: [StoredCell; 4],
 }

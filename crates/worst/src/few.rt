@@ -25,14 +25,14 @@ use entry::{Face, Wind};
 
 // On one axis, of the products of outside coefficient and weight the greatest and the least sum; and the sum of the
 // weights.
-#[derive(Drop)]
+#[derive(Clone, Copy)]
 pub struct FewAxis {
     pub greatest: i64,
     pub least: i64,
     pub weight: i64,
 }
 
-#[derive(Drop)]
+#[derive(Clone, Copy)]
 pub struct FewSums {
     pub x: FewAxis,
     pub y: FewAxis,

@@ -16,20 +16,20 @@ use crate::inside::{Insides, sides_at};
 use crate::tops::{Ends, Top, Tops, falls_short};
 
 // As `Top`, `Tops` and `Ends`, with a total that 64 bits hold.
-#[derive(Drop)]
+#[derive(Clone, Copy)]
 pub struct FewTop {
     pub total: i64,
     pub wind: u32,
     pub internal: u32,
 }
 
-#[derive(Drop)]
+#[derive(Clone, Copy)]
 pub struct FewTops {
     pub greatest: FewTop,
     pub least: FewTop,
 }
 
-#[derive(Drop)]
+#[derive(Clone, Copy)]
 pub struct FewEnds {
     pub x: FewTops,
     pub y: FewTops,

@@ -26,7 +26,7 @@ use job::{Job, Setting};
 use verdict::Verdict;
 
 // How many outside coefficients a zone has, in thousandths the first and the last: one that it has alone is both.
-#[derive(Drop)]
+#[derive(Clone, Copy)]
 pub struct Coefficients {
     pub count: u32,
     pub first: i64,

@@ -8,14 +8,14 @@ ghost use Rattle.worst.specs.Small.{LowInternals};
 use job::Internals;
 
 // One of them in thousandths, with its number.
-#[derive(Drop)]
+#[derive(Clone, Copy)]
 pub struct Inside {
     pub part: i64,
     pub number: u32,
 }
 
 // The first, the least and the greatest: of those that are alike the first.
-#[derive(Drop)]
+#[derive(Clone, Copy)]
 pub struct Insides {
     pub first: Inside,
     pub low: Inside,
@@ -23,7 +23,7 @@ pub struct Insides {
 }
 
 // That of the greatest sum, and that of the least.
-#[derive(Drop)]
+#[derive(Clone, Copy)]
 pub struct Sides {
     pub up: Inside,
     pub down: Inside,

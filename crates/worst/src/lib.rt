@@ -32,13 +32,13 @@ mod reckon; // a refusal, or the six extremes
 mod forces; // the force of each face, for whoever adds up cases one by one
 mod under; // one face under one wind
 
-#[derive(Drop)]
+#[derive(Clone, Copy)]
 pub enum Side {
     Greatest,
     Least,
 }
 
-#[derive(Drop)]
+#[derive(Clone, Copy)]
 pub enum Axis {
     X,
     Y,
@@ -47,7 +47,7 @@ pub enum Axis {
 
 // A total with the first case that reaches it: the numbers of its wind and its internal coefficient, from 1, and
 // each face's alternative, with zeros past the last face.
-#[derive(Drop)]
+#[derive(Clone, Copy)]
 pub struct Extreme {
     pub total: Pair,
     pub wind: u32,
@@ -57,14 +57,14 @@ pub struct Extreme {
 }
 
 // The two extremes of one axis.
-#[derive(Drop)]
+#[derive(Clone, Copy)]
 pub struct Extremes {
     pub greatest: Extreme,
     pub least: Extreme,
 }
 
 // The six extremes of a job.
-#[derive(Drop)]
+#[derive(Clone, Copy)]
 pub struct Six {
     pub x: Extremes,
     pub y: Extremes,
@@ -73,7 +73,7 @@ pub struct Six {
 
 // The greatest and the least sum over the faces, on one axis.
 #[repr(C)]
-#[derive(Drop)]
+#[derive(Clone, Copy)]
 pub struct Span {
     pub greatest: Pair,
     pub least: Pair,
@@ -81,7 +81,7 @@ pub struct Span {
 
 // Of one wind and one internal coefficient.
 #[repr(C)]
-#[derive(Drop)]
+#[derive(Clone, Copy)]
 pub struct StoredCell {
     pub x: Span,
     pub y: Span,
@@ -90,13 +90,13 @@ pub struct StoredCell {
 
 // Of all of them: that of a wind and an internal coefficient, both from 0, stands at 4 * wind + internal.
 #[repr(C)]
-#[derive(Drop)]
+#[derive(Clone, Copy)]
 pub struct Stored {
     pub cell: [StoredCell; 32],
 }
 
 // A job's refusal, with zeros for all else; or the year of one that is accepted, and its six extremes.
-#[derive(Drop)]
+#[derive(Clone, Copy)]
 pub struct Reckoning {
     pub verdict: Verdict,
     pub year: i64,
@@ -104,7 +104,7 @@ pub struct Reckoning {
 }
 
 // The force of a face on each axis.
-#[derive(Drop)]
+#[derive(Clone, Copy)]
 pub struct AxisForces {
     pub x: i64,
     pub y: i64,
@@ -112,7 +112,7 @@ pub struct AxisForces {
 }
 
 // Of one face: how many alternatives it has, and its forces at the first and at the last.
-#[derive(Drop)]
+#[derive(Clone, Copy)]
 pub struct FaceForces {
     pub count: u32,
     pub first: AxisForces,
@@ -120,13 +120,13 @@ pub struct FaceForces {
 }
 
 // Of all faces in order, under one wind and one internal coefficient, with zeros past the last.
-#[derive(Drop)]
+#[derive(Clone, Copy)]
 pub struct CellForces {
     pub face: [FaceForces; 240],
 }
 
 // One face under one wind: whether it takes part, the speed there in tenths of m/s, and its pressure number.
-#[derive(Drop)]
+#[derive(Clone, Copy)]
 pub struct UnderWind {
     pub acts: bool,
     pub speed: i64,

@@ -13,7 +13,7 @@ use building::{Building, Dated};
 use entry::{BOTH, Face, Wind};
 
 // The first and the last of a zone's outside coefficients, in thousandths: one that it has alone is both.
-#[derive(Drop)]
+#[derive(Clone, Copy)]
 pub struct Outside {
     pub first: i64,
     pub last: i64,

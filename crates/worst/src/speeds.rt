@@ -11,7 +11,7 @@ use entry::Step;
 use job::{Profile, Setting};
 
 // The fraction part / whole.
-#[derive(Drop)]
+#[derive(Clone, Copy)]
 pub struct Factor {
     pub part: i64,
     pub whole: i64,

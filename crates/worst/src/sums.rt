@@ -19,14 +19,14 @@ use building::Building;
 use entry::Wind;
 
 // On one axis, and on all.
-#[derive(Drop)]
+#[derive(Clone, Copy)]
 pub struct AxisSums {
     pub greatest: Amount,
     pub least: Amount,
     pub weight: i64,
 }
 
-#[derive(Drop)]
+#[derive(Clone, Copy)]
 pub struct AllSums {
     pub x: AxisSums,
     pub y: AxisSums,

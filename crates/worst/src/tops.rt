@@ -8,7 +8,7 @@ use crate::Side;
 use pair::Pair;
 
 // Nothing yet, where the wind is 0.
-#[derive(Drop)]
+#[derive(Clone, Copy)]
 pub struct Top {
     pub total: Pair,
     pub wind: u32,
@@ -16,13 +16,13 @@ pub struct Top {
 }
 
 // On one axis, and on all.
-#[derive(Drop)]
+#[derive(Clone, Copy)]
 pub struct Tops {
     pub greatest: Top,
     pub least: Top,
 }
 
-#[derive(Drop)]
+#[derive(Clone, Copy)]
 pub struct Ends {
     pub x: Tops,
     pub y: Tops,

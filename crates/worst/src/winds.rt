@@ -13,20 +13,20 @@ use building::Building;
 use entry::Wind;
 use job::Winds;
 
-#[derive(Drop)]
+#[derive(Clone, Copy)]
 pub struct CaseWind {
     pub wind: Wind,
     pub outside: Outside,
 }
 
 // Those of the two cases of an axis, and of all.
-#[derive(Drop)]
+#[derive(Clone, Copy)]
 pub struct CaseWinds {
     pub greatest: CaseWind,
     pub least: CaseWind,
 }
 
-#[derive(Drop)]
+#[derive(Clone, Copy)]
 pub struct SixWinds {
     pub x: CaseWinds,
     pub y: CaseWinds,
