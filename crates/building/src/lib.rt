@@ -1,4 +1,6 @@
 // A building: what is wrong with its numbers, which zones its roof has, and a question about one place of it, judged.
+#![tactic(auto)]
+
 ghost use Rattle.std.specs.Prelude.{◌≡◌};
 ghost use Rattle.building.specs.Building.{building_fault, given_fault};
 ghost use Rattle.building.specs.Places.{zone_on};

@@ -1,4 +1,6 @@
 // A line of a text, read into its fields.
+#![tactic(auto)]
+
 ghost use Rattle.std.specs.Prelude.{◌≡◌, ◌||◌, ◌+◌, ◌-◌, ◌≤◌, eqb, length, take, drop, get_or};
 ghost use Rattle.field.specs.Field.{field_from};
 ghost use Rattle.lines.specs.Held.{slot, no_line, line_at, held, field_length};

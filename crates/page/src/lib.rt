@@ -1,5 +1,7 @@
 // A text put into a lent buffer. The put functions store it from a place on, as far as there is room, and answer the
 // place after it, so that one follows another; `emit` puts a whole text at the buffer's start, or refuses.
+#![tactic(auto)]
+
 ghost use Rattle.std.specs.Prelude.{◌≡◌, [], ◌∷◌, ◌+◌, ◌≤◌, min, length, take};
 ghost use Rattle.page.specs.Writing.{Put, writing, buffer_after};
 

@@ -5,7 +5,7 @@ use Prim.Native.Nat.{ℕ, ◌<◌}
 use native.Mathlib.Omega.{arith}
 use borrow.Author.Tests.{lt-ltb, ltb-true}
 use lib.IntN.{ℤ, pos, ◌+ℤ◌, ◌*ℤ◌}
-use Rattle.whole.specs.Newton.{newton, newtons, remainder}
+use Rattle.whole.specs.Newton.{newton, remainder}
 use Rattle.whole.proofs.Newton.{remainder-small, newtons-and-remainder, newtons-unique}
 use Rattle.pair.specs.declared.Pair.{Pair}
 use Rattle.pair.specs.Total.{pair_of, units, no_pair, proper}

@@ -1,5 +1,7 @@
 // A total as a pair, whole newtons rounded down and the units that remain: made of a number of units and turned back
 // into one, added, taken away and compared. Where a total of units fits 64 bits no longer, its pair does.
+#![tactic(auto)]
+
 ghost use Rattle.std.specs.Prelude.{◌≡◌, ◌&&◌, ◌*◌, ◌≤◌, ◌<◌, ltb, pos, nat_abs, ◌+ℤ◌, ◌*ℤ◌};
 ghost use Rattle.std.specs.Int.Signed.{lt_z};
 ghost use Rattle.whole.specs.Newton.{newton};

@@ -1,5 +1,7 @@
 // Whole newtons for each face that add up to the total rounded down: the column of a list of forces, put into a lent
 // list.
+#![tactic(auto)]
+
 ghost use Rattle.std.specs.Prelude.{◌≡◌};
 ghost use Rattle.page.specs.Writing.{buffer_after};
 ghost use Rattle.sharing.specs.Column.{column, sharing};

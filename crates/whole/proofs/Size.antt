@@ -3,7 +3,7 @@
 -- `Num` is such a value with the number that it is and the most that it is in size. It is built as the code is, one
 -- law for each operation, and then answers that the result fits (`fit`) and what it is (`.same`).
 use mathlib.Core.Path.{◌≡◌, refl, sym, ◌∙◌, ap, ap₂, subst, subst₂}
-use mathlib.Core.Logic.{◌⊎◌, ⊎_elim}
+use mathlib.Core.Logic.{⊎_elim}
 use Prim.Native.Nat.{ℕ, zero, suc, ◌+◌, ◌-◌, ◌*◌, ◌/◌, ◌^◌, ◌≤◌, ◌<◌}
 use native.Mathlib.Nat.{le_trans, le_refl, mul-le-mul, lt_of_le_of_lt, le-div_iff_mul-le, div-mul-le_self, div-zero}
 use native.Mathlib.Omega.{arith}

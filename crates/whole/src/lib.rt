@@ -1,5 +1,7 @@
 // The size of a signed number, the greatest common divisor of two numbers, and the newtons of a total with its
 // remainder.
+#![tactic(auto)]
+
 ghost use Rattle.std.specs.Prelude.{◌≡◌, nat_abs};
 ghost use Rattle.whole.specs.Lowest.{common_divisor};
 ghost use Rattle.whole.specs.Newton.{newtons, remainder};

@@ -1,0 +1,75 @@
+-- `order::how_many_ahead` meets its contract: after as many turns as `other`, those of the first so many are counted.
+-- those of the first n
+use mathlib.Core.Path.{◌≡◌, refl, sym, ap, ◌∙◌}
+use mathlib.Core.Logic.{⊎_elim}
+use mathlib.Core.Bool.{cond}
+use mathlib.Core.List.{List}
+use Prim.Native.Nat.{ℕ, suc, ◌-◌, ◌≤◌}
+use native.Mathlib.Omega.{arith}
+use native.Mathlib.Numerals.{add-one}
+use borrow.Author.Rules.{rules}
+use lib.IntN.{ℤ}
+use lib.ListN.{length}
+use Rattle.whole.specs.Lists.{numbers, how_many}
+use Rattle.whole.specs.Newton.{remainder}
+use Rattle.whole.proofs.Numbers.{length-numbers}
+use Rattle.whole.proofs.Counting.{many-number, many-few}
+use Rattle.whole.proofs.Size.{said}
+use Rattle.sharing.specs.Column.{own_force, comes_first, is_ahead, ahead}
+use Rattle.sharing.proofs.order.how_many_ahead.Goals.{After-comes_first, At-loop-other}
+use Rattle.sharing.proofs.order.how_many_ahead.Goals as goal
+
+abbrev among : List ℤ → ℕ → ℕ → ℕ
+among fs i n = how_many (λ j. is_ahead fs j i) (numbers n 0)
+
+-- a face that counts, or does not
+module _ (c : After-comes_first) where
+  abbrev l : At-loop-other
+  l = (goal.at.After-comes_first c).At-loop-other
+
+  abbrev fs : List ℤ
+  fs = l.args.forces.now
+
+  abbrev face : ℕ
+  face = l.args.face
+
+  tested : c.comes_first.result ≡ is_ahead fs l.loop-other.other face
+  tested =
+      let own =
+      said remainder (own_force fs face) l.remainder-own.ensures l.remainder-arg-1.given in
+      let next =
+      said remainder (own_force fs l.loop-other.other) c.remainder.ensures
+      c.remainder-arg-in-loop-other-1.given in
+      c.comes_first.ensures ∙ (λ k. comes_first (next k) l.loop-other.other (own k) face)
+
+  few : l.loop-other.n ≤ l.loop-other.other
+  few =
+      let ns = numbers l.loop-other.other 0 in
+      omega (arith, l.loop-other.invariant.1, many-few (λ j. is_ahead fs j face) ns, length-numbers l.loop-other.other 0)
+
+pub loop-other-init : goal.loop-other-init
+unfolding numbers how_many
+loop-other-init c = (search rules, refl)
+
+pub overflow_add-n : goal.overflow_add-n
+overflow_add-n c = let t = few (goal.at.overflow_add-n c).After-comes_first in omega arith
+
+pub loop-other-preserved : goal.loop-other-preserved
+loop-other-preserved c =
+    let at_comes_first = (goal.at.loop-other-preserved c).After-comes_first in
+    let n = (l at_comes_first).loop.n in
+    let e : c.if-comes_first.n ≡ cond c.comes_first.result (suc n) n =
+    ⊎_elim (λ w. w.1 ∙ add-one n ∙ sym (ap (λ t. cond t (suc n) n) w.0.taken))
+    (λ w. w.1 ∙ sym (ap (λ t. cond t (suc n) n) w.0.left)) c.if-comes_first.branch in (
+      omega arith,
+      e
+          ∙ (λ k. cond (tested at_comes_first k) (suc ((l at_comes_first).loop.invariant.1 k)) ((l at_comes_first).loop.invariant.1 k))
+          ∙ sym (many-number (λ j. is_ahead (fs at_comes_first) j (face at_comes_first)) (l at_comes_first).loop.other),
+    )
+
+pub returns : goal.returns
+unfolding ahead
+returns c =
+    let s = c.args in
+    let all : c.loop-other.other ≡ length s.forces.now = omega arith in
+    c.loop-other.invariant.1 ∙ ap (among s.forces.now s.face) all

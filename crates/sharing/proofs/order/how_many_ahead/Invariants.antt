@@ -1,0 +1,12 @@
+-- `order::how_many_ahead` meets its contract: after as many turns as `other`, those of the first so many are counted.
+-- those of the first n
+use mathlib.Core.Path.{◌≡◌}
+use Prim.Native.Nat.{◌-◌, ◌≤◌}
+use lib.ListN.{length}
+use Rattle.sharing.proofs.order.how_many_ahead.Given as goal
+
+abbrev pub invariant-loop-other : goal.invariant-loop-other
+invariant-loop-other l = (l.other ≤ length l.forces) × (l.n ≡ among l.forces l.face l.other)
+
+abbrev pub decreases-loop-other : goal.decreases-loop-other
+decreases-loop-other l = length l.forces - l.other
