@@ -1,4 +1,6 @@
 // A field of the sheet: a dash, a capital letter, or a number.
+#![tactic(auto)]
+
 ghost use Rattle.std.specs.Prelude.{◌≡◌, cond, ◌≤◌, length};
 ghost use Rattle.whole.specs.Digits.{all_digits, value};
 ghost use Rattle.field.specs.Field.{unsigned, negative, numeral, field_from};
