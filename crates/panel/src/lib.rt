@@ -1,5 +1,7 @@
 // The panel's doubles: for any signed 64-bit total the double that equals it, or the two on either side; the chart
 // point of three totals; and both of newtons with a remainder.
+#![tactic(auto)]
+
 ghost use Rattle.std.specs.Prelude.{◌≡◌};
 ghost use Rattle.panel.specs.Bracket.{gap, of_size, mirrored, panel_of};
 ghost use Rattle.panel.specs.Chart.{low_of, high_of, point_in, point_of};

@@ -16,11 +16,9 @@ use Rattle.whole.proofs.Numbers.{length-numbers}
 use Rattle.whole.proofs.Counting.{many-number, many-few}
 use Rattle.whole.proofs.Size.{said}
 use Rattle.sharing.specs.Column.{own_force, comes_first, is_ahead, ahead}
+use Rattle.sharing.proofs.order.how_many_ahead.Invariants.{among}
 use Rattle.sharing.proofs.order.how_many_ahead.Goals.{After-comes_first, At-loop-other}
 use Rattle.sharing.proofs.order.how_many_ahead.Goals as goal
-
-abbrev among : List ℤ → ℕ → ℕ → ℕ
-among fs i n = how_many (λ j. is_ahead fs j i) (numbers n 0)
 
 -- a face that counts, or does not
 module _ (c : After-comes_first) where
@@ -53,19 +51,6 @@ loop-other-init c = (search rules, refl)
 
 pub overflow_add-n : goal.overflow_add-n
 overflow_add-n c = let t = few (goal.at.overflow_add-n c).After-comes_first in omega arith
-
-pub loop-other-preserved : goal.loop-other-preserved
-loop-other-preserved c =
-    let at_comes_first = (goal.at.loop-other-preserved c).After-comes_first in
-    let n = (l at_comes_first).loop.n in
-    let e : c.if-comes_first.n ≡ cond c.comes_first.result (suc n) n =
-    ⊎_elim (λ w. w.1 ∙ add-one n ∙ sym (ap (λ t. cond t (suc n) n) w.0.taken))
-    (λ w. w.1 ∙ sym (ap (λ t. cond t (suc n) n) w.0.left)) c.if-comes_first.branch in (
-      omega arith,
-      e
-          ∙ (λ k. cond (tested at_comes_first k) (suc ((l at_comes_first).loop.invariant.1 k)) ((l at_comes_first).loop.invariant.1 k))
-          ∙ sym (many-number (λ j. is_ahead (fs at_comes_first) j (face at_comes_first)) (l at_comes_first).loop.other),
-    )
 
 pub returns : goal.returns
 unfolding ahead
