@@ -154,8 +154,9 @@ run_at n zero (r ∷ rows) rest t h =
 run_at n (suc i) (r ∷ rows) rest t h =
     let e = eqb-true r.number n (is_true _ (both_left (eqb r.number n) (run (n + 1) rows) t)) in
     let next : n + suc i ≡ n + 1 + i = omega arith in
-    rw (ne_eqb r.number (n + suc i) (λ f. omega arith), next)
-    (run_at (n + 1) i rows rest (both_right (eqb r.number n) (run (n + 1) rows) t) (omega arith))
+    rw (ne_eqb r.number (n + suc i) (λ f. omega arith))
+    (subst (λ (k : ℕ). row_numbered k (rows ++ rest) ≡ get_or rows i no_row) (sym next)
+    (run_at (n + 1) i rows rest (both_right (eqb r.number n) (run (n + 1) rows) t) (omega arith)))
 
 -- among all rows, those of the table begin after those before it
 module _ (before rows after rest : List Row) (runs : T (run 1 rows))

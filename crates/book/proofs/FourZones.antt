@@ -1,13 +1,12 @@
 -- Four zones at once: their cells and columns, and that each has what the question about it answers.
 use mathlib.Core.Path.{◌≡◌, refl, sym, ap, ◌∙◌, subst}
-use mathlib.Core.Bool.{Bool, true, false, cond, not, ◌&&◌, true≢false}
-use mathlib.Core.List.{List, []}
+use mathlib.Core.Bool.{Bool, true, false, cond, ◌&&◌, true≢false}
 use mathlib.Core.Logic.{◌⊎◌, inl, inr}
 use Prim.Native.Nat.{ℕ, zero, suc, ◌+◌, ◌-◌, ◌≤◌, ◌<◌}
 use native.Mathlib.Omega.{arith}
 use lib.Dec.{eqb, lit<}
-use lib.IntN.{ℤ, pos, negsuc, nat_abs, neg_ℤ, ◌*ℤ◌}
-use lib.ListN.{get_or, take, drop}
+use lib.IntN.{ℤ, pos, nat_abs, neg_ℤ, ◌*ℤ◌}
+use lib.ListN.{get_or, drop}
 use lib.Seq.{get_or-take, get_or-drop}
 use borrow.Author.Tests.{eq-eqb, ne_eqb, eqb-true, eqb-false, not-true, not-false}
 use Rattle.whole.proofs.Tests.{by-test, and-true}
@@ -30,15 +29,15 @@ use Rattle.book.specs.declared.Cited.{Cited}
 use Rattle.book.specs.declared.Ends.{Ends}
 use Rattle.book.specs.declared.Four.{Four}
 use Rattle.book.specs.Row.{Row, hundredths}
-use Rattle.book.specs.Line.{on, value_at}
-use Rattle.book.specs.Walls.{wall_row, wall_way}
+use Rattle.book.specs.Line.{value_at}
+use Rattle.book.specs.Walls.{wall_row}
 use Rattle.book.specs.Roofs.{flat_roof, width, roof_way}
 use Rattle.book.specs.Held.{wall_cells}
 use Rattle.book.specs.Answer.{values_in, values_of}
 use Rattle.book.specs.Question.{wall_column, gable_column, single_column, flat_column, roof_column, two_signs}
 use Rattle.book.specs.Question.{answer_to, outside_of}
 use Rattle.book.specs.Zones.{ends_of, ends_at, four_from, both_ends, no_ends, no_four, ends_on, four_on, wall_half}
-use Rattle.book.specs.Zones.{by_flanks, two_on, roof_on, roof_half}
+use Rattle.book.specs.Zones.{by_flanks, roof_on, roof_half}
 use Rattle.book.proofs.Between.{value_on}
 use Rattle.book.proofs.Roofed.{flat-f}
 use Rattle.book.proofs.Answers.{on-wall, on-f, on_one, answered}

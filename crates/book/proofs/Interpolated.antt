@@ -6,7 +6,7 @@ use Prim.Native.Nat.{ℕ, ◌*◌, ◌<◌}
 use native.Mathlib.Omega.{arith}
 use lib.Dec.{leb}
 use lib.IntN.{ℤ, pos, ◌*ℤ◌}
-use lib.Signed.{◌≤ℤ◌, ≤ℤ_refl}
+use lib.Signed.{≤ℤ_refl}
 use borrow.Author.Tests.{leb-true, leb-false}
 use Rattle.whole.proofs.Tests.{by-test}
 use Rattle.whole.proofs.Nearest.{round_away-nearest, nearest-round_away}

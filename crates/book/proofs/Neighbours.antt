@@ -13,12 +13,15 @@ pub neighbours-rise : {lower upper : Standing} (rows : List Standing) → Rising
     → lower.at < upper.at
 neighbours-rise (r ∷ s ∷ rows) h first = h.0
 neighbours-rise (r ∷ s ∷ rows) h (later n) = neighbours-rise (s ∷ rows) h.1 n
+neighbours-rise {lower = lower} {upper = upper} [] h n = elim n [ ]
+neighbours-rise {lower = lower} {upper = upper} (r ∷ []) h n = elim n [ ]
 
 -- none stands before the first row
 pub neighbours-from : {lower upper : Standing} (r : Standing) (rows : List Standing) → Rising (r ∷ rows)
     → Neighbours (r ∷ rows) lower upper → r.at ≤ lower.at
 neighbours-from r (s ∷ rows) h first = omega arith
 neighbours-from r (s ∷ rows) h (later n) = let l = neighbours-from s rows h.1 n in omega arith
+neighbours-from {lower = lower} {upper = upper} r [] h n = elim n [ ]
 
 pub row_from : {t : Standing} (r : Standing) (rows : List Standing) → Rising (r ∷ rows) → Memᴰ t (r ∷ rows)
     → r.at ≤ t.at

@@ -63,6 +63,8 @@ neighbours-apart : {lower upper : Standing} (rows : List Standing) → T (all_ap
 neighbours-apart (r ∷ s ∷ rows) t first = apart_by r s (both_left (apart r s) (all_apart (s ∷ rows)) t)
 neighbours-apart (r ∷ s ∷ rows) t (later n) =
     neighbours-apart (s ∷ rows) (both_right (apart r s) (all_apart (s ∷ rows)) t) n
+neighbours-apart {lower = lower} {upper = upper} [] t n = elim n [ ]
+neighbours-apart {lower = lower} {upper = upper} (r ∷ []) t n = elim n [ ]
 
 -- ---- a block that passes both
 

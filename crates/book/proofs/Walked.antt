@@ -65,6 +65,8 @@ module _ (x d : ℕ) where
         let a = mul-lt-mul_of_pos_right rises.0 some in
         let b = mul-le-mul_right d (neighbours-from s rows rises.1 n) in
         passes r s rows (omega arith) (omega arith) ∙ walk-within (s ∷ rows) rises.1 n from to
+    walk-within {lower = lower} {upper = upper} [] rises n from to = elim n [ ]
+    walk-within {lower = lower} {upper = upper} (r ∷ []) rises n from to = elim n [ ]
 
     -- so nothing but what the walk finds is where x/d lies
     pub lies-only : (rows : List Standing) → Rising rows → {w : Way} → LiesAt rows x d w → w ≡ way_in rows x d

@@ -1,5 +1,7 @@
 // The printed tables of ROM 0.4-95 for walls, gable roofs, single slopes and flat roofs, and the coefficient of one
 // zone or local of a building.
+#![tactic(auto)]
+
 ghost use Rattle.std.specs.Prelude.{◌≡◌};
 ghost use Rattle.book.specs.Question.{outside_of, net_of};
 ghost use Rattle.book.specs.Zones.{wall_four, roof_four};
