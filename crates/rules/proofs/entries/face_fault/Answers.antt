@@ -32,7 +32,7 @@ module _ (c : After-is_marked) where
       ∙ e
 
   is-zoned : not (among A H zoned.args.f.zone) ≡ false
-  is-zoned = no-zone (goal.at.Else-not-is_zone zoned).After-is_zone zoned.if-not-is_zone.false
+  is-zoned = no-zone (goal.at.Else-not-is_zone zoned).After-is_zone (ap not zoned.if-not-is_zone.false)
 
 module _ (c : After-beyond) where
   abbrev marked : Else-not-is_marked
@@ -89,23 +89,26 @@ module _ (c : After-off_area-3) where
       c.struct_told-5-1.given.1.1.1.1.1.0.1)
       ∙ e
 
+pub returns-then-not-is_zone : goal.returns-then-not-is_zone
+returns-then-not-is_zone c = rw (no-zone (goal.at.returns-then-not-is_zone c).After-is_zone (ap not c.if-not-is_zone.true))
+
 pub returns-then-not-is_marked : goal.returns-then-not-is_marked
 returns-then-not-is_marked c =
     let at_is_marked = (goal.at.returns-then-not-is_marked c).After-is_marked in
-    rw (is-zoned at_is_marked, unmarked at_is_marked c.if-not-is_marked.true)
+    rw (is-zoned at_is_marked, unmarked at_is_marked (ap not c.if-not-is_marked.true))
 
 pub returns-then-beyond : goal.returns-then-beyond
 returns-then-beyond c =
     let at_is_marked = (goal.at.returns-then-beyond c).After-is_marked in
     let at_beyond = (goal.at.returns-then-beyond c).After-beyond in
-    rw (is-zoned at_is_marked, unmarked at_is_marked c.if-not-is_marked.false, off-height at_beyond c.if-beyond.true)
+    rw (is-zoned at_is_marked, unmarked at_is_marked (ap not c.if-not-is_marked.false), off-height at_beyond c.if-beyond.true)
 
 pub returns-then-off_area : goal.returns-then-off_area
 returns-then-off_area c =
     let at_is_marked = (goal.at.returns-then-off_area c).After-is_marked in
     rw (
       is-zoned at_is_marked,
-      unmarked at_is_marked c.if-not-is_marked.false,
+      unmarked at_is_marked (ap not c.if-not-is_marked.false),
       off-height (goal.at.returns-then-off_area c).After-beyond c.if-beyond.false,
       off-x (goal.at.returns-then-off_area c).After-off_area c.if-off_area.true,
     )
@@ -115,7 +118,7 @@ returns-then-off_area-2 c =
     let at_is_marked = (goal.at.returns-then-off_area-2 c).After-is_marked in
     rw (
       is-zoned at_is_marked,
-      unmarked at_is_marked c.if-not-is_marked.false,
+      unmarked at_is_marked (ap not c.if-not-is_marked.false),
       off-height (goal.at.returns-then-off_area-2 c).After-beyond c.if-beyond.false,
       off-x (goal.at.returns-then-off_area-2 c).After-off_area c.if-off_area.false,
       off-y (goal.at.returns-then-off_area-2 c).After-off_area-2 c.if-off_area-2.true,
@@ -126,7 +129,7 @@ returns-then-off_area-3 c =
     let at_is_marked = (goal.at.returns-then-off_area-3 c).After-is_marked in
     rw (
       is-zoned at_is_marked,
-      unmarked at_is_marked c.if-not-is_marked.false,
+      unmarked at_is_marked (ap not c.if-not-is_marked.false),
       off-height (goal.at.returns-then-off_area-3 c).After-beyond c.if-beyond.false,
       off-x (goal.at.returns-then-off_area-3 c).After-off_area c.if-off_area.false,
       off-y (goal.at.returns-then-off_area-3 c).After-off_area-2 c.if-off_area-2.false,
@@ -138,7 +141,7 @@ returns c =
     let at_is_marked = (goal.at.returns c).After-is_marked in
     rw (
       is-zoned at_is_marked,
-      unmarked at_is_marked c.if-not-is_marked.false,
+      unmarked at_is_marked (ap not c.if-not-is_marked.false),
       off-height (goal.at.returns c).After-beyond c.if-beyond.false,
       off-x (goal.at.returns c).After-off_area c.if-off_area.false,
       off-y (goal.at.returns c).After-off_area-2 c.if-off_area-2.false,

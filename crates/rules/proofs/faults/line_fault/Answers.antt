@@ -73,6 +73,12 @@ returns-in-Count c =
     c.count_fault.ensures
     ∙ as-kind (goal.at.returns-in-Count c).Else-not-in_form (Count c.in-Count.s) c.in-Count.is
 
+pub returns-in-V : goal.returns-in-V
+returns-in-V c =
+    let i = c.year_of in
+    c.year_fault.ensures ∙ ap (λ (z : ℤ). first (year_faults z)) ((returned w64 _ i.type_inv).same ∙ i.ensures)
+    ∙ as-entry (goal.at.returns-in-V c).In-Entry «V» c.in-V.is
+
 pub returns-in-B : goal.returns-in-B
 returns-in-B c =
     let b = c.args.b in
@@ -84,6 +90,12 @@ returns-in-W c =
     let g = c.args.b.building in
     c.wind_fault.ensures ∙ ap (λ (w : Wind). first (wind_faults g w)) c.wind_of.ensures
     ∙ as-entry (goal.at.returns-in-W c).In-Entry W c.in-W.is
+
+pub returns-in-I : goal.returns-in-I
+returns-in-I c =
+    let i = c.internal_of in
+    c.internal_fault.ensures ∙ ap (λ (z : ℤ). first (internal_faults z)) ((returned w64 _ i.type_inv).same ∙ i.ensures)
+    ∙ as-entry (goal.at.returns-in-I c).In-Entry I c.in-I.is
 
 pub returns-in-P : goal.returns-in-P
 returns-in-P c =

@@ -44,6 +44,12 @@ returns-in-Count c =
     ∙ (λ i. first_spot (count_faults (year i) c.in-Count.s (field i) (count i)))
     ∙ as-kind (goal.at.returns-in-Count c).Start (Count c.in-Count.s) c.in-Count.is
 
+pub returns-in-V : goal.returns-in-V
+returns-in-V c =
+    let i = c.year_of in
+    c.year_spot.ensures ∙ ap (λ (z : ℤ). first_spot (year_faults z)) ((returned w64 _ i.type_inv).same ∙ i.ensures)
+    ∙ as-entry (goal.at.returns-in-V c).In-Entry «V» c.in-V.is
+
 pub returns-in-B : goal.returns-in-B
 returns-in-B c =
     let b = c.args.b in
@@ -58,6 +64,13 @@ returns-in-W c =
     c.wind_spot.ensures ∙ ap (λ (w : Wind). first_spot (wind_faults g w)) c.wind_of.ensures
     ∙ as-entry (goal.at.returns-in-W c).In-Entry W c.in-W.is
 
+pub returns-in-I : goal.returns-in-I
+returns-in-I c =
+    let i = c.internal_of in
+    c.internal_spot.ensures
+    ∙ ap (λ (z : ℤ). first_spot (internal_faults z)) ((returned w64 _ i.type_inv).same ∙ i.ensures)
+    ∙ as-entry (goal.at.returns-in-I c).In-Entry I c.in-I.is
+
 pub returns-in-P : goal.returns-in-P
 returns-in-P c =
     let z = c.args.b.highest in
@@ -70,6 +83,6 @@ returns-in-F c =
     let a = c.args in
     let tall = said has_heights a.b.year c.has_heights.ensures c.struct_told-in-F-1.given.0.1 in
     c.face_spot.ensures
-    ∙ ap (λ (c : Face). first_spot (face_faults a.b c))
-    (c.face_of.ensures ∙ ap (λ (c : Bool). face_of c (held a.x)) tall)
+    ∙ ap (λ (f' : Face). first_spot (face_faults a.b f'))
+    (c.face_of.ensures ∙ ap (λ (h' : Bool). face_of h' (held a.x)) tall)
     ∙ as-entry (goal.at.returns-in-F c).In-Entry F c.in-F.is
