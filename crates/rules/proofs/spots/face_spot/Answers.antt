@@ -54,3 +54,26 @@ overflow_add-at c = omega (arith, few c)
 
 pub overflow_add-at-2 : goal.overflow_add-at-2
 overflow_add-at-2 c = omega (arith, few (goal.at.overflow_add-at-2 c).After-area_field-at)
+
+pub returns : goal.returns
+unfolding first_spot
+returns c =
+    let at_area_field_at = (goal.at.returns c).After-area_field-at in
+    let f = c.args.f in
+    let g = c.args.b.building in
+    let q = c.struct_told-2-1.given.1 in
+    let marked = said (λ (z' : ℤ). is both z' || knows g.kind z') f.mark c.is_marked.ensures q.0.1 in
+    let at =
+    c.ranged.ensures
+    ∙ ap (λ (i : ℕ). ranged i (pos 0) (pos 30000)) (c.height_field.ensures ∙ ap height_field (heights at_area_field_at)) in
+    let none : c.area_field-at.result ≡ c.area_field-at.result + 0 = omega arith in
+    let areas =
+    area f.x c.area_spot-areas.ensures q.1.1.0.1 (none ∙ field at_area_field_at 0)
+    (area f.y c.area_spot.ensures q.1.1.1.0.1 (field at_area_field_at 1)
+    (area f.z c.area_spot-z.ensures q.1.1.1.1.0.1 (field at_area_field_at 2) c.place_spot.ensures)) in
+    spot-or (ap not c.is_zone.ensures) c.ranged-3.ensures
+    (spot-or (ap not marked) c.ranged-2.ensures
+    (spot-or (said (beyond (pos 0) (pos 30000)) f.height c.beyond.ensures q.1.0.1) at areas
+    c.first-height.ensures)
+    c.first-mark.ensures)
+    c.first.ensures
