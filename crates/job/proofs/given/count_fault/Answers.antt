@@ -9,22 +9,13 @@ use Rattle.rules.specs.Sections.{count_faults}
 use Rattle.rules.proofs.Form.{formed-in, none, more, letter, count}
 use Rattle.rules.proofs.Line.{fault-in}
 use Rattle.job.proofs.Sections.{count_line}
-use borrow.Author.Rules.{rules}
-use Rattle.job.proofs.given.count_fault.Statement.{statement}
-use Rattle.job.proofs.given.count_fault.Tie as tie
+use Rattle.job.proofs.given.count_fault.Goals as goal
 
-returns : tie.Need-returns
+pub returns : goal.returns
 returns c =
-    let t = c.before in
-    let l = t.before in
-    let a = l.before.args in
-    let year = (returned w64 a.b.year t.struct_told.given.0.1).same in
+    let a = c.args in
+    let year = (returned w64 a.b.year c.struct_told-1.given.0.1).same in
     let n = (nat w64 {n = a.n} 4294967295 (omega arith) tt).same in
-    c.count-fault.ensures
-    ∙ (λ i. first (count_faults (year i) a.s (l.section-letter.ensures i) (n i)))
+    c.count_fault.ensures
+    ∙ (λ i. first (count_faults (year i) a.s (c.section_letter-letter.ensures i) (n i)))
     ∙ sym (fault-in (Count a.s) a.b (count_line a.s a.n) (formed-in (more letter (more count none))))
-
-pub count-fault-spec : {M : Type 1} → statement M
-count-fault-spec =
-    tie.close
-    (tie.spec (λ c κs. search rules) (λ c. search rules) (λ c κs. search rules) returns)
