@@ -1,8 +1,9 @@
 -- `put_decimal` meets its contract: the sign is put, and then the digits of the size.
-use mathlib.Core.Path.{◌≡◌, sym, ap, ◌∙◌}
+use mathlib.Core.Path.{◌≡◌, ap, ◌∙◌}
 use mathlib.Core.List.{◌∷◌}
-use lib.IntN.{ℤ, pos, nat_abs}
-use lib.Signed.{lt_z}
+use native.Mathlib.Omega.{arith}
+use Rattle.std.proofs.lemmas.Int.{ints}
+use lib.IntN.{nat_abs}
 use mir.Syntax.{w64}
 use mir.ValLaws.{to_z-of_z}
 use Rattle.page.proofs.Put.{then}
@@ -17,7 +18,7 @@ below c =
     let z = c.args.z in
     let bits = to_z-of_z w64 z c.ranges.z in
     decimal-below z c.magnitude-m.result
-    (ap (λ (y : ℤ). lt_z y (pos 0)) (sym bits) ∙ c.if-z-lt0.true)
+    (grind (arith, ints))
     (c.magnitude-m.ensures ∙ ap nat_abs bits)
 
 above : (c : Else-z-lt0) → decimal c.args.z ≡ digits c.magnitude-m.result
@@ -25,7 +26,7 @@ above c =
     let z = c.args.z in
     let bits = to_z-of_z w64 z c.ranges.z in
     decimal-above z c.magnitude-m.result
-    (ap (λ (y : ℤ). lt_z y (pos 0)) (sym bits) ∙ c.if-z-lt0.false)
+    (grind (arith, ints))
     (c.magnitude-m.ensures ∙ ap nat_abs bits)
 
 pub returns-then-z-lt0 : goal.returns-then-z-lt0

@@ -1,12 +1,12 @@
 -- `shares::share_of` meets its contract: one more newton fits, however large the force is.
 use mathlib.Core.Path.{◌≡◌, sym, ap, subst, ◌∙◌}
 use mathlib.Core.Bool.{Bool, cond}
-use Prim.Native.Nat.{◌≤◌}
+use Prim.Native.Nat.{◌≤◌, ◌<◌, ◌^◌}
 use borrow.Author.Rules.{rules}
 use borrow.Author.Tests.{lt-ltb, le-ltb}
 use lib.IntN.{ℤ, pos, nat_abs, ◌+ℤ◌}
 use lib.Dec.{ltb}
-use lib.Signed.{lt_z}
+use lib.Signed.{lt_z, mag}
 use mir.Syntax.{w64}
 use Rattle.whole.specs.Newton.{newtons}
 use Rattle.whole.proofs.Newton.{newtons-few}
@@ -20,13 +20,16 @@ module _ (c : After-newtons-down) where
   abbrev force : ℤ
   force = own_force c.args.forces.now c.args.face
 
+  small : mag force < 2 ^ 63
+  small = search rules
+
   rounded : c.newtons-down.result ≡ newtons force
-  rounded = said newtons force c.newtons-down.ensures (search rules)
+  rounded = said newtons force c.newtons-down.ensures small
 
   abbrev down : Num
   down =
       param≤ {w = w64} {z = c.newtons-down.result} {k = 461_168_602} (record { sfits = c.newtons-down.type_inv })
-      (subst (λ z. nat_abs z ≤ 461_168_602) (sym rounded) (newtons-few force (search rules)))
+      (subst (λ z. nat_abs z ≤ 461_168_602) (sym rounded) (newtons-few force small))
 
 -- the test, and what comes of it
 module _ (c : After-how_many_ahead) where
