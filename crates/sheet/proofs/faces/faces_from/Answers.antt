@@ -85,3 +85,30 @@ shape_of-flat c = c.loop-done.invariant.1
 
 pub returns : goal.returns
 returns c = read (goal.at.returns c).At-loop-done
+
+pub loop-done-preserved : goal.loop-done-preserved
+loop-done-preserved c =
+    let a = c.args in
+    let s = a.s.now in
+    let at = c.loop-done.next in
+    let fs = held (line_at s at) in
+    let tall =
+    said has_heights a.b.year c.has_heights-heights.ensures c.struct_told-1.given.0.1 in
+    let plain =
+    subst (λ (t : Bool). PlainFace t s at c.face_at-x.result) tall
+    (c.face_at-x.ensures c.if-to-eq0.false) in
+    let n = a.faces + c.loop-done.done in (
+      search rules,
+      ap length c.put_face.ensures
+          ∙ length-sets c.loop-done.flat (per_face * n) (numbers_of c.face_at-x.result.face)
+          ∙ c.loop-done.invariant.1,
+      one-passed s a.b a.at a.faces a.flat.now c.loop-done.done at c.face_at-x.result.next
+          c.loop-done.flat c.put_face.new.flat c.loop-done.invariant.2
+          (sym c.if-face_fault-ne0.false
+          ∙ c.face_fault.ensures
+          ∙ ap (λ (g : Face). first (face_faults a.b g)) plain.2
+          ∙ sym (fault-in (Entry F) a.b fs plain.1))
+          plain.0
+          (c.put_face.ensures
+          ∙ ap (λ (g : Face). sets c.loop-done.flat (per_face * n) (numbers_of g)) plain.2),
+    )
