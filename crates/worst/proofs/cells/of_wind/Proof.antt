@@ -20,7 +20,7 @@ abbrev invariant-loop : tie.invariant-loop
 invariant-loop sums internals count four₀ i₀ four i =
     (i ≤ count)
     × ((h : ℕ → StoredCell)
-    → ((k : ℕ) → k < count → h k ≡ cell_with (axes_in sums) (get_or internals.initial k (pos 0)))
+    → ((k : ℕ) → k < count → h k ≡ cell_with (axes_in sums) (get_or internals.entry k (pos 0)))
     → UpTo 4 h i four.cell)
 
 abbrev decreases-loop : tie.decreases-loop

@@ -12,7 +12,7 @@ use Rattle.worst.proofs.faces.lay.Tie as tie
 
 abbrev invariant-loop : tie.invariant-loop
 invariant-loop flat₀ faces count i₀ flat i =
-    (i ≤ count) × (length flat ≡ 1440) × ((k : ℕ) → k < i → face_in flat k ≡ get_or faces.initial k no_face)
+    (i ≤ count) × (length flat ≡ 1440) × ((k : ℕ) → k < i → face_in flat k ≡ get_or faces.entry k no_face)
 
 abbrev decreases-loop : tie.decreases-loop
 decreases-loop flat₀ faces count i₀ flat i = count - i

@@ -23,7 +23,7 @@ abbrev invariant-loop : tie.invariant-loop
 invariant-loop height profile count i₀ lower₀ i lower =
     let h = to_z w64 height in
     let steps = steps_of profile in
-    (i ≤ count) × StepSmall lower × (factor_at steps h ≡ walked profile.count profile.initial h i lower)
+    (i ≤ count) × StepSmall lower × (factor_at steps h ≡ walked profile.count profile.entry h i lower)
 
 abbrev decreases-loop : tie.decreases-loop
 decreases-loop height profile count i₀ lower₀ i lower = count - i
