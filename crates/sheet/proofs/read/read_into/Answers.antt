@@ -49,7 +49,7 @@ use Rattle.sheet.proofs.read.read_into.Goals as goal
 abbrev lent : After-clear → List ℤ
 lent c = c.args.flat.now
 
-as_long : (c : After-clear) → length c.clear.new.0 ≡ length (lent c)
+as_long : (c : After-clear) → length c.clear.new.flat ≡ length (lent c)
 as_long c = ap length c.clear.ensures ∙ first_of-length (pos 0) (length (lent c)) []
 
 -- section i
@@ -168,7 +168,7 @@ module _ (c : After-flat-in-loop-i-1) where
   passed = plain.faces_from-plain.result.done
 
   abbrev list-then : List ℤ
-  list-then = plain.faces_from-plain.last.1.1.1.1.1.0
+  list-then = plain.faces_from-plain.new.flat
 
   faces-put : ReadSoFar (length its.loop-i.flat) (text (goal.at.Else-n-ne0 unread).After-section_at-sec) (heights (goal.at.Else-n-ne0 unread).After-section_at-sec)
       (section_at (heights (goal.at.Else-n-ne0 unread).After-section_at-sec) its.loop-i.i)
@@ -237,7 +237,7 @@ module _ (c : Else-n-ne0-2) where
   abbrev fields : List Field
   fields = held (read (goal.at.Else-n-ne0-2 c).After-entry_said-x)
 
-  entry : EntryLine (length now.loop-left.flat) (text here) (heights here) now.loop-left.false here.loop-i.i
+  entry : EntryLine (length now.loop-left.flat) (text here) (heights here) now.loop-left.left here.loop-i.i
       now.loop-left.b (kept (goal.at.Else-n-ne0-2 c).After-entry_said-x) now.loop-left.line now.loop-left.next (read (goal.at.Else-n-ne0-2 c).After-entry_said-x)
   entry =
       record {
@@ -318,7 +318,7 @@ loop-i-init c =
       refl,
       (
         B,
-        read-start (length c.clear.new.0) c.args.s.now c.opens_tall-heights.result
+        read-start (length c.clear.new.flat) c.args.s.now c.opens_tall-heights.result
             c.opens_tall-heights.ensures
             (λ i. record { year = pos 1; building = e i; lowest = pos 0; highest = neg_ℤ (pos 1) })
             (λ i. record {
