@@ -1,5 +1,4 @@
 -- `read_into` meets its contract: line by line, what comes of the rest is what comes of the whole text.
--- what is kept, in parts
 use Prim.Native.Nat.{ℕ, suc, ◌+◌, ◌*◌, ◌≤◌, ◌<◌, ◌-◌}
 use mathlib.Core.Path.{◌≡◌, refl, ap, ◌∙◌, sym, subst}
 use mathlib.Core.Bool.{Bool, true}
@@ -18,7 +17,7 @@ use Rattle.field.specs.declared.Field.{Field}
 use Rattle.lines.specs.declared.Line.{Line}
 use Rattle.lines.specs.Held.{held, line_at}
 use Rattle.rules.specs.declared.Section.{Section}
-use Rattle.rules.specs.declared.Section.TheVariants.{B, F}
+use Rattle.rules.specs.declared.Section.TheVariants.{B, W, I, P, F}
 use Rattle.rules.specs.declared.Kind.TheVariants.{Count, Entry}
 use Rattle.rules.specs.Sections.{about, sections, section_at, line_fault}
 use Rattle.building.specs.Year.{has_heights}
@@ -42,14 +41,18 @@ use mir.Syntax.{w64}
 use mir.Val.{to_z, of_z}
 use borrow.Author.Rules.{rules, sfits_of}
 use Rattle.sheet.proofs.read.read_into.Invariants.{kept_in}
-use Rattle.sheet.proofs.read.read_into.Goals.{After-clear, After-count_said-x, After-entry_said-x, After-faces_from-plain, After-flat-in-F-1, After-flat-in-loop-i-1, After-internals-1, After-is_ended-ended, After-loop-i, After-opens_tall-heights, After-refused, After-refused-then-n-ne0-2, After-refused-then-next-s, After-section_at-sec, After-step_in-t, After-wind_in, At-loop-i, At-loop-left, Else-n-ne0, Else-n-ne0-2}
+use Rattle.sheet.proofs.read.read_into.Goals.{After-clear, After-opens_tall-heights, After-is_ended-ended, At-loop-i}
+use Rattle.sheet.proofs.read.read_into.Goals.{After-section_at-sec, After-count_said-x, After-refused, Else-n-ne0}
+use Rattle.sheet.proofs.read.read_into.Goals.{After-faces_from-plain, At-loop-left, After-entry_said-x}
+use Rattle.sheet.proofs.read.read_into.Goals.{After-refused-then-n-ne0-2, Else-n-ne0-2, After-loop-i}
+use Rattle.sheet.proofs.read.read_into.Goals.{After-refused-then-next-s}
 use Rattle.sheet.proofs.read.read_into.Goals as goal
 
 -- the list as it was lent, and cleared
 abbrev lent : After-clear → List ℤ
 lent c = c.args.flat.now
 
-as_long : (c : After-clear) → length c.clear.new.0 ≡ length (lent c)
+as_long : (c : After-clear) → length c.clear.new.flat ≡ length (lent c)
 as_long c = ap length c.clear.ensures ∙ first_of-length (pos 0) (length (lent c)) []
 
 -- section i
@@ -91,29 +94,31 @@ module _ (c : After-section_at-sec) where
 
 -- the count of the section
 module _ (c : After-count_said-x) where
+  abbrev at-section : After-section_at-sec
+  at-section = (goal.at.After-count_said-x c).After-section_at-sec
+
   abbrev counted : Line
-  counted = line-from (goal.at.After-count_said-x c).After-section_at-sec c.loop-i.next
+  counted = line-from at-section c.loop-i.next
 
   count-is : c.count_said-x.result
-      ≡ count_said (section_at (heights (goal.at.After-count_said-x c).After-section_at-sec) c.loop-i.i) c.loop-i.b counted
+      ≡ count_said (section_at (heights at-section) c.loop-i.i) c.loop-i.b counted
   count-is =
       c.count_said-x.ensures
       ∙ ap (λ (t : Section). count_said t c.loop-i.b counted) c.section_at-sec.ensures
 
   count-fault : c.count_said-x.result.fault
-      ≡ line_fault (Count (section_at (heights (goal.at.After-count_said-x c).After-section_at-sec) c.loop-i.i)) c.loop-i.b
-      (held counted)
+      ≡ line_fault (Count (section_at (heights at-section) c.loop-i.i)) c.loop-i.b (held counted)
   count-fault = ap (λ (r : Counted). r.fault) count-is
 
 module _ (c : After-refused) where
   abbrev count : After-count_said-x
   count = (goal.at.After-refused c).After-count_said-x
 
-  count-refused : reading (text (goal.at.After-count_said-x count).After-section_at-sec)
+  count-refused : reading (text (at-section count))
       ≡ Refused (refusal count.count_said-x.result.fault count.loop-i.line)
   count-refused =
-      count-stops count.loop-i.invariant.2.1 (few (goal.at.After-count_said-x count).After-section_at-sec) {x = counted count} refl
-      (count-fault count) c.if-n-ne0.true
+      count-stops count.loop-i.invariant.2.1 (few (at-section count)) {x = counted count} refl (count-fault count)
+      c.if-n-ne0.true
 
 -- the entries are still to be read
 module _ (c : Else-n-ne0) where
@@ -131,19 +136,18 @@ module _ (c : Else-n-ne0) where
   abbrev called : ℕ
   called = number.count_said-x.result.count
 
-  counted-so-far : ReadSoFar (length before-it.loop-i.flat) (text (goal.at.After-count_said-x number).After-section_at-sec) (heights (goal.at.After-count_said-x number).After-section_at-sec)
-      (section_at (heights (goal.at.After-count_said-x number).After-section_at-sec) before-it.loop-i.i) called (suc before-it.loop-i.i)
-      before-it.loop-i.b kept-yet
-      (before-it.loop-i.line + 1) number.count_said-x.result.next
+  counted-so-far : ReadSoFar (length before-it.loop-i.flat) (text (at-section number))
+      (heights (at-section number)) (section_at (heights (at-section number)) before-it.loop-i.i) called
+      (suc before-it.loop-i.i) before-it.loop-i.b kept-yet (before-it.loop-i.line + 1) number.count_said-x.result.next
   counted-so-far =
-      count-read before-it.loop-i.invariant.2.1 (few (goal.at.After-count_said-x number).After-section_at-sec) {x = counted number} refl (count-fault number)
-      c.if-n-ne0.false (ap (λ (r : Counted). r.count) (count-is number))
+      count-read before-it.loop-i.invariant.2.1 (few (at-section number)) {x = counted number} refl
+      (count-fault number) c.if-n-ne0.false (ap (λ (r : Counted). r.count) (count-is number))
       (ap (λ (r : Counted). r.next) (count-is number))
 
   none_yet : before-it.loop-i.faces ≡ 0
   none_yet =
-      no-face-yet (heights (goal.at.After-count_said-x number).After-section_at-sec) before-it.loop-i.i kept-yet (few (goal.at.After-count_said-x number).After-section_at-sec)
-      before-it.loop-i.invariant.2.1.unread
+      no-face-yet (heights (at-section number)) before-it.loop-i.i kept-yet
+      (few (at-section number)) before-it.loop-i.invariant.2.1.unread
 
   faces-fit : number.section_at-sec.result ≡ F → before-it.loop-i.faces + called ≤ most_faces
   faces-fit e =
@@ -154,37 +158,36 @@ module _ (c : Else-n-ne0) where
       omega (arith, r, limit-roomed year)
 
 -- the plain faces, if it is their section
-module _ (c : After-flat-in-loop-i-1) where
-  abbrev plain : After-faces_from-plain
-  plain = (goal.at.After-flat-in-loop-i-1 c).After-faces_from-plain
-
+module _ (c : After-faces_from-plain) where
   abbrev unread : Else-n-ne0
-  unread = (goal.at.After-faces_from-plain plain).Else-n-ne0
+  unread = (goal.at.After-faces_from-plain c).Else-n-ne0
 
   abbrev its : At-loop-i
   its = (goal.at.Else-n-ne0 unread).At-loop-i
 
+  abbrev within : After-section_at-sec
+  within = (goal.at.Else-n-ne0 unread).After-section_at-sec
+
   abbrev passed : ℕ
-  passed = plain.faces_from-plain.result.done
+  passed = c.faces_from-plain.result.done
 
   abbrev list-then : List ℤ
-  list-then = plain.faces_from-plain.last.1.1.1.1.1.0
+  list-then = c.faces_from-plain.new.flat
 
-  faces-put : ReadSoFar (length its.loop-i.flat) (text (goal.at.Else-n-ne0 unread).After-section_at-sec) (heights (goal.at.Else-n-ne0 unread).After-section_at-sec)
-      (section_at (heights (goal.at.Else-n-ne0 unread).After-section_at-sec) its.loop-i.i)
-      (called unread - passed) (suc its.loop-i.i) its.loop-i.b
+  faces-put : ReadSoFar (length its.loop-i.flat) (text within) (heights within)
+      (section_at (heights within) its.loop-i.i) (called unread - passed) (suc its.loop-i.i) its.loop-i.b
       (kept_in its.loop-i.b its.loop-i.winds its.loop-i.internals its.loop-i.profile
-      (its.loop-i.faces + passed) (list-then))
-      (its.loop-i.line + 1 + passed) plain.faces_from-plain.result.next
+      (its.loop-i.faces + passed) list-then)
+      (its.loop-i.line + 1 + passed) c.faces_from-plain.result.next
   faces-put =
-      let e = plain.faces_from-plain.ensures in
-      faces-so-far (length its.loop-i.flat) (text (goal.at.Else-n-ne0 unread).After-section_at-sec) (heights (goal.at.Else-n-ne0 unread).After-section_at-sec) its.loop-i.i its.loop-i.b its.loop-i.winds
-      its.loop-i.internals its.loop-i.profile passed (called unread) its.loop-i.faces
+      let e = c.faces_from-plain.ensures in
+      faces-so-far (length its.loop-i.flat) (text within) (heights within) its.loop-i.i its.loop-i.b
+      its.loop-i.winds its.loop-i.internals its.loop-i.profile passed (called unread) its.loop-i.faces
       its.loop-i.flat (its.loop-i.line + 1) unread.count_said-x.result.next
-      plain.faces_from-plain.result.next (list-then) (counted-so-far unread)
+      c.faces_from-plain.result.next list-then (counted-so-far unread)
       (λ h. sym unread.section_at-sec.ensures ∙ e.1 h) e.0 e.2
 
-  same-room : length (list-then) ≡ length its.loop-i.flat
+  same-room : length list-then ≡ length its.loop-i.flat
   same-room =
       ap (λ (k : Kept). length k.list) faces-put.keeps ∙ first_of-length (pos 0) (length its.loop-i.flat) _
 
@@ -207,7 +210,8 @@ module _ (c : After-entry_said-x) where
   entry-is : c.entry_said-x.result
       ≡ entry_said (section_at (heights section) section.loop-i.i) turn.loop-left.b read
   entry-is =
-      c.entry_said-x.ensures ∙ ap (λ (t : Section). entry_said t turn.loop-left.b read) section.section_at-sec.ensures
+      c.entry_said-x.ensures
+      ∙ ap (λ (t : Section). entry_said t turn.loop-left.b read) section.section_at-sec.ensures
 
   entry-fault : c.entry_said-x.result.fault
       ≡ line_fault (Entry (section_at (heights section) section.loop-i.i)) turn.loop-left.b (held read)
@@ -217,14 +221,17 @@ module _ (c : After-refused-then-n-ne0-2) where
   abbrev judged : After-entry_said-x
   judged = (goal.at.After-refused-then-n-ne0-2 c).After-entry_said-x
 
-  entry-refused : reading (text (goal.at.After-entry_said-x judged).After-section_at-sec)
+  entry-refused : reading (text (section judged))
       ≡ Refused (refusal judged.entry_said-x.result.fault judged.loop-left.line)
   entry-refused =
       entry-stops judged.loop-left.invariant.1 judged.loop-left-test.true {x = read judged} refl
       (entry-fault judged) c.if-n-ne0-2.true
 
   long-here : length judged.loop-left.flat ≡ length (lent (goal.at.After-entry_said-x judged).After-clear)
-  long-here = judged.loop-left.invariant.0 ∙ same-room (goal.at.After-entry_said-x judged).After-flat-in-loop-i-1 ∙ long (goal.at.After-entry_said-x judged).After-section_at-sec
+  long-here =
+      judged.loop-left.invariant.0
+      ∙ same-room (goal.at.After-entry_said-x judged).After-faces_from-plain
+      ∙ long (section judged)
 
 -- an entry in order
 module _ (c : Else-n-ne0-2) where
@@ -234,55 +241,48 @@ module _ (c : Else-n-ne0-2) where
   abbrev now : At-loop-left
   now = (goal.at.Else-n-ne0-2 c).At-loop-left
 
-  abbrev fields : List Field
-  fields = held (read (goal.at.Else-n-ne0-2 c).After-entry_said-x)
+  abbrev said : After-entry_said-x
+  said = (goal.at.Else-n-ne0-2 c).After-entry_said-x
 
-  entry : EntryLine (length now.loop-left.flat) (text here) (heights here) now.loop-left.false here.loop-i.i
-      now.loop-left.b (kept (goal.at.Else-n-ne0-2 c).After-entry_said-x) now.loop-left.line now.loop-left.next (read (goal.at.Else-n-ne0-2 c).After-entry_said-x)
+  abbrev fields : List Field
+  fields = held (read said)
+
+  entry : EntryLine (length now.loop-left.flat) (text here) (heights here) now.loop-left.left
+      here.loop-i.i now.loop-left.b (kept said) now.loop-left.line now.loop-left.next (read said)
   entry =
       record {
         so-far = now.loop-left.invariant.1;
         more = c.loop-left-test.true;
         is = refl;
-        in_order = sym c.if-n-ne0-2.false ∙ entry-fault (goal.at.Else-n-ne0-2 c).After-entry_said-x;
+        in_order = sym c.if-n-ne0-2.false ∙ entry-fault said;
       }
 
   -- of section t
   of : {t : Section} → here.section_at-sec.result ≡ t → section_at (heights here) here.loop-i.i ≡ t
   of e = sym here.section_at-sec.ensures ∙ e
 
-  next-is : c.entry_said-x.result.next ≡ (read (goal.at.Else-n-ne0-2 c).After-entry_said-x).next
-  next-is = ap (λ (r : Said). r.next) (entry-is (goal.at.Else-n-ne0-2 c).After-entry_said-x)
+  next-is : c.entry_said-x.result.next ≡ (read said).next
+  next-is = ap (λ (r : Said). r.next) (entry-is said)
 
   -- its numbers
   numbers : {t : Section} → here.section_at-sec.result ≡ t
       → c.entry_said-x.result.number ≡ says_of t (has_heights now.loop-left.b.year) fields
   numbers e =
-      ap (λ (r : Said). r.number) (entry-is (goal.at.Else-n-ne0-2 c).After-entry_said-x)
+      ap (λ (r : Said). r.number) (entry-is said)
       ∙ ap (λ (t : Section). says_of t (has_heights now.loop-left.b.year) fields) (of e)
 
-winds-room : (c : After-wind_in)
-    → (kept (goal.at.After-wind_in c).After-entry_said-x).setting.winds.count < 8
-winds-room c =
-    let at_n_ne0_2 = (goal.at.After-wind_in c).Else-n-ne0-2 in
-    entry-room (entry at_n_ne0_2) (of at_n_ne0_2 c.in-W.is)
+  -- there is room for it
+  winds-room : here.section_at-sec.result ≡ W → (kept said).setting.winds.count < 8
+  winds-room e = entry-room entry (of e)
 
-internals-room : (c : After-internals-1)
-    → (kept (goal.at.After-internals-1 c).After-entry_said-x).setting.internals.count < 4
-internals-room c =
-    let at_n_ne0_2 = (goal.at.After-internals-1 c).Else-n-ne0-2 in
-    entry-room (entry at_n_ne0_2) (of at_n_ne0_2 c.in-I.is)
+  internals-room : here.section_at-sec.result ≡ I → (kept said).setting.internals.count < 4
+  internals-room e = entry-room entry (of e)
 
-steps-room : (c : After-step_in-t)
-    → (kept (goal.at.After-step_in-t c).After-entry_said-x).setting.profile.count < 16
-steps-room c =
-    let at_n_ne0_2 = (goal.at.After-step_in-t c).Else-n-ne0-2 in
-    entry-room (entry at_n_ne0_2) (of at_n_ne0_2 c.in-P.is)
+  steps-room : here.section_at-sec.result ≡ P → (kept said).setting.profile.count < 16
+  steps-room e = entry-room entry (of e)
 
-faces-room : (c : After-flat-in-F-1) → (kept (goal.at.After-flat-in-F-1 c).After-entry_said-x).faces < most_faces
-faces-room c =
-    let at_n_ne0_2 = (goal.at.After-flat-in-F-1 c).Else-n-ne0-2 in
-    omega (arith, entry-room (entry at_n_ne0_2) (of at_n_ne0_2 c.in-F.is), limit-roomed c.loop-left.b.year)
+  faces-room : here.section_at-sec.result ≡ F → (kept said).faces < most_faces
+  faces-room e = omega (arith, entry-room entry (of e), limit-roomed now.loop-left.b.year)
 
 -- behind the last section
 module _ (c : After-loop-i) where
@@ -318,7 +318,7 @@ loop-i-init c =
       refl,
       (
         B,
-        read-start (length c.clear.new.0) c.args.s.now c.opens_tall-heights.result
+        read-start (length c.clear.new.flat) c.args.s.now c.opens_tall-heights.result
             c.opens_tall-heights.ensures
             (λ i. record { year = pos 1; building = e i; lowest = pos 0; highest = neg_ℤ (pos 1) })
             (λ i. record {
@@ -341,15 +341,15 @@ count_said-x-requires c = text-ended c
 
 pub shape_of-flat-then-n-ne0 : goal.shape_of-flat-then-n-ne0
 shape_of-flat-then-n-ne0 c =
-    let at_section_at_sec = (goal.at.shape_of-flat-then-n-ne0 c).After-section_at-sec in
+    let in_section = (goal.at.shape_of-flat-then-n-ne0 c).After-section_at-sec in
     let at_refused = (goal.at.shape_of-flat-then-n-ne0 c).After-refused in
-    as-long-as (count-refused at_refused) (long at_section_at_sec) c.refused.ensures.1
+    as-long-as (count-refused at_refused) (long in_section) c.refused.ensures.1
 
 pub returns-then-n-ne0 : goal.returns-then-n-ne0
 returns-then-n-ne0 c =
-    let at_section_at_sec = (goal.at.returns-then-n-ne0 c).After-section_at-sec in
+    let in_section = (goal.at.returns-then-n-ne0 c).After-section_at-sec in
     let at_refused = (goal.at.returns-then-n-ne0 c).After-refused in
-    told-as (count-refused at_refused) (long at_section_at_sec) c.refused.ensures.1 c.refused.ensures.0
+    told-as (count-refused at_refused) (long in_section) c.refused.ensures.1 c.refused.ensures.0
 
 pub overflow_add-line : goal.overflow_add-line
 overflow_add-line c =
@@ -357,150 +357,166 @@ overflow_add-line c =
 
 pub faces_from-plain-requires : goal.faces_from-plain-requires
 faces_from-plain-requires c =
-    let at_n_ne0 = (goal.at.faces_from-plain-requires c).Else-n-ne0 in
-    let at_section_at_sec = (goal.at.faces_from-plain-requires c).After-section_at-sec in
-    (text-ended at_section_at_sec, λ e. omega (arith, faces-fit at_n_ne0 e))
+    let unread_yet = (goal.at.faces_from-plain-requires c).Else-n-ne0 in
+    let in_section = (goal.at.faces_from-plain-requires c).After-section_at-sec in
+    (text-ended in_section, λ e. omega (arith, faces-fit unread_yet e))
 
 pub overflow_add-line-in-loop-i : goal.overflow_add-line-in-loop-i
 overflow_add-line-in-loop-i c =
-    let at_n_ne0 = (goal.at.overflow_add-line-in-loop-i c).Else-n-ne0 in
-    let at_section_at_sec = (goal.at.overflow_add-line-in-loop-i c).After-section_at-sec in
-    omega (arith, low at_section_at_sec, (counted-so-far at_n_ne0).lines, c.faces_from-plain.ensures.0)
+    let unread_yet = (goal.at.overflow_add-line-in-loop-i c).Else-n-ne0 in
+    let in_section = (goal.at.overflow_add-line-in-loop-i c).After-section_at-sec in
+    omega (arith, low in_section, (counted-so-far unread_yet).lines, c.faces_from-plain.ensures.0)
 
 pub overflow_add-faces : goal.overflow_add-faces
 overflow_add-faces c =
-    let at_n_ne0 = (goal.at.overflow_add-faces c).Else-n-ne0 in
+    let unread_yet = (goal.at.overflow_add-faces c).Else-n-ne0 in
+    let plain = (goal.at.overflow_add-faces c).After-faces_from-plain in
     let e = c.faces_from-plain.ensures in
-    by-test (ltb 0 (passed c))
-    (λ t. omega (arith, faces-fit at_n_ne0 (e.1 (ltb-true 0 (passed c) t)), e.0))
-    (λ t. let z : passed c ≡ 0 = omega (arith, ltb-false 0 (passed c) t) in
-    omega (arith, z, none_yet at_n_ne0))
+    by-test (ltb 0 (passed plain))
+    (λ t. omega (arith, faces-fit unread_yet (e.1 (ltb-true 0 (passed plain) t)), e.0))
+    (λ t. let z : passed plain ≡ 0 = omega (arith, ltb-false 0 (passed plain) t) in
+    omega (arith, z, none_yet unread_yet))
 
 pub overflow_sub-left : goal.overflow_sub-left
 overflow_sub-left c = c.faces_from-plain.ensures.0
 
 pub loop-left-init : goal.loop-left-init
-loop-left-init c = (refl, rw (same-room c) (faces-put c))
+loop-left-init c =
+    let plain = (goal.at.loop-left-init c).After-faces_from-plain in
+    (refl, rw (same-room plain) (faces-put plain))
 
 pub entry_said-x-requires : goal.entry_said-x-requires
 entry_said-x-requires c = text-ended (goal.at.entry_said-x-requires c).After-section_at-sec
 
 pub shape_of-flat-then-n-ne0-2 : goal.shape_of-flat-then-n-ne0-2
 shape_of-flat-then-n-ne0-2 c =
-    let at_refused_then_n_ne0_2 = (goal.at.shape_of-flat-then-n-ne0-2 c).After-refused-then-n-ne0-2 in
-    as-long-as (entry-refused at_refused_then_n_ne0_2) (long-here at_refused_then_n_ne0_2) c.refused-then-n-ne0-2.ensures.1
+    let at_refused = (goal.at.shape_of-flat-then-n-ne0-2 c).After-refused-then-n-ne0-2 in
+    as-long-as (entry-refused at_refused) (long-here at_refused) c.refused-then-n-ne0-2.ensures.1
 
 pub returns-then-n-ne0-2 : goal.returns-then-n-ne0-2
 returns-then-n-ne0-2 c =
-    let at_refused_then_n_ne0_2 = (goal.at.returns-then-n-ne0-2 c).After-refused-then-n-ne0-2 in
-    told-as (entry-refused at_refused_then_n_ne0_2) (long-here at_refused_then_n_ne0_2) c.refused-then-n-ne0-2.ensures.1 c.refused-then-n-ne0-2.ensures.0
+    let at_refused = (goal.at.returns-then-n-ne0-2 c).After-refused-then-n-ne0-2 in
+    told-as (entry-refused at_refused) (long-here at_refused) c.refused-then-n-ne0-2.ensures.1
+    c.refused-then-n-ne0-2.ensures.0
 
 pub overflow_add-line-in-loop-left : goal.overflow_add-line-in-loop-left
 overflow_add-line-in-loop-left c =
-    let at_section_at_sec = (goal.at.overflow_add-line-in-loop-left c).After-section_at-sec in
-    omega (arith, low at_section_at_sec, c.loop-left.invariant.1.lines)
+    let in_section = (goal.at.overflow_add-line-in-loop-left c).After-section_at-sec in
+    omega (arith, low in_section, c.loop-left.invariant.1.lines)
 
 pub loop-left-preserved-in-V : goal.loop-left-preserved-in-V
 loop-left-preserved-in-V c =
-    let at_n_ne0_2 = (goal.at.loop-left-preserved-in-V c).Else-n-ne0-2 in
+    let line_read = (goal.at.loop-left-preserved-in-V c).Else-n-ne0-2 in
     let told = c.in-V.is in
     let v = c.entry_said-x.result.number in
-    let year : to_z w64 (of_z w64 (get_or v 0 (pos 0))) ≡ year_of (fields at_n_ne0_2) =
-    read_back v 0 (search rules) ∙ ap (λ (l : List ℤ). get_or l 0 (pos 0)) (numbers at_n_ne0_2 told) in (
+    let year : to_z w64 (of_z w64 (get_or v 0 (pos 0))) ≡ year_of (fields line_read) =
+    read_back v 0 (search rules) ∙ ap (λ (l : List ℤ). get_or l 0 (pos 0)) (numbers line_read told) in (
       c.loop-left.invariant.0,
-      rw year (entry_read (entry at_n_ne0_2) (of at_n_ne0_2 told) refl (next-is at_n_ne0_2)),
+      rw year (entry_read (entry line_read) (of line_read told) refl (next-is line_read)),
     )
 
 pub loop-left-preserved-in-B : goal.loop-left-preserved-in-B
 loop-left-preserved-in-B c =
-    let at_n_ne0_2 = (goal.at.loop-left-preserved-in-B c).Else-n-ne0-2 in
+    let line_read = (goal.at.loop-left-preserved-in-B c).Else-n-ne0-2 in
     let told = c.in-B.is in
-    let building : c.building_in-b.result ≡ building_of (fields at_n_ne0_2) =
-    c.building_in-b.ensures ∙ ap building_in (numbers at_n_ne0_2 told) in (
+    let building : c.building_in-b.result ≡ building_of (fields line_read) =
+    c.building_in-b.ensures ∙ ap building_in (numbers line_read told) in (
       c.loop-left.invariant.0,
-      rw building (entry_read (entry at_n_ne0_2) (of at_n_ne0_2 told) refl (next-is at_n_ne0_2)),
+      rw building (entry_read (entry line_read) (of line_read told) refl (next-is line_read)),
     )
 
 pub overflow_cast-winds : goal.overflow_cast-winds
-overflow_cast-winds c = omega (arith, winds-room c)
+overflow_cast-winds c =
+    omega (arith, winds-room (goal.at.overflow_cast-winds c).Else-n-ne0-2 c.in-W.is)
 
 pub offset_bounds-winds-winds : goal.offset_bounds-winds-winds
-offset_bounds-winds-winds c = omega (arith, winds-room c)
+offset_bounds-winds-winds c =
+    omega (arith, winds-room (goal.at.offset_bounds-winds-winds c).Else-n-ne0-2 c.in-W.is)
 
 pub bounds-winds-winds : goal.bounds-winds-winds
-bounds-winds-winds = winds-room
+bounds-winds-winds c = winds-room (goal.at.bounds-winds-winds c).Else-n-ne0-2 c.in-W.is
 
 pub overflow_add-winds : goal.overflow_add-winds
-overflow_add-winds c = omega (arith, winds-room c)
+overflow_add-winds c =
+    omega (arith, winds-room (goal.at.overflow_add-winds c).Else-n-ne0-2 c.in-W.is)
 
 pub loop-left-preserved-in-W : goal.loop-left-preserved-in-W
 loop-left-preserved-in-W c =
-    let at_n_ne0_2 = (goal.at.loop-left-preserved-in-W c).Else-n-ne0-2 in
+    let line_read = (goal.at.loop-left-preserved-in-W c).Else-n-ne0-2 in
     let told = c.in-W.is in
-    let wind : c.wind_in.result ≡ wind_of (fields at_n_ne0_2) = c.wind_in.ensures ∙ ap wind_in (numbers at_n_ne0_2 told) in (
+    let wind : c.wind_in.result ≡ wind_of (fields line_read) =
+    c.wind_in.ensures ∙ ap wind_in (numbers line_read told) in (
       c.loop-left.invariant.0,
-      rw wind (entry_read (entry at_n_ne0_2) (of at_n_ne0_2 told) refl (next-is at_n_ne0_2)),
+      rw wind (entry_read (entry line_read) (of line_read told) refl (next-is line_read)),
     )
 
 pub overflow_cast-internals : goal.overflow_cast-internals
-overflow_cast-internals c = omega (arith, internals-room c)
+overflow_cast-internals c =
+    omega (arith, internals-room (goal.at.overflow_cast-internals c).Else-n-ne0-2 c.in-I.is)
 
 pub offset_bounds-internals-internals : goal.offset_bounds-internals-internals
-offset_bounds-internals-internals c = omega (arith, internals-room c)
+offset_bounds-internals-internals c =
+    omega (arith, internals-room (goal.at.offset_bounds-internals-internals c).Else-n-ne0-2 c.in-I.is)
 
 pub bounds-internals-internals : goal.bounds-internals-internals
-bounds-internals-internals = internals-room
+bounds-internals-internals c = internals-room (goal.at.bounds-internals-internals c).Else-n-ne0-2 c.in-I.is
 
 pub overflow_add-internals : goal.overflow_add-internals
-overflow_add-internals c = omega (arith, internals-room c)
+overflow_add-internals c =
+    omega (arith, internals-room (goal.at.overflow_add-internals c).Else-n-ne0-2 c.in-I.is)
 
 pub loop-left-preserved-in-I : goal.loop-left-preserved-in-I
 loop-left-preserved-in-I c =
-    let at_n_ne0_2 = (goal.at.loop-left-preserved-in-I c).Else-n-ne0-2 in
+    let line_read = (goal.at.loop-left-preserved-in-I c).Else-n-ne0-2 in
     let told = c.in-I.is in
     let v = c.entry_said-x.result.number in
-    let internal : to_z w64 (of_z w64 (get_or v 0 (pos 0))) ≡ internal_of (fields at_n_ne0_2) =
-    read_back v 0 (search rules) ∙ ap (λ (l : List ℤ). get_or l 0 (pos 0)) (numbers at_n_ne0_2 told) in (
+    let internal : to_z w64 (of_z w64 (get_or v 0 (pos 0))) ≡ internal_of (fields line_read) =
+    read_back v 0 (search rules) ∙ ap (λ (l : List ℤ). get_or l 0 (pos 0)) (numbers line_read told) in (
       c.loop-left.invariant.0,
-      rw internal (entry_read (entry at_n_ne0_2) (of at_n_ne0_2 told) refl (next-is at_n_ne0_2)),
+      rw internal (entry_read (entry line_read) (of line_read told) refl (next-is line_read)),
     )
 
 pub overflow_cast-t : goal.overflow_cast-t
-overflow_cast-t c = omega (arith, steps-room c)
+overflow_cast-t c =
+    omega (arith, steps-room (goal.at.overflow_cast-t c).Else-n-ne0-2 c.in-P.is)
 
 pub offset_bounds-profile-profile : goal.offset_bounds-profile-profile
-offset_bounds-profile-profile c = omega (arith, steps-room c)
+offset_bounds-profile-profile c =
+    omega (arith, steps-room (goal.at.offset_bounds-profile-profile c).Else-n-ne0-2 c.in-P.is)
 
 pub bounds-profile-profile : goal.bounds-profile-profile
-bounds-profile-profile = steps-room
+bounds-profile-profile c = steps-room (goal.at.bounds-profile-profile c).Else-n-ne0-2 c.in-P.is
 
 pub overflow_add-profile : goal.overflow_add-profile
-overflow_add-profile c = omega (arith, steps-room c)
+overflow_add-profile c =
+    omega (arith, steps-room (goal.at.overflow_add-profile c).Else-n-ne0-2 c.in-P.is)
 
 pub loop-left-preserved-in-P : goal.loop-left-preserved-in-P
 loop-left-preserved-in-P c =
-    let at_n_ne0_2 = (goal.at.loop-left-preserved-in-P c).Else-n-ne0-2 in
+    let line_read = (goal.at.loop-left-preserved-in-P c).Else-n-ne0-2 in
     let told = c.in-P.is in
-    let step : c.step_in-t.result ≡ step_of (fields at_n_ne0_2) = c.step_in-t.ensures ∙ ap step_in (numbers at_n_ne0_2 told) in (
+    let step : c.step_in-t.result ≡ step_of (fields line_read) =
+    c.step_in-t.ensures ∙ ap step_in (numbers line_read told) in (
       c.loop-left.invariant.0,
       rw (
         to_z-of_z w64 _ (sfits_of c.struct_told-1.given.0.1),
         to_z-of_z w64 _ (sfits_of c.struct_told-in-P-1.given.0.1),
         step,
       )
-          (entry_read (entry at_n_ne0_2) (of at_n_ne0_2 told) refl (next-is at_n_ne0_2)),
+          (entry_read (entry line_read) (of line_read told) refl (next-is line_read)),
     )
 
 pub overflow_add-faces-in-F : goal.overflow_add-faces-in-F
-overflow_add-faces-in-F c = omega (arith, faces-room c)
+overflow_add-faces-in-F c =
+    omega (arith, faces-room (goal.at.overflow_add-faces-in-F c).Else-n-ne0-2 c.in-F.is)
 
 pub loop-left-preserved : goal.loop-left-preserved
 loop-left-preserved c =
-    let at_n_ne0_2 = (goal.at.loop-left-preserved c).Else-n-ne0-2 in
+    let line_read = (goal.at.loop-left-preserved c).Else-n-ne0-2 in
     let told = c.in-F.is in
     let list =
-    c.put_numbers.ensures ∙ ap (sets c.loop-left.flat (per_face * c.loop-left.faces)) (numbers at_n_ne0_2 told) in
-    let r = entry_read (entry at_n_ne0_2) (of at_n_ne0_2 told) refl (next-is at_n_ne0_2) in
+    c.put_numbers.ensures ∙ ap (sets c.loop-left.flat (per_face * c.loop-left.faces)) (numbers line_read told) in
+    let r = entry_read (entry line_read) (of line_read told) refl (next-is line_read) in
     rw list (simp length-sets c.loop-left.invariant.0, simp length-sets r)
 
 pub overflow_step-i : goal.overflow_step-i
@@ -510,21 +526,22 @@ pub loop-i-preserved : goal.loop-i-preserved
 loop-i-preserved c =
     let t = c.loop-left.invariant in (
       omega arith,
-      t.0 ∙ same-room (goal.at.loop-i-preserved c).After-flat-in-loop-i-1 ∙ c.loop-i.invariant.1,
+      t.0 ∙ same-room (goal.at.loop-i-preserved c).After-faces_from-plain ∙ c.loop-i.invariant.1,
       (_, section-end t.1 c.loop-left-test.false),
     )
 
 pub shape_of-flat-then-next-s : goal.shape_of-flat-then-next-s
 shape_of-flat-then-next-s c =
-    let at_refused_then_next_s = (goal.at.shape_of-flat-then-next-s c).After-refused-then-next-s in
+    let at_refused = (goal.at.shape_of-flat-then-next-s c).After-refused-then-next-s in
     let at_loop_i = (goal.at.shape_of-flat-then-next-s c).After-loop-i in
-    as-long-as (more-refused at_refused_then_next_s) (long-still at_loop_i) c.refused-then-next-s.ensures.1
+    as-long-as (more-refused at_refused) (long-still at_loop_i) c.refused-then-next-s.ensures.1
 
 pub returns-then-next-s : goal.returns-then-next-s
 returns-then-next-s c =
-    let at_refused_then_next_s = (goal.at.returns-then-next-s c).After-refused-then-next-s in
+    let at_refused = (goal.at.returns-then-next-s c).After-refused-then-next-s in
     let at_loop_i = (goal.at.returns-then-next-s c).After-loop-i in
-    told-as (more-refused at_refused_then_next_s) (long-still at_loop_i) c.refused-then-next-s.ensures.1 c.refused-then-next-s.ensures.0
+    told-as (more-refused at_refused) (long-still at_loop_i) c.refused-then-next-s.ensures.1
+    c.refused-then-next-s.ensures.0
 
 pub shape_of-flat : goal.shape_of-flat
 shape_of-flat c = long-still (goal.at.shape_of-flat c).After-loop-i

@@ -35,7 +35,8 @@ returns c =
     } =
     c.faces_in.ensures
     ∙ (λ i. record { count = (e i).faces; entry = first_of no_face most_faces (faces_in (e i).faces (list i)) })
-    ∙ ap (λ (l : List Face). record { count = (head_of (reading s)).faces; entry = first_of no_face most_faces l }) back in
+    ∙ ap (λ (l : List Face). record { count = (head_of (reading s)).faces; entry = first_of no_face most_faces l })
+    back in
     (λ i. record { verdict = (e i).verdict; job = c.with_faces-job.ensures i })
     ∙ (λ i. record { verdict = (head_of (reading s)).verdict; job = record_with (e i).setting (faces i) })
     ∙ sym (answer-parts (reading s))
