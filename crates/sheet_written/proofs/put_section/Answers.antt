@@ -24,6 +24,8 @@ use Rattle.job.proofs.Room.{most-roomed}
 use Rattle.sheet_written.proofs.Puts.{entry-held, put-none, put-entry, put_all}
 use borrow.Author.Rules.{rules, sfits_of}
 use Rattle.sheet_written.proofs.put_section.Goals.{After-entry_count-n, After-has_heights-heights, In-loop-i, Joined-sec, Start}
+use Rattle.sheet_written.proofs.put_section.Goals.{in-V, in-B, in-W, in-I, in-P, in-F}
+use mir.Syntax.{w64}
 use Rattle.sheet_written.proofs.put_section.Goals as goal
 
 -- entry i is one of the section, which has room for it
@@ -62,28 +64,36 @@ module _ (c : Joined-sec) where
   abbrev section : Section
   section = c.args.sec
 
-  made : c.match-sec.x ≡ held_line 0 (entry_of job section (i (goal.at.Joined-sec c).In-loop-i))
+  abbrev at_turn : In-loop-i
+  at_turn = (goal.at.Joined-sec c).In-loop-i
+
+  made : c.match-sec.x ≡ held_line 0 (entry_of job section (i at_turn))
   made =
-      ⊎_elim (λ w. w.4
-      ∙ said (λ (z : ℤ). held_line 0 (year_fields z)) job.year w.3.ensures w.2.given.0.1
-      ∙ of-section w.1.given.1)
-      (⊎_elim (λ w. w.4 ∙ w.3.ensures ∙ of-section w.1.given.1)
-      (⊎_elim (λ w. w.4 ∙ w.3.ensures ∙ of-section w.1.given.1)
-      (⊎_elim (λ w. w.4
-      ∙ w.3.ensures
-      ∙ ap (λ (z : ℤ). held_line 0 (internal_fields z)) (to_z-of_z (sfits_of w.2.given))
-      ∙ of-section w.1.given.1)
-      (⊎_elim (λ w. w.4 ∙ w.3.ensures ∙ of-section w.1.given.1)
-      (λ w. w.4
-      ∙ w.3.ensures
-      ∙ ap (λ (h : Bool). held_line 0 (face_fields h (get_or job.faces.entry (i (goal.at.Joined-sec c).In-loop-i) no_face)))
-      (heights-are (goal.at.Joined-sec c).In-loop-i)
-      ∙ of-section w.1.given.1)))))
-      c.match-sec.branch
+      elim c.match-sec.branch [
+        | in-V w ↦
+            w.x-is
+            ∙ said (λ (z : ℤ). held_line 0 (year_fields z)) job.year w.year_line-x.ensures
+            w.struct_told-in-V-1.given.0.1
+            ∙ of-section w.in-V.is
+        | in-B w ↦ w.x-is ∙ w.building_line-x.ensures ∙ of-section w.in-B.is
+        | in-W w ↦ w.x-is ∙ w.wind_line-x.ensures ∙ of-section w.in-W.is
+        | in-I w ↦
+            w.x-is
+            ∙ w.internal_line-x.ensures
+            ∙ ap (λ (z : ℤ). held_line 0 (internal_fields z)) (to_z-of_z {w = w64} (sfits_of w.z-1.given))
+            ∙ of-section w.in-I.is
+        | in-P w ↦ w.x-is ∙ w.step_line-x.ensures ∙ of-section w.in-P.is
+        | in-F w ↦
+            w.x-is
+            ∙ w.face_line-x.ensures
+            ∙ ap (λ (h : Bool). held_line 0 (face_fields h (get_or job.faces.entry (i at_turn) no_face)))
+            (heights-are at_turn)
+            ∙ of-section w.in-F.is
+      ]
     where
       of-section : {t : Section} → section ≡ t
-          → held_line 0 (entry_of job t (i (goal.at.Joined-sec c).In-loop-i)) ≡ held_line 0 (entry_of job section (i (goal.at.Joined-sec c).In-loop-i))
-      of-section e = ap (λ (t : Section). held_line 0 (entry_of job t (i (goal.at.Joined-sec c).In-loop-i))) (sym e)
+          → held_line 0 (entry_of job t (i at_turn)) ≡ held_line 0 (entry_of job section (i at_turn))
+      of-section e = ap (λ (t : Section). held_line 0 (entry_of job t (i at_turn))) (sym e)
 
 pub loop-i-init : goal.loop-i-init
 loop-i-init c = (search rules, put-none c.put_line-next.ensures)

@@ -60,3 +60,14 @@ returns c =
       reaches_end r (omega (arith, c.loop-i-test.false)) c.called_for.ensures,
       omega (arith, r.fewer, c.loop-i.invariant.0),
     )
+
+pub loop-i-preserved-then-left-eq0 : goal.loop-i-preserved-then-left-eq0
+loop-i-preserved-then-left-eq0 c =
+    let at_line_at_x = (goal.at.loop-i-preserved-then-left-eq0 c).After-line_at-x in
+    let a = c.args in (
+      omega (arith, more at_line_at_x),
+      reaches-count a.s.now a.n c.loop-i.i c.requires (more at_line_at_x) c.loop-i.next
+          c.line_at-x.ensures
+          c.loop-i.invariant.1 c.if-left-eq0.true c.section_at-sec.ensures
+          (c.size_of-left.ensures ∙ ap size c.field_at.ensures),
+    )
