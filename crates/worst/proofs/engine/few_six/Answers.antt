@@ -36,8 +36,8 @@ module _ (f : After-fill) where
       let few = a.requires.0 in
       record {
         numbered = a.requires.1;
-        parts-room = omega (arith, f.fill.kept);
-        wholes-room = omega (arith, f.fill.kept);
+        parts-room = omega (arith, f.fill.auto.parts);
+        wholes-room = omega (arith, f.fill.auto.wholes);
       }
 
 -- what was found, as the best of the job's own sums

@@ -41,6 +41,22 @@ fill-requires c =
       (ready (goal.at.fill-requires c).Start).profiled,
     )
 
+pub shown-requires : goal.shown-requires
+shown-requires c =
+    let at_start = (goal.at.shown-requires c).Start in
+    let few = c.requires.0.few in (
+      record {
+        numbered = c.requires.0;
+        parts-room = omega (arith, c.fill.auto.parts);
+        wholes-room = omega (arith, c.fill.auto.wholes);
+      },
+      ready at_start,
+      λ i t. subst Fraction (sym (c.fill.ensures i t)) ((ready at_start).factors i t),
+      c.fill.ensures,
+      λ axis s. (top (goal.at.shown-requires c).After-over_winds-ends axis s).on_job,
+      nothing-filled _,
+    )
+
 pub returns : goal.returns
 returns c =
     let at_over_winds_ends = (goal.at.returns c).After-over_winds-ends in

@@ -17,7 +17,8 @@ abbrev pub invariant-loop-i : goal.invariant-loop-i
 invariant-loop-i l =
     (l.i ≤ l.n)
     × ((profile : List Step) → FactorsStand profile (faces_by l.count l.flat) l.parts l.wholes
-    → l.all ≡ rows_of l.d.year l.d.building profile l.w (to_z w64 l.internal) (first_of no_face l.i (faces_in l.count l.flat)))
+    → l.all
+    ≡ rows_of l.d.year l.d.building profile l.w l.internal (first_of no_face l.i (faces_in l.count l.flat)))
 
 abbrev pub decreases-loop-i : goal.decreases-loop-i
 decreases-loop-i l = l.n - l.i
