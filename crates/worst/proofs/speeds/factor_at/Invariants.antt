@@ -1,8 +1,6 @@
 -- `speeds::factor_at` meets its contract: before line i the walk stands above line i - 1.
 use mathlib.Core.Path.{◌≡◌}
 use Prim.Native.Nat.{◌-◌, ◌≤◌}
-use mir.Syntax.{w64}
-use mir.Val.{to_z}
 use Rattle.worst.specs.Speed.{factor_at}
 use Rattle.worst.specs.Factors.{steps_of, StepSmall}
 use Rattle.worst.proofs.AtHeight.{walked}

@@ -1,7 +1,7 @@
 -- `speeds::fill` meets its contract: in year 1 nothing is changed, and otherwise after i faces the factors of the
 -- first i stand in the arrays.
 use mathlib.Core.Path.{◌≡◌, refl, sym, ap, ◌∙◌, subst}
-use Prim.Native.Nat.{ℕ, ◌-◌, ◌≤◌, ◌<◌}
+use Prim.Native.Nat.{ℕ, ◌<◌}
 use native.Mathlib.Omega.{arith}
 use mathlib.Core.Bool.{true}
 use mathlib.Core.List.{List}

@@ -1,7 +1,6 @@
 -- `under::of_face` meets its contract: the speed at the face's factor, and the pressure number of the wind there.
 -- the year and the height, read back
 use mathlib.Core.Path.{◌≡◌, sym, ap, ◌∙◌, subst}
-use Prim.Native.Nat.{◌≤◌}
 use lib.IntN.{ℤ, pos}
 use lib.Signed.{◌≤ℤ◌}
 use mir.Syntax.{w64}
