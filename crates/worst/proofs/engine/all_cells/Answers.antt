@@ -151,7 +151,8 @@ loop-w-preserved c =
     let next : 4 * w at_loop_w + 4 ≡ 4 * (w at_loop_w + 1) = omega arith in (
       omega arith,
       c.added-sums.ensures.2,
-      λ profile s h r. up-to-four stored_cells h (4 * w at_loop_w) (4 * (w at_loop_w + 1)) next c.loop-w.stored.cell (cell c)
+      λ profile s h r. up-to-four stored_cells h (4 * w at_loop_w) (4 * (w at_loop_w + 1)) next c.loop-w.stored.cell
+          (cell c)
           (room c) (c.loop-w.invariant.2 profile s h r) (four_are c profile s h r),
     )
 

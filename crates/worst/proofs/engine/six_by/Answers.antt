@@ -23,7 +23,8 @@ ready : (a : Start) → Ready (job a)
 ready a = job-ready (job a) a.requires.1
 
 top : (c : After-over_winds-ends) (axis : Axis) (s : Side)
-    → IsTop axis s c.args.stored (job (goal.at.After-over_winds-ends c).Start) (ready (goal.at.After-over_winds-ends c).Start)
+    → IsTop axis s c.args.stored (job (goal.at.After-over_winds-ends c).Start)
+    (ready (goal.at.After-over_winds-ends c).Start)
     (top_at axis s c.over_winds-ends.result)
 top c axis s =
     let at_start = (goal.at.After-over_winds-ends c).Start in

@@ -9,7 +9,8 @@ use Rattle.worst.proofs.speeds.factor_at.Given as goal
 abbrev pub invariant-loop-i : goal.invariant-loop-i
 invariant-loop-i l =
     let steps = steps_of l.profile in
-    (l.i ≤ l.count) × StepSmall l.lower × (factor_at steps l.height ≡ walked l.profile.count l.profile.entry l.height l.i l.lower)
+    (l.i ≤ l.count) × StepSmall l.lower
+    × (factor_at steps l.height ≡ walked l.profile.count l.profile.entry l.height l.i l.lower)
 
 abbrev pub decreases-loop-i : goal.decreases-loop-i
 decreases-loop-i l = l.count - l.i
