@@ -68,4 +68,5 @@ returns c =
     let at_remainder_units = (goal.at.returns c).After-remainder-units in
     let a = c.args in
     less_as a.a a.k a.z (back w64 (newtons at_remainder_units) tt) (back w64 (units at_remainder_units) tt)
-    (ap (λ n. a.a.newtons -ℤ a.k *ℤ n) (whole at_remainder_units)) (ap (λ n. a.a.units -ℤ a.k *ℤ pos n) (rest at_remainder_units)) tt tt
+    (ap (λ n. a.a.newtons -ℤ a.k *ℤ n) (whole at_remainder_units))
+    (ap (λ n. a.a.units -ℤ a.k *ℤ pos n) (rest at_remainder_units)) tt tt

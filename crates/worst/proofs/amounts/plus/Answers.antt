@@ -3,7 +3,8 @@ use mir.Syntax.{w64}
 use lib.IntN.{negsuc}
 use Rattle.whole.proofs.Size.{Num, num, num≤, back, fit, lt_yes, lt_no, ◌⊕◌, ◌⊖◌, tight}
 use Rattle.worst.proofs.MovedOver.{Grown, moved, moved_units, grown-as, grown-up, grown-down, grown-stay}
-use Rattle.worst.proofs.amounts.plus.Goals.{After-struct_told-then-units-1, After-struct_told-then-units-gt-MOVED_UNITS-1, Start}
+use Rattle.worst.proofs.amounts.plus.Goals.{Start, After-struct_told-then-units-1}
+use Rattle.worst.proofs.amounts.plus.Goals.{After-struct_told-then-units-gt-MOVED_UNITS-1}
 use Rattle.worst.proofs.amounts.plus.Goals as goal
 
 module _ (s : Start) where
@@ -80,4 +81,5 @@ returns c =
     let a = c.args.a in
     let f = c.args.part in
     grown-as a f (newtons at_start) (units at_start)
-    (grown-stay a f (lt_no (num moved_units) (units at_start) c.if-units-gt-MOVED_UNITS.false) (lt_no (units at_start) least c.if-units.false))
+    (grown-stay a f (lt_no (num moved_units) (units at_start) c.if-units-gt-MOVED_UNITS.false)
+    (lt_no (units at_start) least c.if-units.false))

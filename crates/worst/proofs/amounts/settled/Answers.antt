@@ -40,4 +40,5 @@ returns c =
     let a = c.args.a in
     let remains : c.remainder-remainder.result ≡ newton.remainder a.units =
     c.remainder-remainder.ensures ∙ (λ j. newton.remainder ((units at_newtons_newtons).same j)) in
-    ap₂ pair ((back w64 (newtons at_newtons_newtons) tt).same ∙ (λ j. a.newtons +ℤ given at_newtons_newtons j)) remains ∙ settled_is a
+    ap₂ pair ((back w64 (newtons at_newtons_newtons) tt).same ∙ (λ j. a.newtons +ℤ given at_newtons_newtons j)) remains
+    ∙ settled_is a

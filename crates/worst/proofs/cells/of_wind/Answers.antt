@@ -56,7 +56,8 @@ loop-i-preserved c =
     let before = c.loop-i in
     let stored = c.cell_of-cell.ensures ∙ ap (cell_with (axes_in c.args.sums)) (internal at_internal_1).same in (
       omega arith,
-      λ h e. up-to-next 4 h (i at_internal_1) before.four.cell c.cell_of-cell.result (few at_internal_1) (before.invariant.1 h e)
+      λ h e. up-to-next 4 h (i at_internal_1) before.four.cell c.cell_of-cell.result (few at_internal_1)
+          (before.invariant.1 h e)
           (e (i at_internal_1) t ∙ sym stored),
     )
 

@@ -2,7 +2,7 @@
 -- one of the six
 use mathlib.Core.Path.{◌≡◌, sym, ap, ◌∙◌, subst}
 use mathlib.Core.List.{List}
-use Prim.Native.Nat.{ℕ, ◌+◌, ◌-◌, ◌≤◌, ◌<◌}
+use Prim.Native.Nat.{ℕ, ◌+◌, ◌-◌, ◌<◌}
 use native.Mathlib.Omega.{arith}
 use borrow.Author.Rules.{rules}
 use lib.ListN.{get_or, set}
@@ -188,7 +188,9 @@ pub overflow_add-i : goal.overflow_add-i
 overflow_add-i c = let t = room (goal.at.overflow_add-i c).After-zone_in in record { fits = omega arith }
 
 pub loop-i-smaller-then-zone_in-ne70 : goal.loop-i-smaller-then-zone_in-ne70
-loop-i-smaller-then-zone_in-ne70 c = let t = counted (goal.at.loop-i-smaller-then-zone_in-ne70 c).After-zone_in in omega arith
+loop-i-smaller-then-zone_in-ne70 c =
+    let t = counted (goal.at.loop-i-smaller-then-zone_in-ne70 c).After-zone_in in
+    omega arith
 
 pub loop-i-preserved-then-zone_in-ne70 : goal.loop-i-preserved-then-zone_in-ne70
 loop-i-preserved-then-zone_in-ne70 c =
@@ -200,7 +202,8 @@ loop-i-preserved-then-zone_in-ne70 c =
     λ e. c.if-zone_in-ne70.true (c.zone_in.ensures ∙ ap (λ f. f.zone) (stands at_zone_in) ∙ e) in
     let one : (axis : Axis) (s : Side) (p : List Step)
     → 1 ≡ pick_of s axis b (wind at_zone_in axis s) (factor_of p (face at_zone_in)) (face at_zone_in) =
-    λ axis s p. sym (alone-pick s axis b (wind at_zone_in axis s) (factor_of p (face at_zone_in)) (face at_zone_in) (met at_zone_in axis s) other) in (
+    λ axis s p. sym (alone-pick s axis b (wind at_zone_in axis s) (factor_of p (face at_zone_in)) (face at_zone_in)
+    (met at_zone_in axis s) other) in (
       omega arith,
       λ p h.
           let held = inv.1 p h in
@@ -215,7 +218,9 @@ loop-i-preserved-then-zone_in-ne70 c =
     )
 
 pub face_in-f-requires : goal.face_in-f-requires
-face_in-f-requires c = let t = counted (goal.at.face_in-f-requires c).After-zone_in in omega (arith, c.requires.0.numbered.stand)
+face_in-f-requires c =
+    let t = counted (goal.at.face_in-f-requires c).After-zone_in in
+    omega (arith, c.requires.0.numbered.stand)
 
 pub factor_in-k-requires : goal.factor_in-k-requires
 factor_in-k-requires c =
@@ -259,7 +264,9 @@ pub bounds-z_low-i-in-loop-i : goal.bounds-z_low-i-in-loop-i
 bounds-z_low-i-in-loop-i c = room (goal.at.bounds-z_low-i-in-loop-i c).After-zone_in
 
 pub overflow_add-i-in-loop-i : goal.overflow_add-i-in-loop-i
-overflow_add-i-in-loop-i c = let t = room (goal.at.overflow_add-i-in-loop-i c).After-zone_in in record { fits = omega arith }
+overflow_add-i-in-loop-i c =
+    let t = room (goal.at.overflow_add-i-in-loop-i c).After-zone_in in
+    record { fits = omega arith }
 
 pub loop-i-smaller : goal.loop-i-smaller
 loop-i-smaller c = let t = counted (goal.at.loop-i-smaller c).After-zone_in in omega arith
@@ -274,12 +281,22 @@ loop-i-preserved c =
       λ p h.
           let held = inv.1 p h in
           record {
-            x-high = next at_zone_in X Greatest p (picked at_factor_in_k X Greatest p h c.one_of_two.ensures) held.x-high;
-            x-low = next at_zone_in X Least p (picked at_factor_in_k X Least p h c.one_of_two-in-loop-i.ensures) held.x-low;
-            y-high = next at_zone_in Y Greatest p (picked at_factor_in_k Y Greatest p h c.one_of_two-in-loop-i-2.ensures) held.y-high;
-            y-low = next at_zone_in Y Least p (picked at_factor_in_k Y Least p h c.one_of_two-in-loop-i-3.ensures) held.y-low;
-            z-high = next at_zone_in Z Greatest p (picked at_factor_in_k Z Greatest p h c.one_of_two-in-loop-i-4.ensures) held.z-high;
-            z-low = next at_zone_in Z Least p (picked at_factor_in_k Z Least p h c.one_of_two-in-loop-i-5.ensures) held.z-low;
+            x-high =
+                next at_zone_in X Greatest p (picked at_factor_in_k X Greatest p h c.one_of_two.ensures) held.x-high;
+            x-low =
+                next at_zone_in X Least p (picked at_factor_in_k X Least p h c.one_of_two-in-loop-i.ensures) held.x-low;
+            y-high =
+                next at_zone_in Y Greatest p (picked at_factor_in_k Y Greatest p h c.one_of_two-in-loop-i-2.ensures)
+                held.y-high;
+            y-low =
+                next at_zone_in Y Least p (picked at_factor_in_k Y Least p h c.one_of_two-in-loop-i-3.ensures)
+                held.y-low;
+            z-high =
+                next at_zone_in Z Greatest p (picked at_factor_in_k Z Greatest p h c.one_of_two-in-loop-i-4.ensures)
+                held.z-high;
+            z-low =
+                next at_zone_in Z Least p (picked at_factor_in_k Z Least p h c.one_of_two-in-loop-i-5.ensures)
+                held.z-low;
           },
     )
 

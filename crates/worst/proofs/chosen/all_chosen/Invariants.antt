@@ -33,19 +33,20 @@ abbrev pub HoldsFirst : Building → SixWinds → List Step → List Face → �
 HoldsFirst b under profile faces i axis s l =
     l ≡ alternatives_of axis s b profile (at axis s under).wind (first_of no_face i faces)
 
-record All (Holds : Axis → Side → List ℕ → Type 0) (xh xl yh yl zh zl : List ℕ) : Type 0 where
-  x-high : Holds X Greatest xh
-  x-low : Holds X Least xl
-  y-high : Holds Y Greatest yh
-  y-low : Holds Y Least yl
-  z-high : Holds Z Greatest zh
-  z-low : Holds Z Least zl
+pub record All (Holds : Axis → Side → List ℕ → Type 0) (xh xl yh yl zh zl : List ℕ) : Type 0 where
+  pub x-high : Holds X Greatest xh
+  pub x-low : Holds X Least xl
+  pub y-high : Holds Y Greatest yh
+  pub y-low : Holds Y Least yl
+  pub z-high : Holds Z Greatest zh
+  pub z-low : Holds Z Least zl
 
 abbrev pub invariant-loop-i : goal.invariant-loop-i
 invariant-loop-i l =
     (l.i ≤ l.count)
     × ((profile : List Step) → FactorsStand profile (faces_by l.faces l.flat) l.parts l.wholes
-    → All (HoldsFirst l.b l.under profile (faces_in l.faces l.flat) l.i) l.x_high l.x_low l.y_high l.y_low l.z_high l.z_low)
+    → All (HoldsFirst l.b l.under profile (faces_in l.faces l.flat) l.i) l.x_high l.x_low l.y_high l.y_low l.z_high
+    l.z_low)
 
 abbrev pub decreases-loop-i : goal.decreases-loop-i
 decreases-loop-i l = l.count - l.i

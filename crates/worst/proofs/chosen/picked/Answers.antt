@@ -32,7 +32,8 @@ overflow_mul-last c = fit {w = w64} (last (goal.at.overflow_mul-last c).Start) t
 
 pub returns-then-falls_short : goal.returns-then-falls_short
 unfolding which
-returns-then-falls_short c = rw (sym (tested (goal.at.returns-then-falls_short c).After-falls_short) ∙ c.if-falls_short.true)
+returns-then-falls_short c =
+    rw (sym (tested (goal.at.returns-then-falls_short c).After-falls_short) ∙ c.if-falls_short.true)
 
 pub returns : goal.returns
 unfolding which

@@ -1,7 +1,7 @@
 -- `engine::all_cells` meets its contract: after w winds the cells stand up to those of the next.
 use mathlib.Core.Path.{◌≡◌, sym, ap, ◌∙◌, subst}
 use mathlib.Core.List.{List}
-use Prim.Native.Nat.{ℕ, ◌+◌, ◌-◌, ◌*◌, ◌<◌}
+use Prim.Native.Nat.{ℕ, ◌+◌, ◌*◌, ◌<◌}
 use native.Mathlib.Omega.{arith}
 use borrow.Author.Rules.{rules}
 use lib.IntN.{pos}
@@ -151,7 +151,8 @@ loop-w-preserved c =
     let next : 4 * w at_loop_w + 4 ≡ 4 * (w at_loop_w + 1) = omega arith in (
       omega arith,
       c.added-sums.ensures.2,
-      λ profile s h r. up-to-four stored_cells h (4 * w at_loop_w) (4 * (w at_loop_w + 1)) next c.loop-w.stored.cell (cell c)
+      λ profile s h r. up-to-four stored_cells h (4 * w at_loop_w) (4 * (w at_loop_w + 1)) next c.loop-w.stored.cell
+          (cell c)
           (room c) (c.loop-w.invariant.2 profile s h r) (four_are c profile s h r),
     )
 

@@ -1,6 +1,6 @@
 -- `engine::best_cells` meets its contract: after w winds each top is the best cell of the first w.
 use mathlib.Core.Path.{◌≡◌, refl, sym, ap, ◌∙◌, subst}
-use Prim.Native.Nat.{ℕ, ◌-◌, ◌<◌}
+use Prim.Native.Nat.{ℕ, ◌<◌}
 use native.Mathlib.Omega.{arith}
 use borrow.Author.Rules.{rules}
 use lib.IntN.{pos}
@@ -108,7 +108,8 @@ over_internals-ends-requires c =
       (ready at_loop_w).internals.0,
       omega arith,
       c.loop-w.invariant.2,
-      four-proper (job at_loop_w).building (profile_of (job at_loop_w)) (job at_loop_w).winds (job at_loop_w).internals (job at_loop_w).faces (w at_loop_w)
+      four-proper (job at_loop_w).building (profile_of (job at_loop_w)) (job at_loop_w).winds (job at_loop_w).internals
+          (job at_loop_w).faces (w at_loop_w)
           (counted at_loop_w) (below at_loop_w) (ready at_loop_w).internals.0 c.of_wind-four.result.cell
           (are at_of_wind_four (profile_of (job at_loop_w)) c.requires.2),
     )
@@ -127,7 +128,8 @@ loop-w-preserved c =
       c.over_internals-ends.ensures.1,
       λ profile q h r axis side. c.over_internals-ends.ensures.0 axis side
           ∙ (λ i. better side (c.loop-w.invariant.3 profile q h r axis side i)
-          (four-own j.building profile j.winds j.internals j.faces (w at_loop_w) t (below at_loop_w) (ready at_loop_w).internals.0
+          (four-own j.building profile j.winds j.internals j.faces (w at_loop_w) t (below at_loop_w)
+          (ready at_loop_w).internals.0
           c.of_wind-four.result.cell (are at_of_wind_four profile q) h r axis side i))
           ∙ over-next side (wind_best axis side (cells_of h) j.internals.count) (w at_loop_w),
     )

@@ -36,8 +36,8 @@ module _ (f : After-fill) where
       let few = a.requires.0 in
       record {
         numbered = a.requires.1;
-        parts-room = omega (arith, f.fill.kept);
-        wholes-room = omega (arith, f.fill.kept);
+        parts-room = omega (arith, f.fill.auto.parts);
+        wholes-room = omega (arith, f.fill.auto.wholes);
       }
 
 -- what was found, as the best of the job's own sums
@@ -49,9 +49,11 @@ module _ (c : After-few_best-ends) where
   j = job (goal.at.After-fill f).Start
 
   top : (axis : Axis) (s : Side)
-      → IsTop axis s (stored_of (carried j)) j (ready (goal.at.After-fill f).Start) (top_at axis s c.few_best-ends.result)
+      → IsTop axis s (stored_of (carried j)) j (ready (goal.at.After-fill f).Start)
+      (top_at axis s c.few_best-ends.result)
   top axis s =
-      is-top axis s (stored_of (carried j)) j (ready (goal.at.After-fill f).Start) (top_at axis s c.few_best-ends.result)
+      is-top axis s (stored_of (carried j)) j (ready (goal.at.After-fill f).Start)
+      (top_at axis s c.few_best-ends.result)
       (c.few_best-ends.ensures.0 axis s)
 
 pub fill-requires : goal.fill-requires
@@ -83,6 +85,7 @@ returns c =
     let at_few_best_ends = (goal.at.returns c).After-few_best-ends in
     let o = c.requires.2 in
     c.shown.ensures
-    ∙ six-are (j at_few_best_ends) (last-reading (j at_few_best_ends) o) (given-sound (carried (j at_few_best_ends)) o) (stored_of (carried (j at_few_best_ends)))
+    ∙ six-are (j at_few_best_ends) (last-reading (j at_few_best_ends) o) (given-sound (carried (j at_few_best_ends)) o)
+    (stored_of (carried (j at_few_best_ends)))
     c.few_best-ends.result c.few_best-ends.ensures.1 (λ axis s. (top at_few_best_ends axis s).best)
     ∙ own-six (j at_few_best_ends) o

@@ -42,6 +42,19 @@ pub fill-requires : goal.fill-requires
 fill-requires c =
     (c.requires.0, c.requires.1, (ready (goal.at.fill-requires c).Start).profiled)
 
+pub best-ends-requires : goal.best-ends-requires
+best-ends-requires c =
+    let lent = c.requires.0 in (
+      record {
+        numbered = lent.numbered;
+        parts-room = omega (arith, c.fill.auto.parts, lent.parts-room);
+        wholes-room = omega (arith, c.fill.auto.wholes, lent.wholes-room);
+      },
+      c.requires.2,
+      c.fill.ensures,
+      nothing-filled _,
+    )
+
 pub shown-requires : goal.shown-requires
 shown-requires c =
     let at_start = (goal.at.shown-requires c).Start in

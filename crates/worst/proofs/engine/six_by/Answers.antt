@@ -23,7 +23,8 @@ ready : (a : Start) → Ready (job a)
 ready a = job-ready (job a) a.requires.1
 
 top : (c : After-over_winds-ends) (axis : Axis) (s : Side)
-    → IsTop axis s c.args.stored (job (goal.at.After-over_winds-ends c).Start) (ready (goal.at.After-over_winds-ends c).Start)
+    → IsTop axis s c.args.stored (job (goal.at.After-over_winds-ends c).Start)
+    (ready (goal.at.After-over_winds-ends c).Start)
     (top_at axis s c.over_winds-ends.result)
 top c axis s =
     let at_start = (goal.at.After-over_winds-ends c).Start in
@@ -39,6 +40,22 @@ fill-requires c =
       record { numbered = c.requires.0; parts-room = omega arith; wholes-room = omega arith },
       (refl, refl),
       (ready (goal.at.fill-requires c).Start).profiled,
+    )
+
+pub shown-requires : goal.shown-requires
+shown-requires c =
+    let at_start = (goal.at.shown-requires c).Start in
+    let few = c.requires.0.few in (
+      record {
+        numbered = c.requires.0;
+        parts-room = omega (arith, c.fill.auto.parts);
+        wholes-room = omega (arith, c.fill.auto.wholes);
+      },
+      ready at_start,
+      λ i t. subst Fraction (sym (c.fill.ensures i t)) ((ready at_start).factors i t),
+      c.fill.ensures,
+      λ axis s. (top (goal.at.shown-requires c).After-over_winds-ends axis s).on_job,
+      nothing-filled _,
     )
 
 pub returns : goal.returns

@@ -15,5 +15,18 @@ fill-requires c =
       (job-ready j c.requires.1).profiled,
     )
 
+pub all_cells-requires : goal.all_cells-requires
+all_cells-requires c =
+    let few = c.requires.0.few in (
+      record {
+        numbered = c.requires.0;
+        parts-room = omega (arith, c.fill.auto.parts);
+        wholes-room = omega (arith, c.fill.auto.wholes);
+      },
+      c.requires.1,
+      c.fill.ensures,
+      nothing-filled _,
+    )
+
 pub returns : goal.returns
 returns c = c.all_cells.ensures

@@ -82,8 +82,12 @@ with_face-sums-requires c =
     let at_loop_i = (goal.at.with_face-sums-requires c).In-loop-i in
     let at_factor_in_factor = (goal.at.with_face-sums-requires c).After-factor_in-factor in
     let inv = c.loop-i.invariant in
-    let below = few at_loop_i in
-    (few-more (i at_loop_i - c.args.from) 23 _ (omega arith) inv.2, met at_factor_in_factor, fraction at_factor_in_factor, inv.4)
+    let below = few at_loop_i in (
+      few-more (i at_loop_i - c.args.from) 23 _ (omega arith) inv.2,
+      met at_factor_in_factor,
+      fraction at_factor_in_factor,
+      inv.4,
+    )
 
 pub overflow_add-i : goal.overflow_add-i
 overflow_add-i c =

@@ -27,19 +27,22 @@ pub overflow_mul-pressure : goal.overflow_mul-pressure
 overflow_mul-pressure c = fit {w = w64} (x (goal.at.overflow_mul-pressure c).Start) tt
 
 pub with_weight-x-requires : goal.with_weight-x-requires
-with_weight-x-requires c = (c.requires.0.x, c.requires.2, bound (back w64 (x (goal.at.with_weight-x-requires c).Start) tt))
+with_weight-x-requires c =
+    (c.requires.0.x, c.requires.2, bound (back w64 (x (goal.at.with_weight-x-requires c).Start) tt))
 
 pub overflow_mul-pressure-2 : goal.overflow_mul-pressure-2
 overflow_mul-pressure-2 c = fit {w = w64} (y (goal.at.overflow_mul-pressure-2 c).Start) tt
 
 pub with_weight-y-requires : goal.with_weight-y-requires
-with_weight-y-requires c = (c.requires.0.y, c.requires.2, bound (back w64 (y (goal.at.with_weight-y-requires c).Start) tt))
+with_weight-y-requires c =
+    (c.requires.0.y, c.requires.2, bound (back w64 (y (goal.at.with_weight-y-requires c).Start) tt))
 
 pub overflow_mul-pressure-3 : goal.overflow_mul-pressure-3
 overflow_mul-pressure-3 c = fit {w = w64} (z (goal.at.overflow_mul-pressure-3 c).Start) tt
 
 pub with_weight-z-requires : goal.with_weight-z-requires
-with_weight-z-requires c = (c.requires.0.z, c.requires.2, bound (back w64 (z (goal.at.with_weight-z-requires c).Start) tt))
+with_weight-z-requires c =
+    (c.requires.0.z, c.requires.2, bound (back w64 (z (goal.at.with_weight-z-requires c).Start) tt))
 
 pub returns : goal.returns
 returns c =

@@ -35,7 +35,8 @@ module _ (a : Start) where
       back w64 (num≤ a.args.sums.weight a.requires.0.weight) tt ⊕ back w64 (num≤ a.args.weight a.requires.2) tt
 
 abbrev greatest : After-the_further-most → Num
-greatest c = reached (goal.at.After-the_further-most c).Start Greatest c.the_further-most.result c.the_further-most.ensures
+greatest c =
+    reached (goal.at.After-the_further-most c).Start Greatest c.the_further-most.result c.the_further-most.ensures
 
 abbrev least : After-the_further-fewest → Num
 least c =
@@ -48,7 +49,9 @@ module _ (c : After-the_further-fewest) where
   a = (goal.at.After-the_further-fewest c).Start
 
   abbrev most : Num
-  most = back w64 (num≤ a.args.sums.greatest a.requires.0.greatest) tt ⊕ greatest (goal.at.After-the_further-fewest c).After-the_further-most
+  most =
+      back w64 (num≤ a.args.sums.greatest a.requires.0.greatest) tt
+      ⊕ greatest (goal.at.After-the_further-fewest c).After-the_further-most
 
   abbrev fewest : Num
   fewest = back w64 (num≤ a.args.sums.least a.requires.0.least) tt ⊕ least c
@@ -80,9 +83,19 @@ returns c =
       λ n (h : FewAxisSmall n s). record {
         greatest =
             rw up
-            (omega
-            (arith, nat_abs-add s.greatest (greatest at_the_further_most).is, h.greatest, (greatest at_the_further_most).small));
-        least = rw down (omega (arith, nat_abs-add s.least (least at_the_further_fewest).is, h.least, (least at_the_further_fewest).small));
+            (omega (
+              arith,
+              nat_abs-add s.greatest (greatest at_the_further_most).is,
+              h.greatest,
+              (greatest at_the_further_most).small,
+            ));
+        least =
+            rw down (omega (
+              arith,
+              nat_abs-add s.least (least at_the_further_fewest).is,
+              h.least,
+              (least at_the_further_fewest).small,
+            ));
         weight = rw heavy (omega (arith, nat_abs-add s.weight c.args.weight, h.weight, c.requires.2));
       },
     )

@@ -10,7 +10,8 @@ returns c =
     let up = c.settled_top-greatest.ensures in
     let down = c.settled_top-least.ensures in (
       either
-          (λ s. top_of (end_of s (record { greatest = c.settled_top-greatest.result; least = c.settled_top-least.result }))
+          (λ s.
+          top_of (end_of s (record { greatest = c.settled_top-greatest.result; least = c.settled_top-least.result }))
           ≡ few_top_of (few_end_of s c.args.tops))
           up.0 down.0,
       record { greatest = up.1; least = down.1 },

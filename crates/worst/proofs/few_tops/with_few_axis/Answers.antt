@@ -62,7 +62,8 @@ returns c =
     let r = c.sides_at-two.result in
     let from : (side : Side) → Best Cell → Best Cell = λ side. better side (few_top_of (few_end_of side s.tops)) in
     either
-    (λ side. few_top_of (few_end_of side (record { greatest = c.few_kept-greatest.result; least = c.few_kept-least.result }))
+    (λ side.
+    few_top_of (few_end_of side (record { greatest = c.few_kept-greatest.result; least = c.few_kept-least.result }))
     ≡ from side (furthest_cell side (few_in s.sums) s.insides s.wind))
     (c.few_kept-greatest.ensures
     ∙ (λ j. from Greatest (at ((back w64 (most at_sides_at_two) tt).same j) (cell s.wind r.up.number)))

@@ -78,7 +78,8 @@ module _ (k : After-factor_in-factor) where
   met = k.face_in-f.result
 
   seen : met ≡ face d
-  seen = k.face_in-f.ensures ∙ sym (face-at a.args.count (flat (goal.at.In-loop-i d).After-no_cell-all) (i d) (counted d))
+  seen =
+      k.face_in-f.ensures ∙ sym (face-at a.args.count (flat (goal.at.In-loop-i d).After-no_cell-all) (i d) (counted d))
 
   factor : k.factor_in-factor.result ≡ factor_of (profile_of (job (goal.at.In-loop-i d).After-no_cell-all)) (face d)
   factor = k.factor_in-factor.ensures ∙ d.fill.ensures (i d) (counted d)
@@ -116,7 +117,8 @@ face_forces-one-requires c =
     let j = job at_no_cell_all in
     let small = small-outside j c.requires.1 (i at_loop_i) t w.direction in
     let outs : ℤ → Face → List ℤ = λ y f. values_of (outside_of y s.s.building w.direction f.zone) in
-    let same : outs s.s.year (face at_loop_i) ≡ outs _ (met c) = λ m. outs (sym (year at_no_cell_all) m) (sym (seen c) m) in (
+    let same : outs s.s.year (face at_loop_i) ≡ outs _ (met c) =
+    λ m. outs (sym (year at_no_cell_all) m) (sym (seen c) m) in (
       subst (Met s.s.building w) (sym (seen c)) (c.requires.2.each (i at_loop_i) t),
       subst Fraction (sym (factor c)) ((job-ready j c.requires.1).factors (i at_loop_i) t),
       bound (inside at_no_cell_all),
@@ -172,5 +174,6 @@ returns c =
     let all : l.i ≡ s.count = omega (arith, l.invariant.0) in
     l.invariant.1 (profile_of j) c.fill.ensures
     ∙ (λ k.
-    rows_of (year at_no_cell_all k) s.s.building (profile_of j) s.w ((inside at_no_cell_all).same k) (first_of no_face (all k) (faces at_no_cell_all)))
+    rows_of (year at_no_cell_all k) s.s.building (profile_of j) s.w ((inside at_no_cell_all).same k)
+    (first_of no_face (all k) (faces at_no_cell_all)))
     ∙ sym (rows_are j s.w s.internal)

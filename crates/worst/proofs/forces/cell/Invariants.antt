@@ -2,8 +2,6 @@
 use mathlib.Core.Path.{◌≡◌}
 use mathlib.Core.List.{List}
 use Prim.Native.Nat.{◌-◌, ◌≤◌}
-use mir.Syntax.{w64}
-use mir.Val.{to_z}
 use Rattle.whole.specs.Lists.{first_of}
 use Rattle.entry.specs.declared.Step.{Step}
 use Rattle.entry.specs.Flat.{faces_in}
@@ -17,7 +15,8 @@ abbrev pub invariant-loop-i : goal.invariant-loop-i
 invariant-loop-i l =
     (l.i ≤ l.n)
     × ((profile : List Step) → FactorsStand profile (faces_by l.count l.flat) l.parts l.wholes
-    → l.all ≡ rows_of l.d.year l.d.building profile l.w (to_z w64 l.internal) (first_of no_face l.i (faces_in l.count l.flat)))
+    → l.all
+    ≡ rows_of l.d.year l.d.building profile l.w l.internal (first_of no_face l.i (faces_in l.count l.flat)))
 
 abbrev pub decreases-loop-i : goal.decreases-loop-i
 decreases-loop-i l = l.n - l.i

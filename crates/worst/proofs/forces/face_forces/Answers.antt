@@ -58,7 +58,8 @@ returns-then-takes_part c =
     let at_pressure_of_p = (goal.at.returns-then-takes_part c).After-pressure_of-p in
     rw (acting at_pressure_of_p)
     (c.forces_at.ensures
-    ∙ (λ j. forces_with c.args.f (coefficients at_pressure_of_p j) ((internal at_pressure_of_p).same j) ((pressed at_pressure_of_p).same j)))
+    ∙ (λ j. forces_with c.args.f (coefficients at_pressure_of_p j) ((internal at_pressure_of_p).same j)
+    ((pressed at_pressure_of_p).same j)))
 
 pub returns : goal.returns
 returns c =

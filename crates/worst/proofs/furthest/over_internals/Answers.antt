@@ -74,6 +74,17 @@ pub with_cell-z-requires : goal.with_cell-z-requires
 with_cell-z-requires c =
     (c.requires.1, c.loop-i.invariant.1.z, (proper (goal.at.with_cell-z-requires c).In-loop-i).z)
 
+pub loop-i-preserved : goal.loop-i-preserved
+loop-i-preserved c =
+    let at_loop_i = (goal.at.loop-i-preserved c).In-loop-i in
+    let t = c.loop-i-test.true in (
+      omega arith,
+      record { x = c.with_cell-x.ensures.1; y = c.with_cell-y.ensures.1; z = c.with_cell-z.ensures.1 },
+      every-axis _ (λ s. stepped at_loop_i X s (end_of s c.with_cell-x.result) (c.with_cell-x.ensures.0 s))
+          (λ s. stepped at_loop_i Y s (end_of s c.with_cell-y.result) (c.with_cell-y.ensures.0 s))
+          (λ s. stepped at_loop_i Z s (end_of s c.with_cell-z.result) (c.with_cell-z.ensures.0 s)),
+    )
+
 pub returns : goal.returns
 returns c =
     let l = c.loop-i in

@@ -5,7 +5,7 @@ use Prim.Native.Nat.{◌≤◌, ◌-◌}
 use Rattle.worst.specs.declared.Axis.{Axis}
 use Rattle.worst.specs.declared.Side.{Side}
 use Rattle.worst.specs.Best.{better}
-use Rattle.worst.specs.Engine.{cell, top_of, top_at, four_best}
+use Rattle.worst.specs.Engine.{top_of, top_at, four_best}
 use Rattle.worst.specs.Proper.{ProperEnds}
 use Rattle.worst.proofs.furthest.over_internals.Given as goal
 

@@ -44,7 +44,9 @@ pub inside_at-next-requires : goal.inside_at-next-requires
 inside_at-next-requires c = (c.requires.0, counted c)
 
 pub overflow_add-i : goal.overflow_add-i
-overflow_add-i c = let t = counted (goal.at.overflow_add-i c).In-loop-i in record { fits = omega (arith, c.requires.0.0) }
+overflow_add-i c =
+    let t = counted (goal.at.overflow_add-i c).In-loop-i in
+    record { fits = omega (arith, c.requires.0.0) }
 
 pub loop-i-smaller : goal.loop-i-smaller
 loop-i-smaller c = let t = counted (goal.at.loop-i-smaller c).In-loop-i in omega arith

@@ -10,7 +10,8 @@ use Rattle.book.specs.declared.Four.{Four}
 use Rattle.book.specs.Zones.{four_from}
 use Rattle.worst.specs.Table.{places, place_of, Stands}
 use Rattle.worst.proofs.Table.{Kept, kept, place-on, half-placed, half-below, four-stand}
-use Rattle.worst.proofs.outside.fill.Goals.{After-keep, After-keep-2, After-keep-3, After-keep-4, After-place_of-k, Start}
+use Rattle.worst.proofs.outside.fill.Goals.{Start, After-place_of-k}
+use Rattle.worst.proofs.outside.fill.Goals.{After-keep, After-keep-2, After-keep-3, After-keep-4}
 use Rattle.worst.proofs.outside.fill.Goals as goal
 
 module _ (p : After-place_of-k) where
@@ -49,7 +50,6 @@ module _ (c : After-keep) where
   kept₁ : Kept p₁.args.d.building p₁.args.first.now p₁.args.last.now c.keep.new.asked
       c.keep.new.first c.keep.new.last p₁.place_of-k.result
   kept₁ =
-      let p₁ = p₁ in
       kept p₁.args.d.building p₁.args.direction p₁.args.from p₁.requires.2 _ _ _ _ _ _ p₁.place_of-k.result
       p₁.looked_up-four.result.first p₁.requires.3 (place p₁) (ap (λ (f : Four). f.first) (four p₁))
       c.keep.ensures
@@ -61,10 +61,10 @@ module _ (c : After-keep-2) where
   kept₂ : Kept c₁.args.d.building c₁.keep.new.first c₁.keep.new.last c.keep-2.new.asked
       c.keep-2.new.first c.keep-2.new.last (c₁.place_of-k.result + 1)
   kept₂ =
-      let c₁ = c₁ in
       kept c₁.args.d.building c₁.args.direction (c₁.args.from + 1)
       (half-placed c₁.args.direction c₁.args.from 1 c₁.requires.2 c₁.requires.1 (lit< tt)) _ _ _ _ _ _
-      (c₁.place_of-k.result + 1) c₁.looked_up-four.result.second (kept₁ c₁).filled (next (goal.at.After-keep c₁).After-place_of-k 1)
+      (c₁.place_of-k.result + 1) c₁.looked_up-four.result.second (kept₁ c₁).filled
+      (next (goal.at.After-keep c₁).After-place_of-k 1)
       (ap (λ (f : Four). f.second) (four (goal.at.After-keep c₁).After-place_of-k)) c.keep-2.ensures
 
 module _ (c : After-keep-3) where
@@ -75,10 +75,10 @@ module _ (c : After-keep-3) where
       c.keep-3.new.asked c.keep-3.new.first c.keep-3.new.last
       (c₂.place_of-k.result + 2)
   kept₃ =
-      let c₂ = c₂ in
       kept c₂.args.d.building c₂.args.direction (c₂.args.from + 2)
       (half-placed c₂.args.direction c₂.args.from 2 c₂.requires.2 c₂.requires.1 (lit< tt)) _ _ _ _ _ _
-      (c₂.place_of-k.result + 2) c₂.looked_up-four.result.third (kept₂ c₂).filled (next (goal.at.After-keep-2 c₂).After-place_of-k 2)
+      (c₂.place_of-k.result + 2) c₂.looked_up-four.result.third (kept₂ c₂).filled
+      (next (goal.at.After-keep-2 c₂).After-place_of-k 2)
       (ap (λ (f : Four). f.third) (four (goal.at.After-keep-2 c₂).After-place_of-k)) c.keep-3.ensures
 
 module _ (c : After-keep-4) where
@@ -89,10 +89,10 @@ module _ (c : After-keep-4) where
       c.keep-4.new.asked c.keep-4.new.first c.keep-4.new.last
       (c₃.place_of-k.result + 3)
   kept₄ =
-      let c₃ = c₃ in
       kept c₃.args.d.building c₃.args.direction (c₃.args.from + 3)
       (half-placed c₃.args.direction c₃.args.from 3 c₃.requires.2 c₃.requires.1 (lit< tt)) _ _ _ _ _ _
-      (c₃.place_of-k.result + 3) c₃.looked_up-four.result.fourth (kept₃ c₃).filled (next (goal.at.After-keep-3 c₃).After-place_of-k 3)
+      (c₃.place_of-k.result + 3) c₃.looked_up-four.result.fourth (kept₃ c₃).filled
+      (next (goal.at.After-keep-3 c₃).After-place_of-k 3)
       (ap (λ (f : Four). f.fourth) (four (goal.at.After-keep-3 c₃).After-place_of-k)) c.keep-4.ensures
 
 pub keep-requires-2 : goal.keep-requires-2
@@ -119,6 +119,7 @@ returns c =
           subst (λ (n : ℕ). Stands b f l (n + j)) (place (goal.at.returns c).After-place_of-k)
           (four-stand b c.place_of-k.result c.keep.new.first c.keep.new.last
           c.keep-2.new.first c.keep-2.new.last c.keep-3.new.first
-          c.keep-3.new.last f l (kept₁ at_keep).here (kept₂ at_keep_2).stay (kept₂ at_keep_2).here (kept₃ at_keep_3).stay
+          c.keep-3.new.last f l (kept₁ at_keep).here (kept₂ at_keep_2).stay (kept₂ at_keep_2).here
+          (kept₃ at_keep_3).stay
           (kept₃ at_keep_3).here (kept₄ c).stay (kept₄ c).here j h),
     )

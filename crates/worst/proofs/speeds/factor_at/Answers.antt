@@ -1,6 +1,6 @@
 -- `speeds::factor_at` meets its contract: before line i the walk stands above line i - 1.
 use mathlib.Core.Path.{◌≡◌, sym, ap, ◌∙◌, subst}
-use Prim.Native.Nat.{◌-◌, ◌≤◌, ◌<◌}
+use Prim.Native.Nat.{◌<◌}
 use native.Mathlib.Omega.{arith}
 use mathlib.Core.Bool.{Bool}
 use lib.IntN.{pos}
@@ -60,9 +60,9 @@ offset_bounds-profile-i c = record { fits = omega (arith, below c) }
 
 pub factor_between-requires : goal.factor_between-requires
 factor_between-requires c =
-    let at_loop_i = (goal.at.factor_between-requires c).In-loop-i in
-    let at_loop_i = (goal.at.factor_between-requires c).At-loop-i in
-    (c.loop-i.invariant.1, small at_loop_i, subst Height (sym (read at_loop_i)) c.requires.1)
+    let at_line = (goal.at.factor_between-requires c).In-loop-i in
+    let height = read (goal.at.factor_between-requires c).At-loop-i in
+    (c.loop-i.invariant.1, small at_line, subst Height (sym height) c.requires.1)
 
 pub returns-then-height-upper : goal.returns-then-height-upper
 returns-then-height-upper c =

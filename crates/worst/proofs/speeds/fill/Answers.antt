@@ -1,7 +1,7 @@
 -- `speeds::fill` meets its contract: in year 1 nothing is changed, and otherwise after i faces the factors of the
 -- first i stand in the arrays.
 use mathlib.Core.Path.{◌≡◌, refl, sym, ap, ◌∙◌, subst}
-use Prim.Native.Nat.{ℕ, ◌-◌, ◌≤◌, ◌<◌}
+use Prim.Native.Nat.{ℕ, ◌<◌}
 use native.Mathlib.Omega.{arith}
 use mathlib.Core.Bool.{true}
 use mathlib.Core.List.{List}
@@ -23,7 +23,8 @@ use Rattle.worst.specs.Factors.{steps_of, Height}
 use Rattle.worst.specs.Lent.{faces_by}
 use Rattle.worst.proofs.LentFaces.{face-at}
 use Rattle.worst.proofs.Factors.{ones-stand, none-stand, next-stands}
-use Rattle.worst.proofs.speeds.fill.Goals.{After-face_in-f, After-factor_at-factor, After-has_heights, After-struct_told-in-loop-i-3-1, Else-not-has_heights, In-loop-i, Start}
+use Rattle.worst.proofs.speeds.fill.Goals.{Start, After-has_heights, Else-not-has_heights, In-loop-i}
+use Rattle.worst.proofs.speeds.fill.Goals.{After-face_in-f, After-factor_at-factor, After-struct_told-in-loop-i-3-1}
 use Rattle.worst.proofs.speeds.fill.Goals as goal
 
 -- whether there are heights
@@ -69,7 +70,8 @@ module _ (d : In-loop-i) where
 module _ (c : After-face_in-f) where
   read-face : c.face_in-f.result ≡ face (goal.at.After-face_in-f c).In-loop-i
   read-face =
-      c.face_in-f.ensures ∙ sym (face-at c.args.faces c.args.flat.now (i (goal.at.After-face_in-f c).In-loop-i) (room (goal.at.After-face_in-f c).In-loop-i))
+      let at_face = (goal.at.After-face_in-f c).In-loop-i in
+      c.face_in-f.ensures ∙ sym (face-at c.args.faces c.args.flat.now (i at_face) (room at_face))
 
   height-read : to_z w64 (of_z w64 c.face_in-f.result.height) ≡ (face (goal.at.After-face_in-f c).In-loop-i).height
   height-read = ap (λ (f : Face). to_z w64 (of_z w64 f.height)) read-face ∙ height (goal.at.After-face_in-f c).In-loop-i
@@ -96,13 +98,10 @@ module _ (c : After-struct_told-in-loop-i-3-1) where
       λ j. record { part = to_z-of_z w64 _ part j; whole = to_z-of_z w64 _ whole j }
 
   found : k.factor_at-factor.result ≡ factor_of (steps (goal.at.In-loop-i d).Start) (face d)
-  found = k.factor_at-factor.ensures ∙ ap (factor_at (steps (goal.at.In-loop-i d).Start)) (height-read (goal.at.After-factor_at-factor k).After-face_in-f)
-
-  parts-room : i d < length d.loop-i.parts
-  parts-room = let t = room d in omega (arith, d.loop-i.invariant.1.parts-long)
-
-  wholes-room : i d < length d.loop-i.wholes
-  wholes-room = let t = room d in omega (arith, d.loop-i.invariant.1.wholes-long)
+  found =
+      k.factor_at-factor.ensures
+      ∙ ap (factor_at (steps (goal.at.In-loop-i d).Start))
+      (height-read (goal.at.After-factor_at-factor k).After-face_in-f)
 
 pub returns-then-not-has_heights : goal.returns-then-not-has_heights
 returns-then-not-has_heights c =

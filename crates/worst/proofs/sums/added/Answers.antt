@@ -112,12 +112,15 @@ loop-i-preserved r =
     let m = to at_end_of_few_to - i at_end_of_few_to - 1 in (
       counted at_end_of_few_to,
       all_more (i at_end_of_few_to + (m + 1)) (to at_end_of_few_to) _ (omega arith)
-          (e.1 (i at_end_of_few_to) m inv.1 (few-more (to at_end_of_few_to - i at_end_of_few_to) (m + 1) _ (omega arith) r.few_added-few.ensures.0)),
+          (e.1 (i at_end_of_few_to) m inv.1
+          (few-more (to at_end_of_few_to - i at_end_of_few_to) (m + 1) _ (omega arith) r.few_added-few.ensures.0)),
       λ profile q.
           e.0
           ∙ ap (λ p. plus_axes p (few_axes r.few_added-few.result))
-          (inv.2 profile q ∙ ap (axes_of args.b profile args.w) (sym (first at_end_of_few_to (i at_end_of_few_to) (omega arith))))
-          ∙ r.few_added-few.ensures.1 profile (λ k t. q k (omega arith) ∙ ap (factor_of profile) (same at_end_of_few_to k t))
+          (inv.2 profile q
+          ∙ ap (axes_of args.b profile args.w) (sym (first at_end_of_few_to (i at_end_of_few_to) (omega arith))))
+          ∙ r.few_added-few.ensures.1 profile
+          (λ k t. q k (omega arith) ∙ ap (factor_of profile) (same at_end_of_few_to k t))
           ∙ ap (axes_of args.b profile args.w) (first at_end_of_few_to (to at_end_of_few_to) (omega arith)),
       r.few_added-few.ensures.2,
     )

@@ -1,7 +1,6 @@
 -- `under::of_face` meets its contract: the speed at the face's factor, and the pressure number of the wind there.
 -- the year and the height, read back
 use mathlib.Core.Path.{◌≡◌, sym, ap, ◌∙◌, subst}
-use Prim.Native.Nat.{◌≤◌}
 use lib.IntN.{ℤ, pos}
 use lib.Signed.{◌≤ℤ◌}
 use mir.Syntax.{w64}
@@ -50,8 +49,11 @@ factor_of-factor-requires c h =
 pub speed_at-speed-requires : goal.speed_at-speed-requires
 speed_at-speed-requires c =
     let at_factor_of_factor = (goal.at.speed_at-speed-requires c).After-factor_of-factor in
-    let slow = c.requires.1 in
-    (fraction at_factor_of_factor, subst (λ (z : ℤ). pos 0 ≤ℤ z) (sym (speed at_factor_of_factor).same) slow.from, bound (speed at_factor_of_factor))
+    let slow = c.requires.1 in (
+      fraction at_factor_of_factor,
+      subst (λ (z : ℤ). pos 0 ≤ℤ z) (sym (speed at_factor_of_factor).same) slow.from,
+      bound (speed at_factor_of_factor),
+    )
 
 pub pressure_of-pressure-requires : goal.pressure_of-pressure-requires
 pressure_of-pressure-requires c =
@@ -66,8 +68,10 @@ returns c =
     let pressure-fits : SFits w64 c.pressure_of-pressure.result = search rules in
     let own : Factor → ℤ = λ k. speed_at k w.speed in
     let speed-is =
-    to_z-of_z w64 _ speed-fits ∙ c.speed_at-speed.ensures ∙ ap (speed_at c.factor_of-factor.result) (speed at_factor_of_factor).same
+    to_z-of_z w64 _ speed-fits ∙ c.speed_at-speed.ensures
+    ∙ ap (speed_at c.factor_of-factor.result) (speed at_factor_of_factor).same
     ∙ ap own (factor at_factor_of_factor) in
     let pressure-is =
-    to_z-of_z w64 _ pressure-fits ∙ c.pressure_of-pressure.ensures ∙ ap (λ k. pressure density (own k)) (factor at_factor_of_factor) in
+    to_z-of_z w64 _ pressure-fits ∙ c.pressure_of-pressure.ensures
+    ∙ ap (λ k. pressure density (own k)) (factor at_factor_of_factor) in
     λ i. record { acts = c.takes_part-acts.ensures i; speed = speed-is i; pressure = pressure-is i }

@@ -51,7 +51,9 @@ pub overflow_cast-z_down : goal.overflow_cast-z_down
 overflow_cast-z_down c = let h = numbered (goal.at.overflow_cast-z_down c).Start Z Least in omega arith
 
 pub offset_bounds-winds-ends-6 : goal.offset_bounds-winds-ends-6
-offset_bounds-winds-ends-6 c = let h = numbered (goal.at.offset_bounds-winds-ends-6 c).Start Z Least in record { fits = omega arith }
+offset_bounds-winds-ends-6 c =
+    let h = numbered (goal.at.offset_bounds-winds-ends-6 c).Start Z Least in
+    record { fits = omega arith }
 
 pub bounds-winds-ends-6 : goal.bounds-winds-ends-6
 bounds-winds-ends-6 c = let h = numbered (goal.at.bounds-winds-ends-6 c).Start Z Least in omega arith
