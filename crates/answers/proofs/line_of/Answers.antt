@@ -1,4 +1,5 @@
 -- `line_of`: the arms are the tests of `report_line`, in its order. The machine tells a number by its bits.
+-- an arm's own number, with the year read back
 use Prim.Native.Nat.{ℕ}
 use mathlib.Core.Path.{◌≡◌, refl, sym, ap, ap₂, ◌∙◌}
 use lib.IntN.{ℤ, pos, negsuc}
@@ -9,12 +10,10 @@ use Rattle.whole.proofs.Tests.{tests}
 use Rattle.verdict.specs.Verdict.{refusal}
 use Rattle.worst.specs.declared.Six.{Six}
 use Rattle.answers.specs.Answers.{no_host_extreme, report_line, host_line}
-use borrow.Author.Rules.{rules}
-use Rattle.answers.proofs.line_of.Statement.{statement}
-use Rattle.answers.proofs.line_of.Tie as tie
+use Rattle.answers.proofs.line_of.Goals.{Start}
+use Rattle.answers.proofs.line_of.Goals as goal
 
--- an arm's own number, with the year read back
-arm : (t : tie.Start) (n : ℕ) → of_z w64 t.args.line ≡ n
+arm : (t : Start) (n : ℕ) → of_z w64 t.args.line ≡ n
     → host_line (to_z w64 (of_z w64 t.args.year)) t.args.six (to_z w64 n)
     ≡ host_line t.args.year t.args.six t.args.line
 arm t n e =
@@ -29,41 +28,34 @@ unfolding report_line
 no_line year s (pos n) a b c d e f = search tests
 no_line year s (negsuc n) a b c d e f = refl
 
-returns : tie.Need-returns
+pub returns-in-1 : goal.returns-in-1
 unfolding report_line
-returns c = c.extreme-of.ensures ∙ arm c.before.before 1 c.before.match.keys1
+returns-in-1 c = c.extreme_of.ensures ∙ arm (goal.at.returns-in-1 c).Start 1 c.in-1.in-1-own.keys1
 
-returns-2 : tie.Need-returns-2
+pub returns-in-2 : goal.returns-in-2
 unfolding report_line
-returns-2 c = c.extreme-of2.ensures ∙ arm c.before.before 2 c.before.match.keys2
+returns-in-2 c = c.extreme_of-in-2.ensures ∙ arm (goal.at.returns-in-2 c).Start 2 c.in-2.in-2-own.keys2
 
-returns-3 : tie.Need-returns-3
+pub returns-in-3 : goal.returns-in-3
 unfolding report_line
-returns-3 c = c.extreme-of3.ensures ∙ arm c.before.before 3 c.before.match.keys3
+returns-in-3 c = c.extreme_of-in-3.ensures ∙ arm (goal.at.returns-in-3 c).Start 3 c.in-3.in-3-own.keys3
 
-returns-4 : tie.Need-returns-4
+pub returns-in-4 : goal.returns-in-4
 unfolding report_line
-returns-4 c = c.extreme-of4.ensures ∙ arm c.before.before 4 c.before.match.keys4
+returns-in-4 c = c.extreme_of-in-4.ensures ∙ arm (goal.at.returns-in-4 c).Start 4 c.in-4.in-4-own.keys4
 
-returns-5 : tie.Need-returns-5
+pub returns-in-5 : goal.returns-in-5
 unfolding report_line
-returns-5 c = c.extreme-of5.ensures ∙ arm c.before.before 5 c.before.match.keys5
+returns-in-5 c = c.extreme_of-in-5.ensures ∙ arm (goal.at.returns-in-5 c).Start 5 c.in-5.in-5-own.keys5
 
-returns-6 : tie.Need-returns-6
+pub returns-in-6 : goal.returns-in-6
 unfolding report_line
-returns-6 c = c.extreme-of6.ensures ∙ arm c.before.before 6 c.before.match.keys6
+returns-in-6 c = c.extreme_of-in-6.ensures ∙ arm (goal.at.returns-in-6 c).Start 6 c.in-6.in-6-own.keys6
 
-returns-7 : tie.Need-returns-7
-returns-7 c =
-    let a = c.before.before.args in
-    let r = c.before.match.rest in
+pub returns-in_default : goal.returns-in_default
+returns-in_default c =
+    let a = c.args in
+    let r = c.in_default.in_default-own.rest in
     let none = no_line a.year a.six a.line in
-    c.no-extreme.ensures
+    c.no_extreme.ensures
     ∙ none r.0.0.0.0.0.1 r.0.0.0.0.1 r.0.0.0.1 r.0.0.1 r.0.1 r.1
-
-pub line-of-spec : {M : Type 1} → statement M
-line-of-spec =
-    tie.close
-    (tie.spec (λ c κs. search rules) (λ c κs. search rules) (λ c κs. search rules) (λ c κs. search rules)
-    (λ c κs. search rules) (λ c κs. search rules) (λ c κs. search rules) returns returns-2 returns-3 returns-4
-    returns-5 returns-6 returns-7)
