@@ -1,6 +1,8 @@
 // The plain engine: every wind, every internal coefficient and every choice of alternatives in their order, each case
 // added up by itself, and of all of them the first that goes furthest. It takes jobs with few faces that have two
 // alternatives.
+#![tactic(auto)]
+
 ghost use Rattle.std.specs.Prelude.{◌≡◌};
 ghost use Rattle.job.specs.Walk.{judged, verdict};
 ghost use Rattle.plain.specs.Plain.{plain_of};
