@@ -1,5 +1,7 @@
 // The newton column of a job for one line of its report: whole newtons for each face that add up to the line's total,
 // rounded down. The faces may come as a lent list.
+#![tactic(auto)]
+
 ghost use Rattle.std.specs.Prelude.{◌≡◌};
 ghost use Rattle.page.specs.Writing.{buffer_after};
 ghost use Rattle.job.specs.Carried.{carried};

@@ -1,5 +1,5 @@
 -- What a line can be printed with. Only contracts of private functions cite it.
-use Rattle.std.specs.Prelude.{◌≡◌, true, List, [], ◌∷◌, ◌++◌, ℕ, ◌+◌, ◌≤◌, ◌<◌, ℤ, length, get_or}
+use Rattle.std.specs.Prelude.{◌≡◌, true, List, [], ◌∷◌, ◌++◌, ℕ, ◌≤◌, ◌<◌, ℤ, length, get_or}
 use Rattle.pair.specs.declared.Pair.{Pair}
 use Rattle.pair.specs.Total.{within_newtons}
 use Rattle.worst.specs.declared.Extreme.{Extreme}

@@ -1,4 +1,6 @@
 // The report: six lines, on each axis the greatest and the least total with the first case that reaches it.
+#![tactic(auto)]
+
 ghost use Rattle.std.specs.Prelude.{◌≡◌};
 ghost use Rattle.page.specs.Writing.{writing, buffer_after};
 ghost use Rattle.job.specs.Walk.{judged};

@@ -1,6 +1,8 @@
 // A worksheet: a job held while a student edits its faces, with the sums of its faces stored. Each edit answers its
 // refusal with the worksheet as it was, or the worksheet after it, whose sums are kept by the parts of the faces that
 // it takes out and puts in.
+#![tactic(auto)]
+
 ghost use Rattle.std.specs.Prelude.{◌≡◌};
 ghost use Rattle.sheet.specs.Sheet.{reading};
 ghost use Rattle.edits.specs.Edits.{Add, Replace, TakeOut};
