@@ -11,7 +11,7 @@ use Rattle.job.specs.InOrder.{InOrder}
 use Rattle.worst.specs.declared.Side.{Side}
 use Rattle.worst.specs.declared.Axis.{Axis}
 use Rattle.worst.specs.declared.Extreme.{Extreme}
-use Rattle.worst.specs.Cases.{Case, total, case_total, Permitted}
+use Rattle.worst.specs.Cases.{Case, case_total, Permitted}
 use Rattle.worst.specs.Forces.{Given, alternatives, force, wind_at, internal_at, loads}
 use Rattle.worst.specs.Shown.{padded, shown, total_in}
 use Rattle.worst.specs.Worst.{given, extreme}

@@ -19,7 +19,7 @@ use Rattle.worst.specs.declared.Axis.{Axis}
 use Rattle.worst.specs.declared.FaceForces.{FaceForces}
 use Rattle.worst.specs.declared.CellForces.{CellForces}
 use Rattle.worst.specs.declared.Extreme.{Extreme}
-use Rattle.worst.specs.Cases.{Case, total, Permitted}
+use Rattle.worst.specs.Cases.{Case, Permitted}
 use Rattle.worst.specs.Forces.{Given, alternatives, force, wind_at, internal_at, loads}
 use Rattle.worst.specs.Shown.{padded, total_in}
 use Rattle.worst.specs.Worst.{given, extreme, six_extremes}

@@ -1,6 +1,6 @@
 -- `forces::at_choice` meets its contract: a pass over the faces, each force behind those before it.
 use mathlib.Core.Path.{◌≡◌, sym, ◌∙◌}
-use Prim.Native.Nat.{ℕ, ◌-◌}
+use Prim.Native.Nat.{ℕ}
 use native.Mathlib.Omega.{arith}
 use lib.IntN.{ℤ, pos}
 use mathlib.Core.List.{List}

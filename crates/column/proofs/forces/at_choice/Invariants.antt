@@ -2,8 +2,6 @@
 use mathlib.Core.Path.{◌≡◌}
 use Prim.Native.Nat.{◌-◌, ◌≤◌}
 use lib.IntN.{pos}
-use mir.Syntax.{w64}
-use mir.Val.{to_z}
 use Rattle.whole.specs.Lists.{first_of}
 use Rattle.job.specs.Carried.{most_faces}
 use Rattle.worst.specs.PerFace.{no_face_forces}
@@ -16,7 +14,7 @@ abbrev pub invariant-loop-i : goal.invariant-loop-i
 invariant-loop-i l =
     (l.i ≤ l.faces)
     × (l.all.face ≡ first_of (pos 0) most_faces
-    (up_to (force_in (axis_of (to_z w64 l.line))) no_face_forces 0 l.forces.face l.alternative l.i))
+    (up_to (force_in (axis_of l.line)) no_face_forces 0 l.forces.face l.alternative l.i))
 
 abbrev pub decreases-loop-i : goal.decreases-loop-i
 decreases-loop-i l = l.faces - l.i
