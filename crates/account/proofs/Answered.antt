@@ -1,10 +1,9 @@
 -- The ways of an account: refused as the line is, refused for a face that the job has not, or the face's.
-use mathlib.Core.Path.{◌≡◌, refl, sym, ap, ◌∙◌}
+use mathlib.Core.Path.{◌≡◌, sym, ap, ◌∙◌}
 use mathlib.Core.Bool.{Bool, true, false, cond}
 use borrow.Author.Tests.{eq-eqb, ne_eqb}
 use lib.Dec.{eqb}
 use lib.IntN.{ℤ, pos, nat_abs}
-use lib.ListN.{length}
 use Rattle.verdict.specs.Verdict.{refusal, Refuses}
 use Rattle.building.specs.Test.{beyond}
 use Rattle.job.specs.declared.Job.{Job}

@@ -29,7 +29,6 @@ use Rattle.worst.proofs.Ranges.{pressure-small}
 use Rattle.worst.proofs.Rows.{ready}
 use Rattle.worst.proofs.FaceUnder.{face-numbered, under-numbered, under-counted}
 use Rattle.column.specs.Column.{number_on}
-use Rattle.account.specs.declared.coefficients.FaceCoefficients.{FaceCoefficients}
 use Rattle.account.specs.declared.steps.CaseOf.{CaseOf}
 use Rattle.account.specs.Coefficients.{outside_in, face_coefficients, no_coefficients}
 use Rattle.account.proofs.Case.{Numbers}

@@ -18,12 +18,12 @@ use Rattle.worst.specs.declared.Side.{Side}
 use Rattle.worst.specs.declared.Axis.{Axis}
 use Rattle.worst.specs.declared.Extreme as worst
 use Rattle.worst.specs.Shown.{padded}
-use Rattle.worst.specs.Forces.{Given, force, wind_at, internal_at}
+use Rattle.worst.specs.Forces.{force, wind_at, internal_at}
 use Rattle.worst.specs.Worst.{given, extreme, six_extremes, line_number}
 use Rattle.answers.specs.declared.Extreme.{Extreme}
 use Rattle.answers.specs.Answers.{host_extreme, host_line}
 use Rattle.sharing.specs.Column.{column}
-use Rattle.column.specs.Column.{at_choice, axis_of, forces_shown}
+use Rattle.column.specs.Column.{at_choice, forces_shown}
 use Rattle.column.proofs.OfCase as shows
 use Rattle.column.proofs.ReportLines.{axis-told, line-is, one-is}
 use Rattle.account.specs.Account.{face_account, no_account, account_on, account_of}

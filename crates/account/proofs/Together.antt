@@ -1,5 +1,5 @@
 -- The steps of one face come to its account.
-use mathlib.Core.Path.{◌≡◌, refl, sym, ap, ◌∙◌}
+use mathlib.Core.Path.{◌≡◌, refl, ap, ◌∙◌}
 use mathlib.Core.Bool.{Bool, true, false, cond}
 use Prim.Native.Nat.{ℕ, ◌-◌}
 use lib.IntN.{ℤ, pos, ◌*ℤ◌, zero-*ℤ}
@@ -11,7 +11,7 @@ use Rattle.entry.specs.declared.Wind.{Wind}
 use Rattle.entry.specs.declared.Face.{Face}
 use Rattle.job.specs.Carried.{Carried}
 use Rattle.worst.specs.declared.UnderWind.{UnderWind}
-use Rattle.worst.specs.Forces.{Given, acts, outsides, area, force, wind_at, internal_at, face_at}
+use Rattle.worst.specs.Forces.{Given, acts, outsides, area, wind_at, internal_at, face_at}
 use Rattle.worst.specs.Worst.{given}
 use Rattle.worst.specs.UnderWind.{under_wind}
 use Rattle.answers.specs.declared.Extreme.{Extreme}

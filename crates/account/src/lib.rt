@@ -1,5 +1,7 @@
 // The account of one face in the case of one report line: every step from the printed rows to the face's force, and its
 // newtons in the column.
+#![tactic(auto)]
+
 ghost use Rattle.std.specs.Prelude.{◌≡◌};
 ghost use Rattle.job.specs.Walk.{judged};
 ghost use Rattle.account.specs.Account.{no_account, account_of};
