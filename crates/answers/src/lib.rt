@@ -1,5 +1,7 @@
 // The records that a host program in C gets, as include/aralimogga.h lays them out, and how an answer is turned into
 // one. Each that can refuse begins with a verdict: its number and line are the first two fields in C.
+#![tactic(auto)]
+
 ghost use Rattle.std.specs.Prelude.{◌≡◌};
 ghost use Rattle.answers.specs.Answers.{no_host_text, host_text, host_cited, host_values, host_coefficient};
 ghost use Rattle.answers.specs.Answers.{host_double, no_host_extreme, host_units, host_extreme, host_line};

@@ -106,7 +106,7 @@ printed =
     ∷ gives 1 (shed 12000 12000 10000 4 603) 0 L1 (One (m 1499)) 5 6 1 200  -- P11
     ∷ pushes 1250 400 (pos 700) (pos 1000) (pos 140_000_000_000_000) (pos 7000)  -- P12
     ∷ reads "" 1 1
-    ∷ reads "B 1\n500 1200 1000 1250 0 0\n_w 1\n0 400\n_i 1\n0\n_f 25\n" 2 7
+    ∷ reads "B 1\n500 1200 1000 1250 0 0\nW 1\n0 400\nI 1\n0\nF 25\n" 2 7
     ∷ []
 
 -- row after row

@@ -33,7 +33,7 @@ use Rattle.report.specs.Lines.{spaced, total_text, extreme_text, axis_text, six_
 use Rattle.report.specs.Report.{report_text, totals_text}
 
 abbrev sheet : String
-sheet = "B 1\n500 1200 1000 1250 2 0\n_w 1\n0 400\n_i 2\n20\n-30\n_f 3\n_a 0 1000 0 0\n_b - -1000 0 0\n_f 0 0 0 -2000\n"
+sheet = "B 1\n500 1200 1000 1250 2 0\nW 1\n0 400\nI 2\n20\n-30\nF 3\nA 0 1000 0 0\nB - -1000 0 0\nF 0 0 0 -2000\n"
 
 abbrev lines : String
 lines =

@@ -79,21 +79,21 @@ job profile faces speed =
     }
 
 abbrev before : String
-before = "V 1\n2\n_b 1\n500 1200 1000 1250 0 0\n_w 1\n0 "
+before = "V 1\n2\nB 1\n500 1200 1000 1250 0 0\nW 1\n0 "
 
 -- faces D and C at one height, whose speeds are 0 under the first wind
 abbrev pub low : ℕ → Carried
 low = job (step 0 398 ∷ step 10 595 ∷ []) (face 68 0 (neg_ℤ (pos 3)) ∷ face 67 0 (neg_ℤ (pos 3)) ∷ [])
 
 abbrev pub low_sheet : String → String
-low_sheet speed = before & speed & "\n_i 1\n0\n_p 2\n0 398\n10 595\n_f 2\n_d - 0 -3 0 0\n_c - 0 -3 0 0\n"
+low_sheet speed = before & speed & "\nI 1\n0\nP 2\n0 398\n10 595\nF 2\nD - 0 -3 0 0\nC - 0 -3 0 0\n"
 
 -- faces D and B at two heights
 abbrev pub two : ℕ → Carried
 two = job (step 0 774 ∷ step 10 580 ∷ []) (face 68 0 (neg_ℤ (pos 1)) ∷ face 66 9 (pos 2) ∷ [])
 
 abbrev pub two_sheet : String → String
-two_sheet speed = before & speed & "\n_i 1\n0\n_p 2\n0 774\n10 580\n_f 2\n_d - 0 -1 0 0\n_b - 9 2 0 0\n"
+two_sheet speed = before & speed & "\nI 1\n0\nP 2\n0 774\n10 580\nF 2\nD - 0 -1 0 0\nB - 9 2 0 0\n"
 
 -- ---- what is shown on x, computed over every case
 

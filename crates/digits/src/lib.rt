@@ -1,4 +1,6 @@
 // Numbers written in decimal.
+#![tactic(auto)]
+
 ghost use Rattle.std.specs.Prelude.{◌≡◌, length};
 ghost use Rattle.page.specs.Writing.{Put, writing, buffer_after};
 ghost use Rattle.whole.specs.Digits.{digits, decimal};

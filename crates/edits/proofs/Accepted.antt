@@ -1,7 +1,7 @@
 -- An edit that is not refused leaves a job that is accepted, and what its sheet carries is what was carried with its
 -- faces edited.
 use mathlib.Core.Path.{◌≡◌, refl, sym, ap, ap₂, ◌∙◌, subst}
-use mathlib.Core.Logic.{◌⊎◌, inl, inr, ⊎_elim}
+use mathlib.Core.Logic.{inl, inr, ⊎_elim}
 use mathlib.Core.Bool.{Bool, true, false, true≢false}
 use mathlib.Core.List.{List, [], ◌∷◌, ◌++◌, map}
 use Prim.Native.Nat.{ℕ, ◌+◌, ◌-◌, ◌≤◌}
@@ -18,7 +18,6 @@ use Rattle.whole.proofs.Lists.{first_of-take, first_of-get_d}
 use Rattle.whole.proofs.Pieces.{every_append, every_first, every_rest, map-append, first_of-front}
 use Rattle.whole.proofs.TakenOut.{every-take_out, take_out-length}
 use Rattle.building.specs.Year.{has_heights, face_limit}
-use Rattle.building.proofs.Accepted as range
 use Rattle.rules.specs.declared.Section.TheVariants.{F}
 use Rattle.rules.specs.declared.Kind.TheVariants.{Entry}
 use Rattle.rules.specs.Sections.{line_fault}

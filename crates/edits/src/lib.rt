@@ -1,5 +1,7 @@
 // An edit of a job: a face added, replaced or taken out. Each answers its refusal with the job as it was, or the job
 // after it.
+#![tactic(auto)]
+
 ghost use Rattle.std.specs.Prelude.{◌≡◌};
 ghost use Rattle.edits.specs.Edits.{Add, Replace, TakeOut, edited_job};
 

@@ -1,5 +1,7 @@
 // The entries of a sheet beside the building, as records; and what the fields of a line say as an entry.
 // Numbers have 64 bits, so that no number of a host program is cut.
+#![tactic(auto)]
+
 pub mod says;
 
 // A wind: its direction in degrees and its speed in 0.1 m/s.

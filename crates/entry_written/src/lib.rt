@@ -1,4 +1,6 @@
 // An entry as a line of fields.
+#![tactic(auto)]
+
 ghost use Rattle.std.specs.Prelude.{◌≡◌, true, false, [], ◌∷◌};
 ghost use Rattle.lines.specs.Held.{slot, held_line};
 ghost use Rattle.entry_written.specs.Fields.{number_field, mark_field, building_fields, wind_fields};

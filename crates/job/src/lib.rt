@@ -1,4 +1,6 @@
 // The job: a year, and a building with its winds, internal coefficients, profile and faces, as a record by value.
+#![tactic(auto)]
+
 ghost use Rattle.std.specs.Prelude.{◌≡◌, length};
 ghost use Rattle.job.specs.Carried.{carried, no_face};
 ghost use Rattle.job.specs.Lines.{entries_of};

@@ -1,4 +1,6 @@
 // Fields and lines of fields written.
+#![tactic(auto)]
+
 ghost use Rattle.std.specs.Prelude.{[], ◌∷◌};
 ghost use Rattle.lines.specs.Lines.{field_text, line_text, text_of_lines};
 ghost use Rattle.lines.specs.Held.{held};

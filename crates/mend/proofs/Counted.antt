@@ -55,14 +55,18 @@ tally-bound z b (suc f) i h k y e = rw (e, some-kind f) (omega arith, omega arit
 pub tallied-kept : (z : Tally) (fs : List Fate) → (tallied z fs).kept ≡ z.kept + length (left fs)
 unfolding tallied left
 tallied-kept z [] = omega arith
-tallied-kept z (stays b ∷ fs) = tallied-kept _ fs ∙ omega arith
-tallied-kept z (goes k b ∷ fs) = tallied-kept _ fs
+tallied-kept z (stays b ∷ fs) =
+    tallied-kept (record { kept = z.kept + 1; taken = z.taken; last = b }) fs ∙ omega arith
+tallied-kept z (goes k b ∷ fs) =
+    tallied-kept (record { kept = z.kept; taken = z.taken + 1; last = z.last }) fs
 
 pub tallied-last : (z : Tally) (fs : List Fate) → (tallied z fs).last ≡ final z.last (left fs)
 unfolding tallied left final
 tallied-last z [] = refl
-tallied-last z (stays b ∷ fs) = tallied-last _ fs
-tallied-last z (goes k b ∷ fs) = tallied-last _ fs
+tallied-last z (stays b ∷ fs) =
+    tallied-last (record { kept = z.kept + 1; taken = z.taken; last = b }) fs
+tallied-last z (goes k b ∷ fs) =
+    tallied-last (record { kept = z.kept; taken = z.taken + 1; last = z.last }) fs
 
 -- a change for each byte that goes, and for an end
 pub tallied-listed : (added : Bool) (z : Tally) (line place : ℕ) (fs : List Fate)

@@ -1,5 +1,7 @@
 // A sheet mended: the slips of the keyboard taken out, each change listed, and what the mended sheet is told. The text
 // is gone over twice, to count and then to write, so that nothing is written where there is no room.
+#![tactic(auto)]
+
 ghost use Rattle.std.specs.Prelude.{◌≡◌};
 ghost use Rattle.mend.specs.Mending.{no_room, mending_of, text_after, list_after};
 

@@ -91,10 +91,11 @@ module _ (v : Verdict) where
   so-far (x ∷ s) p count cell =
       by-test (eqb x 10)
       (λ t.
-      rw (t, append-nil, line-says p)
+      rw (t, line-says p)
       (after_line s p count cell
       (λ m c. so-far s [] m c ∙ ap (so_far (open_rose v m c no_bytes)) (behind-none s)) (line_says (fields_of p))
-      ∙ sym (so_far_more (open_rose v count cell no_bytes) p s)))
+      ∙ sym (so_far_more (open_rose v count cell no_bytes) p s)
+      ∙ ap (λ (q : List ℕ). so_far (open_rose v count cell no_bytes) (q ∷ split 10 s)) (sym (append-nil p))))
       (λ t.
       rw t
       (ap (λ (h : Pending). part_taken (open_rose v count cell h) s) (line-one p x)

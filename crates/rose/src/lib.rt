@@ -1,5 +1,7 @@
 // A wind rose: observations counted by sector and Beaufort number. Their file comes in parts, which are taken one
 // after the other from a new rose on, and then its end.
+#![tactic(auto)]
+
 ghost use Rattle.std.specs.Prelude.{◌≡◌};
 ghost use Rattle.rose.specs.Rose.{no_lines, refused_at};
 ghost use Rattle.rose.specs.Taken.{part_taken, end_taken};

@@ -1,4 +1,6 @@
 // The form of a line, the faults of an entry, and the lowest fault of a line.
+#![tactic(auto)]
+
 use building::Building;
 
 pub mod entries;

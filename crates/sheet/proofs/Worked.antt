@@ -29,36 +29,36 @@ case text number line = record { text = text; number = number; line = line }
 
 -- paper 01's sheet up to its faces, and its faces; and a small sheet around one line of each kind
 abbrev start : String
-start = "B 1\n500 1200 1000 1250 2 0\n_w 1\n0 400\n_i 2\n20\n-30\n_f 3\n"
+start = "B 1\n500 1200 1000 1250 2 0\nW 1\n0 400\nI 2\n20\n-30\nF 3\n"
 
 abbrev faces : String
-faces = "A 0 1000 0 0\n_b - -1000 0 0\n_f 0 0 0 -2000\n"
+faces = "A 0 1000 0 0\nB - -1000 0 0\nF 0 0 0 -2000\n"
 
 abbrev building : String → String
-building line = "B 1\n" & line & "\n_w 1\n0 400\n_i 1\n0\n_f 1\n_a 0 1 0 0\n"
+building line = "B 1\n" & line & "\nW 1\n0 400\nI 1\n0\nF 1\nA 0 1 0 0\n"
 
 abbrev count : String → String
-count line = "B 1\n500 1200 1000 1250 2 0\n" & line & "\n0 400\n_i 1\n0\n_f 1\n_a 0 1 0 0\n"
+count line = "B 1\n500 1200 1000 1250 2 0\n" & line & "\n0 400\nI 1\n0\nF 1\nA 0 1 0 0\n"
 
 abbrev wind : String → String
-wind line = "B 1\n500 1200 1000 1250 2 0\n_w 1\n" & line & "\n_i 1\n0\n_f 1\n_a 0 1 0 0\n"
+wind line = "B 1\n500 1200 1000 1250 2 0\nW 1\n" & line & "\nI 1\n0\nF 1\nA 0 1 0 0\n"
 
 abbrev face : String → String
-face line = "B 1\n500 1200 1000 1250 2 0\n_w 1\n0 400\n_i 1\n0\n_f 1\n" & line & "\n"
+face line = "B 1\n500 1200 1000 1250 2 0\nW 1\n0 400\nI 1\n0\nF 1\n" & line & "\n"
 
 -- a sheet of year 2: up to its profile, around the lines of its profile, and around one face line
 abbrev tall : String → String
-tall year = "V 1\n" & year & "\n_b 1\n500 1200 1000 1250 2 0\n_w 1\n0 400\n_i 1\n0\n"
+tall year = "V 1\n" & year & "\nB 1\n500 1200 1000 1250 2 0\nW 1\n0 400\nI 1\n0\n"
 
 abbrev profile : String → String
-profile lines = tall "2" & lines & "F 1\n_a 0 600 1 0 0\n"
+profile lines = tall "2" & lines & "F 1\nA 0 600 1 0 0\n"
 
 abbrev high : String → String
-high line = tall "2" & "P 2\n100 800\n1200 1000\n_f 1\n" & line & "\n"
+high line = tall "2" & "P 2\n100 800\n1200 1000\nF 1\n" & line & "\n"
 
 -- of that year, up to a building with these sides
 abbrev plan : String → String → String
-plan year sides = "V 1\n" & year & "\n_b 1\n500 " & sides & " 1250 2 0\n"
+plan year sides = "V 1\n" & year & "\nB 1\n500 " & sides & " 1250 2 0\n"
 
 -- the longest sheet
 abbrev times : ℕ → String → String
@@ -67,7 +67,7 @@ times (suc n) s = s & times n s
 
 abbrev longest : String
 longest =
-    "V 1\n2\n_b 1\n30000 30000 10000 1000 4 6000\n_w 8\n"
+    "V 1\n2\nB 1\n30000 30000 10000 1000 4 6000\nW 8\n"
     & times 8 "90 1000\n"
     & "I 4\n"
     & times 4 "-100\n"
@@ -90,7 +90,7 @@ cases =
     ∷ case "B 2" 1 1
     ∷ case "B 2\n" 2 1
     ∷ case start 1 9
-    ∷ case (start & "A 0 1000 0 0\n_b - -1000 0 0\n_f 0 0 0 -2000") 1 11
+    ∷ case (start & "A 0 1000 0 0\nB - -1000 0 0\nF 0 0 0 -2000") 1 11
     ∷ case (start & faces & "\n") 1 12
     ∷ case (start & faces & " ") 1 12
     ∷ case (start & faces & "A 0 0 0 0\n") 1 12
@@ -154,14 +154,14 @@ cases =
     ∷ case (plan "3" "999 1000") 4 4
     ∷ case (plan "2" "1001 1000") 1 5
     -- and at most 24 faces up to year 3, and 240 in year 4
-    ∷ case (tall "2" & "P 1\n600 500\n_f 25\n") 2 11
-    ∷ case (tall "3" & "P 1\n600 500\n_f 25\n") 2 11
-    ∷ case (tall "3" & "P 1\n600 500\n_f 24\n") 1 12
-    ∷ case (tall "4" & "P 1\n600 500\n_f 25\n") 1 12
-    ∷ case (tall "4" & "P 1\n600 500\n_f 240\n") 1 12
-    ∷ case (tall "4" & "P 1\n600 500\n_f 241\n") 2 11
+    ∷ case (tall "2" & "P 1\n600 500\nF 25\n") 2 11
+    ∷ case (tall "3" & "P 1\n600 500\nF 25\n") 2 11
+    ∷ case (tall "3" & "P 1\n600 500\nF 24\n") 1 12
+    ∷ case (tall "4" & "P 1\n600 500\nF 25\n") 1 12
+    ∷ case (tall "4" & "P 1\n600 500\nF 240\n") 1 12
+    ∷ case (tall "4" & "P 1\n600 500\nF 241\n") 2 11
     -- it has a profile, whose heights rise
-    ∷ case (tall "2" & "F 1\n_a 0 600 1 0 0\n") 1 9
+    ∷ case (tall "2" & "F 1\nA 0 600 1 0 0\n") 1 9
     ∷ case (profile "P 0\n") 2 9
     ∷ case (profile "P 17\n") 2 9
     ∷ case (profile "P 1\n600 500\n") 0 0

@@ -1,4 +1,6 @@
 // The sheet of a job: its text read, into a record or without one.
+#![tactic(auto)]
+
 mod empty;
 mod faces; // the faces, as long as they are plain
 mod flat;

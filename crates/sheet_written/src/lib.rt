@@ -1,4 +1,6 @@
 // A job written: its own refusal first, and then its text put into the lent buffer.
+#![tactic(auto)]
+
 ghost use Rattle.std.specs.Prelude.{◌≡◌, ◌≤◌, length};
 ghost use Rattle.lines.specs.Lines.{text_of_lines};
 ghost use Rattle.page.specs.Writing.{Put};

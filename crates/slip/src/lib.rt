@@ -1,4 +1,6 @@
 // Where the first fault of a sheet lies, and what may stand there.
+#![tactic(auto)]
+
 ghost use Rattle.std.specs.Prelude.{◌≡◌, ◌+◌, ◌≤◌, ◌<◌, length, drop};
 ghost use Rattle.lines.specs.Lines.{fields_of};
 ghost use Rattle.lines.specs.Held.{until};

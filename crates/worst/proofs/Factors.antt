@@ -54,7 +54,8 @@ none-stand n profile fs parts wholes p w =
     }
 
 module _ (n : ℕ) (profile : List Step) (fs : List Face) (i : ℕ) (parts wholes : List ℤ) (k : Factor)
-    (was : FirstStand n profile fs i parts wholes) (room : i < n) (e : k ≡ factor_of profile (get_or fs i no_face)) where
+    (was : FirstStand n profile fs i parts wholes) (room : i < n)
+    (e : k ≡ factor_of profile (get_or fs i no_face)) where
   abbrev Stands : ℕ → Type 0
   Stands m = factor_in (set parts i k.part) (set wholes i k.whole) m ≡ factor_of profile (get_or fs m no_face)
 

@@ -140,6 +140,7 @@ module _ (j : Job) (o : InOrder (carried j)) where
       }
 
   -- and past the counts nothing is stored
-  pub past-counts : (k : ℕ) → k < stored_cells → counts g k ≡ false → get_or (stored_of (carried j)).cell k no_cell ≡ no_cell
+  pub past-counts : (k : ℕ) → k < stored_cells → counts g k ≡ false
+      → get_or (stored_of (carried j)).cell k no_cell ≡ no_cell
   unfolding stored_of
   past-counts k t e = cells_at (sums_at g) k t ∙ rw e

@@ -1,6 +1,7 @@
 -- The engine's table of outside coefficients: a place for each direction and zone, filled when a face first asks.
 -- Only contracts of private functions cite it.
-use Rattle.std.specs.Prelude.{◌≡◌, Bool, true, false, List, ℕ, ◌+◌, ◌-◌, ◌*◌, ◌/◌, ◌%◌, ◌≤◌, ℤ, pos, nat_abs, length, get_or}
+use Rattle.std.specs.Prelude.{◌≡◌, Bool, true, false, List, length, get_or}
+use Rattle.std.specs.Prelude.{ℕ, ℤ, pos, nat_abs, ◌+◌, ◌-◌, ◌*◌, ◌/◌, ◌%◌, ◌≤◌}
 use Rattle.building.specs.declared.Building.{Building}
 use Rattle.building.specs.Year.{last_year}
 use Rattle.building.specs.Places.{A, E, H}

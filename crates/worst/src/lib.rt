@@ -1,5 +1,7 @@
 // The worst cases of a job: on each axis the greatest and the least total over every permitted case, with the first
 // case that reaches it.
+#![tactic(auto)]
+
 ghost use Rattle.std.specs.Prelude.{◌≡◌};
 ghost use Rattle.job.specs.Walk.{judged};
 ghost use Rattle.sheet.specs.Sheet.{reading};

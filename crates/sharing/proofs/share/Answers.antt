@@ -1,7 +1,7 @@
 -- `share` meets its contract: after as many turns as `face`, the list holds the first so many entries.
 use mathlib.Core.Path.{◌≡◌, refl, ap, ◌∙◌}
 use mathlib.Core.List.{List}
-use Prim.Native.Nat.{◌-◌, ◌≤◌}
+use Prim.Native.Nat.{◌≤◌}
 use native.Mathlib.Omega.{arith}
 use borrow.Author.Tests.{le-leb, lt-leb}
 use lib.IntN.{ℤ}
@@ -42,16 +42,16 @@ loop-face-init c = (omega arith, refl)
 
 pub bounds-list-face : goal.bounds-list-face
 bounds-list-face c =
-    let at_loop_face = (goal.at.bounds-list-face c).At-loop-face in
-    omega (arith, same at_loop_face, room at_loop_face)
+    let d = (goal.at.bounds-list-face c).At-loop-face in
+    omega (arith, same d, room d)
 
 pub loop-face-preserved : goal.loop-face-preserved
 loop-face-preserved c =
-    let at_loop_face = (goal.at.loop-face-preserved c).At-loop-face in
+    let d = (goal.at.loop-face-preserved c).At-loop-face in
     let value = (returned w64 c.share_of.result c.share_of.type_inv).same ∙ c.share_of.ensures in (
       omega arith,
       (λ k. set (c.loop-face.invariant.1 k) c.loop-face.face (value k))
-          ∙ pasted-next (fs at_loop_face) (old at_loop_face) (room at_loop_face) c.loop-face.face c.loop-face-test.true,
+          ∙ pasted-next (fs d) (old d) (room d) c.loop-face.face c.loop-face-test.true,
     )
 
 pub shape_of-list : goal.shape_of-list
@@ -59,8 +59,10 @@ shape_of-list c = same (goal.at.shape_of-list c).At-loop-face
 
 pub returns : goal.returns
 returns c =
-    let at_loop_face = (goal.at.returns c).At-loop-face in
-    let all : c.loop-face.face ≡ length (fs at_loop_face) = omega arith in (
-      simp (le-leb (length (fs at_loop_face)) (length (old at_loop_face)) (room at_loop_face)),
-      c.loop-face.invariant.1 ∙ ap (pasted (fs at_loop_face) (old at_loop_face)) all ∙ pasted-all (fs at_loop_face) (old at_loop_face) (room at_loop_face),
+    let d = (goal.at.returns c).At-loop-face in
+    let all : c.loop-face.face ≡ length (fs d) = omega arith in (
+      simp (le-leb (length (fs d)) (length (old d)) (room d)),
+      c.loop-face.invariant.1
+          ∙ ap (pasted (fs d) (old d)) all
+          ∙ pasted-all (fs d) (old d) (room d),
     )

@@ -1,16 +1,20 @@
 -- `missing::missing_newtons` meets its contract: the newtons counted, what is past them and the remainders still to
 -- come are all the remainders.
 use mathlib.Core.Path.{◌≡◌, sym, ap, ◌∙◌}
-use mathlib.Core.Logic.{⊎_elim}
-use Prim.Native.Nat.{◌-◌}
 use native.Mathlib.Omega.{arith}
+use borrow.Author.Rules.{rules}
 use lib.IntN.{ℤ, pos}
 use Rattle.whole.specs.Newton.{remainder}
 use Rattle.whole.proofs.Newton.{remainder-small}
 use Rattle.whole.proofs.Size.{said}
 use Rattle.sharing.specs.Column.{own_force}
-use Rattle.sharing.proofs.Remainders.{remainders, lacking, missing-is, remainders-step, remainders-end}
-use Rattle.sharing.proofs.missing.missing_newtons.Goals.{After-remainder-past, At-loop-i}
+use Rattle.sharing.proofs.Remainders.{lacking, missing-is, remainders-step, remainders-end}
+use Rattle.sharing.proofs.missing.missing_newtons.Goals.{
+  After-remainder-past,
+  At-loop-i,
+  then-past-ge20000000000,
+  else-past-ge20000000000,
+}
 use Rattle.sharing.proofs.missing.missing_newtons.Goals as goal
 
 -- the remainder of the next force
@@ -22,10 +26,21 @@ module _ (c : After-remainder-past) where
   next = own_force l.args.forces.now l.loop-i.i
 
   taken : c.remainder-past.result ≡ remainder next
-  taken = said remainder next c.remainder-past.ensures c.remainder-arg-1.given
+  taken = said remainder next c.remainder-past.ensures (search rules)
 
 pub overflow_add-past : goal.overflow_add-past
 overflow_add-past c = record { fits = omega (arith, taken c, remainder-small (next c)) }
+
+pub loop-i-preserved : goal.loop-i-preserved
+loop-i-preserved c =
+    let d = (goal.at.loop-i-preserved c).After-remainder-past in
+    let e = taken d in
+    let small = remainder-small (next d) in
+    let step = remainders-step c.args.forces.now c.loop-i.i (omega arith) in
+    elim c.if-past-ge20000000000.branch [
+      | then-past-ge20000000000 w ↦ (omega arith, omega arith, omega arith, omega arith)
+      | else-past-ge20000000000 w ↦ (omega arith, omega arith, omega arith, omega arith)
+    ]
 
 pub returns : goal.returns
 returns c =

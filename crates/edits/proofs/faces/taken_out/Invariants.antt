@@ -1,0 +1,15 @@
+-- `faces::taken_out`: what is still to be moved, moved, is the list without the face that is taken out.
+use mathlib.Core.Path.{◌≡◌}
+use Prim.Native.Nat.{◌+◌, ◌-◌, ◌≤◌}
+use lib.ListN.{length}
+use Rattle.job.specs.Carried.{no_face, most_faces}
+use Rattle.whole.proofs.Moved.{moved}
+use Rattle.edits.proofs.faces.taken_out.Given as goal
+
+abbrev pub invariant-loop-i : goal.invariant-loop-i
+invariant-loop-i l =
+    (l.i ≤ l.last) × (l.last + 1 ≡ l.initial.r.count) × (length l.r.entry ≡ most_faces) × (l.r.count ≡ l.initial.r.count)
+    × (moved no_face (l.last + 1) l.i l.r.entry ≡ moved no_face (l.last + 1) (l.k - 1) l.initial.r.entry)
+
+abbrev pub decreases-loop-i : goal.decreases-loop-i
+decreases-loop-i l = l.last - l.i

@@ -1,0 +1,16 @@
+-- `building_of` meets its contract.
+use mathlib.Core.Path.{◌∙◌}
+use mir.Syntax.{w64}
+use Rattle.whole.proofs.Size.{returned}
+use Rattle.entry.proofs.says.building_of.Goals as goal
+
+pub returns : goal.returns
+returns c =
+    rw (
+      (returned w64 _ c.number_at.type_inv).same ∙ c.number_at.ensures,
+      (returned w64 _ c.number_at-2.type_inv).same ∙ c.number_at-2.ensures,
+      (returned w64 _ c.number_at-3.type_inv).same ∙ c.number_at-3.ensures,
+      (returned w64 _ c.number_at-4.type_inv).same ∙ c.number_at-4.ensures,
+      (returned w64 _ c.number_at-5.type_inv).same ∙ c.number_at-5.ensures,
+      (returned w64 _ c.number_at-6.type_inv).same ∙ c.number_at-6.ensures,
+    )

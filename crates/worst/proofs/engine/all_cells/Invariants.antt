@@ -1,0 +1,23 @@
+-- `engine::all_cells` meets its contract: after w winds the cells stand up to those of the next.
+use mathlib.Core.List.{List}
+use Prim.Native.Nat.{ℕ, ◌-◌, ◌*◌, ◌≤◌}
+use Rattle.entry.specs.declared.Step.{Step}
+use Rattle.worst.specs.declared.StoredCell.{StoredCell}
+use Rattle.worst.specs.Table.{Filled}
+use Rattle.worst.specs.Stored.{stored_cells}
+use Rattle.worst.specs.Engine.{UpTo}
+use Rattle.worst.specs.Factors.{FactorsStand}
+use Rattle.worst.specs.Lent.{faces_by}
+use Rattle.worst.proofs.JobSums.{CellsReckoned}
+use Rattle.worst.proofs.engine.all_cells.Given as goal
+
+abbrev pub invariant-loop-w : goal.invariant-loop-w
+invariant-loop-w l =
+    (l.w ≤ l.count) × Filled l.b l.asked l.first l.last
+    × ((profile : List Step) → FactorsStand profile (faces_by l.faces l.flat) l.parts l.wholes → (h : ℕ → StoredCell)
+    → CellsReckoned l.b profile l.winds l.internals (faces_by l.faces l.flat) h
+    → UpTo stored_cells h (4 * l.w) l.stored.cell)
+
+abbrev pub decreases-loop-w : goal.decreases-loop-w
+decreases-loop-w l =
+    l.count - l.w
