@@ -1,5 +1,5 @@
-// The entry points for a host program in C (include/aralimogga.h). None trusts its caller, and none keeps anything
-// between calls.
+// The entry points for a host program in C (include/aralimogga.h), which `aralimogga_c` exports. None trusts its
+// caller, and none keeps anything between calls.
 ghost use Rattle.std.specs.Prelude.{◌≡◌};
 ghost use Rattle.whole.specs.Digits.{decimal};
 ghost use Rattle.page.specs.Writing.{writing, buffer_after};
@@ -37,24 +37,21 @@ use worksheet::{Edited, Worksheet};
 // ---- about a sheet
 
 // Whether the sheet is accepted.
-#[unsafe(no_mangle)]
-pub extern "C" fn aral_read(sheet: &[u8]) -> Verdict
+pub fn aral_read(sheet: &[u8]) -> Verdict
     ensures { result ≡ verdict (reading sheet.now) }
 {
     sheet::read::verdict_of(sheet)
 }
 
 // Where its first fault lies, and what may stand there.
-#[unsafe(no_mangle)]
-pub extern "C" fn aral_where(sheet: &[u8]) -> Slip
+pub fn aral_where(sheet: &[u8]) -> Slip
     ensures { result ≡ slip_of sheet.now }
 {
     slip::slip_of(sheet)
 }
 
 // The sheet read, and written again.
-#[unsafe(no_mangle)]
-pub extern "C" fn aral_rewrite(sheet: &[u8], out: &mut [u8]) -> answers::Text
+pub fn aral_rewrite(sheet: &[u8], out: &mut [u8]) -> answers::Text
     ensures { (result ≡ host_text (job_writing sheet_text (reading sheet.now) out.old))
         × (out.new ≡ job_buffer sheet_text (reading sheet.now) out.old) }
 {
@@ -66,8 +63,7 @@ pub extern "C" fn aral_rewrite(sheet: &[u8], out: &mut [u8]) -> answers::Text
 }
 
 // Its report.
-#[unsafe(no_mangle)]
-pub extern "C" fn aral_report(sheet: &[u8], out: &mut [u8]) -> answers::Text
+pub fn aral_report(sheet: &[u8], out: &mut [u8]) -> answers::Text
     ensures { (result ≡ host_text (job_writing report_text (reading sheet.now) out.old))
         × (out.new ≡ job_buffer report_text (reading sheet.now) out.old) }
 {
@@ -75,8 +71,7 @@ pub extern "C" fn aral_report(sheet: &[u8], out: &mut [u8]) -> answers::Text
 }
 
 // Its report by the plain engine, which walks every case.
-#[unsafe(no_mangle)]
-pub extern "C" fn aral_plain(sheet: &[u8], out: &mut [u8]) -> answers::Text
+pub fn aral_plain(sheet: &[u8], out: &mut [u8]) -> answers::Text
     ensures { (result ≡ host_text (job_writing report_text (plainly (reading sheet.now)) out.old))
         × (out.new ≡ job_buffer report_text (plainly (reading sheet.now)) out.old) }
 {
@@ -88,8 +83,7 @@ pub extern "C" fn aral_plain(sheet: &[u8], out: &mut [u8]) -> answers::Text
 }
 
 // The sheet mended: its text into `out`, and into `list` three numbers for each change, line, kind and place.
-#[unsafe(no_mangle)]
-pub extern "C" fn aral_mend(sheet: &[u8], out: &mut [u8], list: &mut [u64]) -> Mending
+pub fn aral_mend(sheet: &[u8], out: &mut [u8], list: &mut [u64]) -> Mending
     ensures { (result ≡ mending_of sheet.now out.old list.old)
         × (out.new ≡ text_after sheet.now out.old list.old)
         × (list.new ≡ list_after sheet.now out.old list.old) }
@@ -98,8 +92,7 @@ pub extern "C" fn aral_mend(sheet: &[u8], out: &mut [u8], list: &mut [u64]) -> M
 }
 
 // One line of its report: 1 is x max, 2 x min, up to 6, z min.
-#[unsafe(no_mangle)]
-pub extern "C" fn aral_total(sheet: &[u8], line: i64) -> answers::Extreme
+pub fn aral_total(sheet: &[u8], line: i64) -> answers::Extreme
     ensures { result ≡ host_total (reading sheet.now) line }
 {
     let w = worst::worst_in(sheet);
@@ -110,8 +103,7 @@ pub extern "C" fn aral_total(sheet: &[u8], line: i64) -> answers::Extreme
 }
 
 // The account of one face, from 1, in the case of such a line.
-#[unsafe(no_mangle)]
-pub extern "C" fn aral_share(sheet: &[u8], line: i64, face: i64) -> Account
+pub fn aral_share(sheet: &[u8], line: i64, face: i64) -> Account
     ensures { result ≡ account_of (reading sheet.now) line face }
 {
     let shared = sheet::read::read_sheet(sheet);
@@ -124,37 +116,32 @@ pub extern "C" fn aral_share(sheet: &[u8], line: i64, face: i64) -> Account
 // ---- a worksheet
 
 // The sheet, opened.
-#[unsafe(no_mangle)]
-pub extern "C" fn aral_open(sheet: &[u8]) -> Edited
+pub fn aral_open(sheet: &[u8]) -> Edited
     ensures { result ≡ opened (reading sheet.now) }
 {
     worksheet::open(sheet)
 }
 
-#[unsafe(no_mangle)]
-pub extern "C" fn aral_add(w: Worksheet, f: Face) -> Edited
+pub fn aral_add(w: Worksheet, f: Face) -> Edited
     ensures { result ≡ edited (Add f) w }
 {
     worksheet::add(w, f)
 }
 
-#[unsafe(no_mangle)]
-pub extern "C" fn aral_replace(w: Worksheet, face: i64, f: Face) -> Edited
+pub fn aral_replace(w: Worksheet, face: i64, f: Face) -> Edited
     ensures { result ≡ edited (Replace face f) w }
 {
     worksheet::replace(w, face, f)
 }
 
-#[unsafe(no_mangle)]
-pub extern "C" fn aral_take_out(w: Worksheet, face: i64) -> Edited
+pub fn aral_take_out(w: Worksheet, face: i64) -> Edited
     ensures { result ≡ edited (TakeOut face) w }
 {
     worksheet::take_out(w, face)
 }
 
 // Its six lines, which its sums tell.
-#[unsafe(no_mangle)]
-pub extern "C" fn aral_show(w: Worksheet, out: &mut [u8]) -> answers::Text
+pub fn aral_show(w: Worksheet, out: &mut [u8]) -> answers::Text
     ensures { (result ≡ host_text (job_writing (stored_text w.sums) (judged w.job) out.old))
         × (out.new ≡ job_buffer (stored_text w.sums) (judged w.job) out.old) }
 {
@@ -162,8 +149,7 @@ pub extern "C" fn aral_show(w: Worksheet, out: &mut [u8]) -> answers::Text
 }
 
 // Its sheet.
-#[unsafe(no_mangle)]
-pub extern "C" fn aral_write(w: Worksheet, out: &mut [u8]) -> answers::Text
+pub fn aral_write(w: Worksheet, out: &mut [u8]) -> answers::Text
     ensures { (result ≡ host_text (job_writing sheet_text (judged w.job) out.old))
         × (out.new ≡ job_buffer sheet_text (judged w.job) out.old) }
 {
@@ -173,8 +159,7 @@ pub extern "C" fn aral_write(w: Worksheet, out: &mut [u8]) -> answers::Text
 // ---- a list of faces
 
 // The newton column of a line of the report, for the job of a setting with these faces.
-#[unsafe(no_mangle)]
-pub extern "C" fn aral_column(s: Setting, faces: &[Face], line: i64, column: &mut [i64]) -> Verdict
+pub fn aral_column(s: Setting, faces: &[Face], line: i64, column: &mut [i64]) -> Verdict
     ensures { (result ≡ column_verdict (judged_with s faces.now) line column.old)
         × (column.new ≡ column_after (judged_with s faces.now) line column.old) }
 {
@@ -185,24 +170,21 @@ pub extern "C" fn aral_column(s: Setting, faces: &[Face], line: i64, column: &mu
 // ---- a wind rose
 
 // A rose of no lines.
-#[unsafe(no_mangle)]
-pub extern "C" fn aral_rose_new() -> Rose
+pub fn aral_rose_new() -> Rose
     ensures { result ≡ no_lines }
 {
     rose::new()
 }
 
 // The next part of the file of observations.
-#[unsafe(no_mangle)]
-pub extern "C" fn aral_rose_take(r: Rose, part: &[u8]) -> Rose
+pub fn aral_rose_take(r: Rose, part: &[u8]) -> Rose
     ensures { result ≡ part_taken r part.now }
 {
     rose::take(r, part)
 }
 
 // Its end.
-#[unsafe(no_mangle)]
-pub extern "C" fn aral_rose_end(r: Rose) -> Rose
+pub fn aral_rose_end(r: Rose) -> Rose
     ensures { result ≡ end_taken r }
 {
     rose::end(r)
@@ -210,8 +192,7 @@ pub extern "C" fn aral_rose_end(r: Rose) -> Rose
 
 // ---- about one place of a building
 
-#[unsafe(no_mangle)]
-pub extern "C" fn aral_outside(
+pub fn aral_outside(
     year: i64,
     h: i64,
     a: i64,
@@ -237,8 +218,7 @@ pub extern "C" fn aral_outside(
     answers::coefficient_of(book::outside(d, direction, place))
 }
 
-#[unsafe(no_mangle)]
-pub extern "C" fn aral_net(
+pub fn aral_net(
     year: i64,
     h: i64,
     a: i64,
@@ -269,8 +249,7 @@ pub extern "C" fn aral_net(
 // ---- about numbers
 
 // A number in decimal.
-#[unsafe(no_mangle)]
-pub extern "C" fn aral_digits(number: i64, out: &mut [u8]) -> answers::Text
+pub fn aral_digits(number: i64, out: &mut [u8]) -> answers::Text
     ensures { (result ≡ host_text (writing (decimal number) out.old))
         × (out.new ≡ buffer_after (decimal number) out.old) }
 {
@@ -278,32 +257,28 @@ pub extern "C" fn aral_digits(number: i64, out: &mut [u8]) -> answers::Text
 }
 
 // The doubles of a total.
-#[unsafe(no_mangle)]
-pub extern "C" fn aral_panel(total: i64) -> answers::Double
+pub fn aral_panel(total: i64) -> answers::Double
     ensures { result ≡ host_double (panel_of total) }
 {
     answers::double_of(panel::panel_of(total))
 }
 
 // The doubles of a total that is newtons with a remainder.
-#[unsafe(no_mangle)]
-pub extern "C" fn aral_panel_newtons(newtons: i64, remainder: u64) -> answers::Double
+pub fn aral_panel_newtons(newtons: i64, remainder: u64) -> answers::Double
     ensures { result ≡ host_double (panel_of_newtons newtons remainder) }
 {
     answers::double_of(panel::newtons::panel_of_newtons(newtons, remainder))
 }
 
 // The chart point of three totals.
-#[unsafe(no_mangle)]
-pub extern "C" fn aral_chart(x: i64, y: i64, z: i64) -> Point
+pub fn aral_chart(x: i64, y: i64, z: i64) -> Point
     ensures { result ≡ point_of x y z }
 {
     panel::chart(x, y, z)
 }
 
 // The chart point of three totals that are newtons with a remainder.
-#[unsafe(no_mangle)]
-pub extern "C" fn aral_chart_newtons(x: Pair, y: Pair, z: Pair) -> Point
+pub fn aral_chart_newtons(x: Pair, y: Pair, z: Pair) -> Point
     ensures { result ≡ point_of_pairs x y z }
 {
     panel::newtons::chart_of_pairs(x, y, z)

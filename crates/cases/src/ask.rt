@@ -1,42 +1,42 @@
 // Questions at the corners of paper 01, each with its answer.
-use crate::print::{print, print_number, print_refusal};
+use crate::print::{print_number, print_refusal};
 use book::{Answer, Cited, Values};
 use building::{Building, Dated};
+use std::io;
 
-fn print_value(v: i32) {
-    print_number(v as i64);
+fn print_value(rt: &impl Print, v: i32) -> io::Result<()> {
+    print_number(rt, v as i64)
 }
 
-fn print_values(values: Values) {
+fn print_values(rt: &impl Print, values: Values) -> io::Result<()> {
     match values {
-        Values::One(v) => print_value(v),
+        Values::One(v) => print_value(rt, v),
         Values::Two(v, w) => {
-            print_value(v);
-            print_value(w);
+            print_value(rt, v)?;
+            print_value(rt, w)
         }
     }
 }
 
 // The two rows, and the fraction of the way from one to the other.
-fn print_rows(c: Cited) {
-    print(b" rows");
-    print_number(c.lower as i64);
-    print_number(c.upper as i64);
-    print_number(c.part as i64);
-    print_number(c.whole as i64);
+fn print_rows(rt: &impl Print, c: Cited) -> io::Result<()> {
+    print!(rt; " rows")?;
+    print_number(rt, c.lower as i64)?;
+    print_number(rt, c.upper as i64)?;
+    print_number(rt, c.part as i64)?;
+    print_number(rt, c.whole as i64)
 }
 
-fn print_answer(title: &[u8], a: Answer) {
-    print(title);
+fn print_answer(rt: &impl Print, title: &str, a: Answer) -> io::Result<()> {
+    print!(rt; "{title}")?;
     match a {
         Answer::Answered(c) => {
-            let values = c.values;
-            print_values(values);
-            print_rows(c);
+            print_values(rt, c.values)?;
+            print_rows(rt, c)?;
         }
-        Answer::Refused(v) => print_refusal(v),
+        Answer::Refused(v) => print_refusal(rt, v)?,
     }
-    print(b"\n");
+    print!(rt; "\n")
 }
 
 pub(crate) fn building(h: i64, kind: i64, x: i64) -> Building {
@@ -57,54 +57,65 @@ fn in_year_1(g: Building) -> Dated {
     }
 }
 
-fn outside_questions() {
+fn outside_questions(rt: &impl Print) -> io::Result<()> {
     print_answer(
-        b"point 18: curved, zone E, exactly -0.3995:",
+        rt,
+        "point 18: curved, zone E, exactly -0.3995:",
         book::outside(in_year_1(building(4000, 4, 201)), 0, b'E'),
-    );
+    )?;
     print_answer(
-        b"flat, zone F:",
+        rt,
+        "flat, zone F:",
         book::outside(in_year_1(building(4000, 2, 0)), 90, b'F'),
-    );
+    )?;
     print_answer(
-        b"point 6: zone I:",
+        rt,
+        "point 6: zone I:",
         book::outside(in_year_1(building(4000, 2, 0)), 0, b'I'),
-    );
+    )?;
     print_answer(
-        b"zone G on a flat roof:",
+        rt,
+        "zone G on a flat roof:",
         book::outside(in_year_1(building(4000, 2, 0)), 0, b'G'),
-    );
+    )?;
     print_answer(
-        b"L1 on a gable:",
+        rt,
+        "L1 on a gable:",
         book::outside(in_year_1(building(4000, 1, 0)), 0, b'1'),
-    );
+    )?;
     print_answer(
-        b"point 7: h 10000000:",
+        rt,
+        "point 7: h 10000000:",
         book::outside(in_year_1(building(10000000, 2, 0)), 0, b'E'),
-    );
+    )?;
     print_answer(
-        b"point 7: h -9999999:",
+        rt,
+        "point 7: h -9999999:",
         book::outside(in_year_1(building(-9999999, 2, 0)), 0, b'E'),
-    );
+    )?;
     print_answer(
-        b"point 7: direction 1000000000000, for a local too:",
+        rt,
+        "point 7: direction 1000000000000, for a local too:",
         book::outside(in_year_1(building(4000, 2, 0)), 1000000000000, b'w'),
-    );
+    )
 }
 
-fn slope_questions() {
+fn slope_questions(rt: &impl Print) -> io::Result<()> {
     print_answer(
-        b"a single slope of 12.5 degrees, zone E under 135:",
+        rt,
+        "a single slope of 12.5 degrees, zone E under 135:",
         book::outside(in_year_1(building(4000, 6, 125)), 135, b'E'),
-    );
+    )?;
     print_answer(
-        b"a wall of it under 45:",
+        rt,
+        "a wall of it under 45:",
         book::outside(in_year_1(building(4000, 6, 100)), 45, b'A'),
-    );
+    )?;
     print_answer(
-        b"a gable under 45:",
+        rt,
+        "a gable under 45:",
         book::outside(in_year_1(building(4000, 1, 0)), 45, b'E'),
-    );
+    )
 }
 
 // A square plan or one beside it, of this year, whose longer side is a.
@@ -120,34 +131,40 @@ fn square(year: i64, a: i64) -> Dated {
     Dated { year, building }
 }
 
-fn square_questions() {
+fn square_questions(rt: &impl Print) -> io::Result<()> {
     print_answer(
-        b"year 1, a square plan:",
+        rt,
+        "year 1, a square plan:",
         book::outside(square(1, 1000), 0, b'B'),
-    );
+    )?;
     print_answer(
-        b"year 2, a square plan:",
+        rt,
+        "year 2, a square plan:",
         book::outside(square(2, 1000), 0, b'B'),
-    );
+    )?;
     print_answer(
-        b"year 3, a square plan, zone B:",
+        rt,
+        "year 3, a square plan, zone B:",
         book::outside(square(3, 1000), 0, b'B'),
-    );
+    )?;
     print_answer(
-        b"year 3, a below b:",
+        rt,
+        "year 3, a below b:",
         book::outside(square(3, 999), 0, b'B'),
-    );
+    )?;
     print_answer(
-        b"year 4, a square plan, zone B:",
+        rt,
+        "year 4, a square plan, zone B:",
         book::outside(square(4, 1000), 0, b'B'),
-    );
+    )?;
     print_answer(
-        b"year 5, before a square plan:",
+        rt,
+        "year 5, before a square plan:",
         book::outside(square(5, 1000), 0, b'B'),
-    );
+    )
 }
 
-fn net_questions() {
+fn net_questions(rt: &impl Print) -> io::Result<()> {
     let g = Building {
         h: 1600,
         a: 1200,
@@ -157,26 +174,30 @@ fn net_questions() {
         x: 82,
     };
     print_answer(
-        b"point 11: rounded first, then the internal coefficient comes off:",
+        rt,
+        "point 11: rounded first, then the internal coefficient comes off:",
         book::net(in_year_1(g), 0, b'E', -100),
-    );
+    )?;
     print_answer(
-        b"point 12: the net of the wall local:",
+        rt,
+        "point 12: the net of the wall local:",
         book::net(in_year_1(g), 0, b'w', 20),
-    );
+    )?;
     print_answer(
-        b"point 7: internal 101:",
+        rt,
+        "point 7: internal 101:",
         book::net(in_year_1(g), 0, b'E', 101),
-    );
+    )?;
     print_answer(
-        b"6 before 3: zone H with internal 101:",
+        rt,
+        "6 before 3: zone H with internal 101:",
         book::net(in_year_1(g), 0, b'H', 101),
-    );
+    )
 }
 
-pub(crate) fn questions() {
-    outside_questions();
-    slope_questions();
-    square_questions();
-    net_questions();
+pub(crate) fn questions(rt: &impl Print) -> io::Result<()> {
+    outside_questions(rt)?;
+    slope_questions(rt)?;
+    square_questions(rt)?;
+    net_questions(rt)
 }

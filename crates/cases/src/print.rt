@@ -1,29 +1,24 @@
-// What is printed: bytes, a text that was written into a buffer, a number, a refusal.
+// What is printed: a text that was written into a buffer, a number, a refusal.
 use page::Writing;
+use std::io;
 use verdict::Verdict;
 
-pub(crate) fn print(s: &[u8]) {
-    io::write_all(libc::STDOUT_FILENO, s);
-}
-
 // Nothing, where it was refused.
-pub(crate) fn print_text(buf: &[u8], written: Writing) {
-    let Writing::Length(n) = written else {
-        return;
-    };
-    if n <= buf.len() {
-        print(&buf[..n]);
+pub(crate) fn print_text(rt: &impl Print, buf: &[u8], written: Writing) -> io::Result<()> {
+    match written {
+        Writing::Length(n) if n <= buf.len() => rt.write_all(&buf[..n]),
+        _ => Ok(()),
     }
 }
 
-pub(crate) fn print_number(z: i64) {
+pub(crate) fn print_number(rt: &impl Print, z: i64) -> io::Result<()> {
     let mut digits = [0u8; 20];
     let written = digits::write_decimal(z, &mut digits);
-    print(b" ");
-    print_text(&digits, written);
+    print!(rt; " ")?;
+    print_text(rt, &digits, written)
 }
 
-pub(crate) fn print_refusal(v: Verdict) {
-    print_number(v.number as i64);
-    print_number(v.line as i64);
+pub(crate) fn print_refusal(rt: &impl Print, v: Verdict) -> io::Result<()> {
+    print_number(rt, v.number as i64)?;
+    print_number(rt, v.line as i64)
 }

@@ -44,7 +44,7 @@ remainder-determined κ a r r' s s' p q = same p q
 of-units-determined : OneAnswer of.of-units.Post
 of-units-determined κ a r r' s s' p q = same p q
 
-is-within-determined : OneAnswer of.is_within.Post
+is-within-determined : OneAnswer of.is-within.Post
 is-within-determined κ a r r' s s' p q = same p q
 
 sum-determined : OneAnswer of.sum.Post
@@ -66,7 +66,7 @@ or-then-determined κ a r r' s s' p q = same p q
 
 -- ---- page
 
-put-byte-determined : OneAnswerAndBuffer of.put_byte.Post (λ κ s. s.0.now)
+put-byte-determined : OneAnswerAndBuffer of.put-byte.Post (λ κ s. s.0.now)
 put-byte-determined κ a r r' s s' p q = same-put p q
 
 put-bytes-determined : OneAnswerAndBuffer of.put-bytes.Post (λ κ s. s.0.now)
@@ -93,15 +93,15 @@ write-decimal-determined κ a r r' s s' p q = same-both p q
 
 -- ---- form
 
-field-of-determined : OneAnswer of.field_of.Post
+field-of-determined : OneAnswer of.field-of.Post
 field-of-determined κ a r r' s s' p q = same p q
 
 -- ---- lines
 
-line-at-determined : OneAnswer of.line_at_lem.Post
+line-at-determined : OneAnswer of.line-at.Post
 line-at-determined κ a r r' s s' p q = same p q
 
-field-at-determined : OneAnswer of.field_at.Post
+field-at-determined : OneAnswer of.field-at.Post
 field-at-determined κ a r r' s s' p q = same p q
 
 held-count-determined : OneAnswer of.held-count.Post
@@ -126,7 +126,7 @@ given-fault-determined κ a r r' s s' p q = same p q
 zone-on-determined : OneAnswer of.zone-on.Post
 zone-on-determined κ a r r' s s' p q = same p q
 
-up-to-determined : OneAnswer of.up_to_lem.Post
+up-to-determined : OneAnswer of.up-to.Post
 up-to-determined κ a r r' s s' p q = same p q
 
 knows-determined : OneAnswer of.knows.Post
@@ -153,7 +153,7 @@ building-spot-determined κ a r r' s s' p q = same p q
 beyond-determined : OneAnswer of.beyond.Post
 beyond-determined κ a r r' s s' p q = same p q
 
-too-long-determined : OneAnswer of.too_long.Post
+too-long-determined : OneAnswer of.too-long.Post
 too-long-determined κ a r r' s s' p q = same p q
 
 sized-determined : OneAnswer of.sized.Post
@@ -178,10 +178,10 @@ net-determined κ a r r' s s' p q = same p q
 
 -- ---- entry
 
-size-of-determined : OneAnswer of.type_size.Post
+size-of-determined : OneAnswer of.size-of.Post
 size-of-determined κ a r r' s s' p q = same p q
 
-number-of-determined : OneAnswer of.number_of_lem.Post
+number-of-determined : OneAnswer of.number-of.Post
 number-of-determined κ a r r' s s' p q = same p q
 
 letter-of-determined : OneAnswer of.letter-of.Post
@@ -196,7 +196,7 @@ building-of-determined κ a r r' s s' p q = same p q
 year-of-determined : OneAnswer of.year-of.Post
 year-of-determined κ a r r' s s' p q = same p q
 
-step-of-determined : OneAnswer of.step_of_lem.Post
+step-of-determined : OneAnswer of.step-of.Post
 step-of-determined κ a r r' s s' p q = same p q
 
 has-heights-determined : OneAnswer of.has-heights.Post
@@ -228,7 +228,7 @@ building-line-determined κ a r r' s s' p q = same p q
 year-line-determined : OneAnswer of.year-line.Post
 year-line-determined κ a r r' s s' p q = same p q
 
-step-line-determined : OneAnswer of.step_line.Post
+step-line-determined : OneAnswer of.step-line.Post
 step-line-determined κ a r r' s s' p q = same p q
 
 wind-line-determined : OneAnswer of.wind-line.Post
@@ -248,7 +248,7 @@ section-count-determined κ a r r' s s' p q = same p q
 section-at-determined : OneAnswer of.section-at.Post
 section-at-determined κ a r r' s s' p q = same p q
 
-limits-of-determined : OneAnswer of.Limits-of.Post
+limits-of-determined : OneAnswer of.limits-of.Post
 limits-of-determined κ a r r' s s' p q =
     λ k. record { least = same p.0 q.0 k; most = same p.1 q.1 k }
 
@@ -279,7 +279,7 @@ face-fault-determined κ a r r' s s' p q = same p q
 line-fault-determined : OneAnswer of.line-fault.Post
 line-fault-determined κ a r r' s s' p q = same p q
 
-count-of-determined : OneAnswer of.count_of.Post
+count-of-determined : OneAnswer of.count-of.Post
 count-of-determined κ a r r' s s' p q = same p q
 
 formed-at-determined : OneAnswer of.formed-at.Post
@@ -382,7 +382,7 @@ plain-cases-determined κ a r r' s s' p q = same p q
 write-report-determined : OneAnswerAndBuffer of.write-report.Post (λ κ s. s.1.0.now)
 write-report-determined κ a r r' s s' p q = same-both p q
 
-write-read-determined : OneAnswerAndBuffer of.write_read.Post (λ κ s. s.1.0.now)
+write-read-determined : OneAnswerAndBuffer of.write-read.Post (λ κ s. s.1.0.now)
 write-read-determined κ a r r' s s' p q = same-both p q
 
 write-stored-determined : OneAnswerAndBuffer of.write-stored.Post (λ κ s. s.1.1.0.now)
@@ -410,10 +410,10 @@ chart-of-pairs-determined κ a r r' s s' p q = same p q
 
 -- ---- answers
 
-no-text-determined : OneAnswer of.no_text.Post
+no-text-determined : OneAnswer of.no-text.Post
 no-text-determined κ a r r' s s' p q = same p q
 
-text-of-determined : OneAnswer of.text_of.Post
+text-of-determined : OneAnswer of.text-of.Post
 text-of-determined κ a r r' s s' p q = same p q
 
 coefficient-of-determined : OneAnswer of.coefficient-of.Post
@@ -425,7 +425,7 @@ double-of-determined κ a r r' s s' p q = same p q
 no-extreme-determined : OneAnswer of.no-extreme.Post
 no-extreme-determined κ a r r' s s' p q = same p q
 
-line-of-determined : OneAnswer of.Line-of.Post
+line-of-determined : OneAnswer of.line-of.Post
 line-of-determined κ a r r' s s' p q = same p q
 
 -- ---- edits
@@ -450,7 +450,7 @@ add-determined κ a r r' s s' p q = same p q
 replace-determined : OneAnswer of.replace.Post
 replace-determined κ a r r' s s' p q = same p q
 
-take-out-determined : OneAnswer of.take_out.Post
+take-out-determined : OneAnswer of.take-out.Post
 take-out-determined κ a r r' s s' p q = same p q
 
 -- ---- column
@@ -458,7 +458,7 @@ take-out-determined κ a r r' s s' p q = same p q
 on-axis-determined : OneAnswer of.on-axis.Post
 on-axis-determined κ a r r' s s' p q = same p q
 
-shown-of-determined : OneAnswer of.Shown-of.Post
+shown-of-determined : OneAnswer of.shown-of.Post
 shown-of-determined κ a r r' s s' p q = same p q
 
 column-of-determined : OneAnswerAndBuffer of.column-of.Post (λ κ s. s.1.1.0.now)

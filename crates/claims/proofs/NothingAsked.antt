@@ -21,7 +21,7 @@ remainder-asks κ a = tt
 of-units-asks : AsksNothing of.of-units.Asked
 of-units-asks κ a = tt
 
-is-within-asks : AsksNothing of.is_within.Asked
+is-within-asks : AsksNothing of.is-within.Asked
 is-within-asks κ a = tt
 
 sum-asks : AsksNothing of.sum.Asked
@@ -43,7 +43,7 @@ or-then-asks κ a = tt
 
 -- ---- page
 
-put-byte-asks : AsksNothing of.put_byte.Asked
+put-byte-asks : AsksNothing of.put-byte.Asked
 put-byte-asks κ a = tt
 
 put-bytes-asks : AsksNothing of.put-bytes.Asked
@@ -70,15 +70,15 @@ write-decimal-asks κ a = tt
 
 -- ---- form
 
-field-of-asks : AsksNothing of.field_of.Asked
+field-of-asks : AsksNothing of.field-of.Asked
 field-of-asks κ a = tt
 
 -- ---- lines
 
-line-at-asks : AsksNothing of.line_at_lem.Asked
+line-at-asks : AsksNothing of.line-at.Asked
 line-at-asks κ a = tt
 
-field-at-asks : AsksNothing of.field_at.Asked
+field-at-asks : AsksNothing of.field-at.Asked
 field-at-asks κ a = tt
 
 held-count-asks : AsksNothing of.held-count.Asked
@@ -103,7 +103,7 @@ given-fault-asks κ a = tt
 zone-on-asks : AsksNothing of.zone-on.Asked
 zone-on-asks κ a = tt
 
-up-to-asks : AsksNothing of.up_to_lem.Asked
+up-to-asks : AsksNothing of.up-to.Asked
 up-to-asks κ a = tt
 
 knows-asks : AsksNothing of.knows.Asked
@@ -130,7 +130,7 @@ building-spot-asks κ a = tt
 beyond-asks : AsksNothing of.beyond.Asked
 beyond-asks κ a = tt
 
-too-long-asks : AsksNothing of.too_long.Asked
+too-long-asks : AsksNothing of.too-long.Asked
 too-long-asks κ a = tt
 
 sized-asks : AsksNothing of.sized.Asked
@@ -155,10 +155,10 @@ net-asks κ a = tt
 
 -- ---- entry
 
-size-of-asks : AsksNothing of.type_size.Asked
+size-of-asks : AsksNothing of.size-of.Asked
 size-of-asks κ a = tt
 
-number-of-asks : AsksNothing of.number_of_lem.Asked
+number-of-asks : AsksNothing of.number-of.Asked
 number-of-asks κ a = tt
 
 letter-of-asks : AsksNothing of.letter-of.Asked
@@ -173,7 +173,7 @@ building-of-asks κ a = tt
 year-of-asks : AsksNothing of.year-of.Asked
 year-of-asks κ a = tt
 
-step-of-asks : AsksNothing of.step_of_lem.Asked
+step-of-asks : AsksNothing of.step-of.Asked
 step-of-asks κ a = tt
 
 has-heights-asks : AsksNothing of.has-heights.Asked
@@ -205,7 +205,7 @@ building-line-asks κ a = tt
 year-line-asks : AsksNothing of.year-line.Asked
 year-line-asks κ a = tt
 
-step-line-asks : AsksNothing of.step_line.Asked
+step-line-asks : AsksNothing of.step-line.Asked
 step-line-asks κ a = tt
 
 wind-line-asks : AsksNothing of.wind-line.Asked
@@ -225,7 +225,7 @@ section-count-asks κ a = tt
 section-at-asks : AsksNothing of.section-at.Asked
 section-at-asks κ a = tt
 
-limits-of-asks : AsksNothing of.Limits-of.Asked
+limits-of-asks : AsksNothing of.limits-of.Asked
 limits-of-asks κ a = tt
 
 section-letter-asks : AsksNothing of.section-letter.Asked
@@ -255,7 +255,7 @@ face-fault-asks κ a = tt
 line-fault-asks : AsksNothing of.line-fault.Asked
 line-fault-asks κ a = tt
 
-count-of-asks : AsksNothing of.count_of.Asked
+count-of-asks : AsksNothing of.count-of.Asked
 count-of-asks κ a = tt
 
 formed-at-asks : AsksNothing of.formed-at.Asked
@@ -357,7 +357,7 @@ plain-cases-asks κ a = tt
 write-report-asks : AsksNothing of.write-report.Asked
 write-report-asks κ a = tt
 
-write-read-asks : AsksNothing of.write_read.Asked
+write-read-asks : AsksNothing of.write-read.Asked
 write-read-asks κ a = tt
 
 write-stored-asks : AsksNothing of.write-stored.Asked
@@ -385,10 +385,10 @@ chart-of-pairs-asks κ a = tt
 
 -- ---- answers
 
-no-text-asks : AsksNothing of.no_text.Asked
+no-text-asks : AsksNothing of.no-text.Asked
 no-text-asks κ a = tt
 
-text-of-asks : AsksNothing of.text_of.Asked
+text-of-asks : AsksNothing of.text-of.Asked
 text-of-asks κ a = tt
 
 coefficient-of-asks : AsksNothing of.coefficient-of.Asked
@@ -400,7 +400,7 @@ double-of-asks κ a = tt
 no-extreme-asks : AsksNothing of.no-extreme.Asked
 no-extreme-asks κ a = tt
 
-line-of-asks : AsksNothing of.Line-of.Asked
+line-of-asks : AsksNothing of.line-of.Asked
 line-of-asks κ a = tt
 
 -- ---- edits
@@ -425,7 +425,7 @@ add-asks κ a = tt
 replace-asks : AsksNothing of.replace.Asked
 replace-asks κ a = tt
 
-take-out-asks : AsksNothing of.take_out.Asked
+take-out-asks : AsksNothing of.take-out.Asked
 take-out-asks κ a = tt
 
 -- ---- column
@@ -433,7 +433,7 @@ take-out-asks κ a = tt
 on-axis-asks : AsksNothing of.on-axis.Asked
 on-axis-asks κ a = tt
 
-shown-of-asks : AsksNothing of.Shown-of.Asked
+shown-of-asks : AsksNothing of.shown-of.Asked
 shown-of-asks κ a = tt
 
 column-of-asks : AsksNothing of.column-of.Asked

@@ -146,7 +146,7 @@ write-report-unchanged : RefusedUnchanged of.write-report.Post (λ κ r. IsRefus
     (λ κ s. s.1.0.now)
 write-report-unchanged κ a r s p h = job-kept report_text (judged a.0) a.1.0.now p h
 
-write-read-unchanged : RefusedUnchanged of.write_read.Post (λ κ r. IsRefused r) (λ κ a. a.1.0.now)
+write-read-unchanged : RefusedUnchanged of.write-read.Post (λ κ r. IsRefused r) (λ κ a. a.1.0.now)
     (λ κ s. s.1.0.now)
 write-read-unchanged κ a r s p h = job-kept report_text (reading a.0.now) a.1.0.now p h
 

@@ -1,7 +1,10 @@
 // Asks about every printed row of every table: at its ends, and one step to either side of each limit. tools/rows.py
 // works out from the book what must come out.
+#![tactic(auto)]
+
 use book::{Answer, Values};
 use building::{Building, Dated};
+use std::io;
 
 // At b 1000: the limits of h/b and of a/b, and the places on the walls.
 const HEIGHTS: [i64; 10] = [100, 499, 500, 501, 1499, 1500, 1501, 5999, 6000, 6001];
@@ -49,78 +52,71 @@ const SINGLE_WINDS: [i64; 6] = [0, 45, 90, 135, 180, 30];
 
 const SINGLE_PLACES: [u8; 7] = [69, 70, 71, 72, 65, 119, 49];
 
-fn put(z: i64) {
-    if z < 0 {
-        io::write_all(1, b"-");
-    }
-    io::print_decimal(1, whole::magnitude(z));
-    io::write_all(1, b" ");
+fn put(rt: &impl Print, z: i64) -> io::Result<()> {
+    print!(rt; "{z} ")
 }
 
-fn put_value(v: i32) {
-    put(v as i64);
+fn put_value(rt: &impl Print, v: i32) -> io::Result<()> {
+    put(rt, v as i64)
 }
 
-fn put_values(values: Values) {
+fn put_values(rt: &impl Print, values: Values) -> io::Result<()> {
     match values {
-        Values::One(v) => put_value(v),
+        Values::One(v) => put_value(rt, v),
         Values::Two(v, w) => {
-            put_value(v);
-            put_value(w);
+            put_value(rt, v)?;
+            put_value(rt, w)
         }
     }
 }
 
-fn put_answer(answer: Answer) {
+fn put_answer(rt: &impl Print, answer: Answer) -> io::Result<()> {
     match answer {
-        Answer::Answered(c) => {
-            let values = c.values;
-            put_values(values);
-        }
+        Answer::Answered(c) => put_values(rt, c.values),
         Answer::Refused(v) => {
-            io::write_all(1, b"refused ");
-            put(v.number as i64);
-            put(v.line as i64);
+            print!(rt; "refused ")?;
+            put(rt, v.number as i64)?;
+            put(rt, v.line as i64)
         }
     }
 }
 
 // Between which rows it lies, and the fraction of the way.
-fn put_rows(answer: Answer) {
+fn put_rows(rt: &impl Print, answer: Answer) -> io::Result<()> {
     match answer {
         Answer::Answered(c) => {
-            io::write_all(1, b"rows ");
-            put(c.lower as i64);
-            put(c.upper as i64);
-            put(c.part as i64);
-            put(c.whole as i64);
+            print!(rt; "rows ")?;
+            put(rt, c.lower as i64)?;
+            put(rt, c.upper as i64)?;
+            put(rt, c.part as i64)?;
+            put(rt, c.whole as i64)
         }
-        Answer::Refused(_) => {}
+        Answer::Refused(_) => Ok(()),
     }
 }
 
-fn show_in(year: i64, g: Building, direction: i64, place: u8) {
-    put(g.h);
-    put(g.a);
-    put(g.b);
-    put(g.kind);
-    put(g.x);
-    put(direction);
-    io::write_all(1, &[place, b' ']);
+fn show_in(rt: &impl Print, year: i64, g: Building, direction: i64, place: u8) -> io::Result<()> {
+    put(rt, g.h)?;
+    put(rt, g.a)?;
+    put(rt, g.b)?;
+    put(rt, g.kind)?;
+    put(rt, g.x)?;
+    put(rt, direction)?;
+    rt.write_all(&[place, b' '])?;
     let d = Dated { year, building: g };
-    put_answer(book::outside(d, direction, place));
-    io::write_all(1, b"net ");
+    put_answer(rt, book::outside(d, direction, place))?;
+    print!(rt; "net ")?;
     let net = book::net(d, direction, place, -30);
-    put_answer(net);
-    put_rows(net);
-    io::write_all(1, b"\n");
+    put_answer(rt, net)?;
+    put_rows(rt, net)?;
+    print!(rt; "\n")
 }
 
-fn show(g: Building, direction: i64, place: u8) {
-    show_in(1, g, direction, place);
+fn show(rt: &impl Print, g: Building, direction: i64, place: u8) -> io::Result<()> {
+    show_in(rt, 1, g, direction, place)
 }
 
-fn wall(n: usize) {
+fn wall(rt: &impl Print, n: usize) -> io::Result<()> {
     let g = Building {
         h: HEIGHTS[n / 90 % 10],
         a: SIDES[n / 10 % 9],
@@ -129,10 +125,10 @@ fn wall(n: usize) {
         kind: 0,
         x: 0,
     };
-    show(g, WALL_WINDS[n % 10], WALL_PLACES[n % 10]);
+    show(rt, g, WALL_WINDS[n % 10], WALL_PLACES[n % 10])
 }
 
-fn gable(n: usize) {
+fn gable(rt: &impl Print, n: usize) -> io::Result<()> {
     let g = Building {
         h: BLOCKS[n / 208 % 5],
         a: 1200,
@@ -141,10 +137,10 @@ fn gable(n: usize) {
         kind: 1,
         x: SLOPES[n / 8 % 26],
     };
-    show(g, GABLE_WINDS[n % 8], GABLE_PLACES[n % 8]);
+    show(rt, g, GABLE_WINDS[n % 8], GABLE_PLACES[n % 8])
 }
 
-fn flat(n: usize) {
+fn flat(rt: &impl Print, n: usize) -> io::Result<()> {
     let g = Building {
         h: 4000,
         a: 4800,
@@ -153,10 +149,10 @@ fn flat(n: usize) {
         kind: KINDS[n / 10 % 32],
         x: NUMBERS[n / 10 % 32],
     };
-    show(g, FLAT_WINDS[n % 10], FLAT_PLACES[n % 10]);
+    show(rt, g, FLAT_WINDS[n % 10], FLAT_PLACES[n % 10])
 }
 
-fn single(n: usize) {
+fn single(rt: &impl Print, n: usize) -> io::Result<()> {
     let g = Building {
         h: 500,
         a: 1200,
@@ -165,11 +161,11 @@ fn single(n: usize) {
         kind: 6,
         x: INCLINES[n / 42 % 18],
     };
-    show(g, SINGLE_WINDS[n / 7 % 6], SINGLE_PLACES[n % 7]);
+    show(rt, g, SINGLE_WINDS[n / 7 % 6], SINGLE_PLACES[n % 7])
 }
 
 // Square plans and one step to either side, in each year and in one before and after them.
-fn square(n: usize) {
+fn square(rt: &impl Print, n: usize) -> io::Result<()> {
     let g = Building {
         h: HEIGHTS[n / 30 % 10],
         a: SIDES[n / 10 % 3],
@@ -179,32 +175,31 @@ fn square(n: usize) {
         x: 0,
     };
     let year = YEARS[n / 300 % 6];
-    io::write_all(1, b"year ");
-    put(year);
-    show_in(year, g, WALL_WINDS[n % 10], WALL_PLACES[n % 10]);
+    print!(rt; "year ")?;
+    put(rt, year)?;
+    show_in(rt, year, g, WALL_WINDS[n % 10], WALL_PLACES[n % 10])
 }
 
 // 900 questions on walls, 1040 on gables, 320 on flat roofs, 756 on single slopes, 1800 on square plans by the year.
-fn ask(n: usize) {
+fn ask(rt: &impl Print, n: usize) -> io::Result<()> {
     if n < 900 {
-        return wall(n);
+        return wall(rt, n);
     }
     if n < 1940 {
-        return gable(n - 900);
+        return gable(rt, n - 900);
     }
     if n < 2260 {
-        return flat(n - 1940);
+        return flat(rt, n - 1940);
     }
     if n < 3016 {
-        return single(n - 2260);
+        return single(rt, n - 2260);
     }
-    square(n - 3016);
+    square(rt, n - 3016)
 }
 
-fn main() {
-    let mut n: usize = 0;
-    while n < 4816 {
-        ask(n);
-        n += 1;
+fn main(rt: HostRuntime) -> io::Result<()> {
+    for n in 0..4816 {
+        ask(&rt, n)?;
     }
+    Ok(())
 }

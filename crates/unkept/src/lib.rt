@@ -1,4 +1,4 @@
-// Edits of a job without stored sums, from C: what ./bench holds the worksheet against.
+// Edits of a job without stored sums, from C: what ./bench holds the worksheet against. `unkept_c` exports them.
 ghost use Rattle.std.specs.Prelude.{◌≡◌};
 ghost use Rattle.job.specs.Walk.{judged};
 ghost use Rattle.sheet.specs.Sheet.{job_writing, job_buffer};
@@ -10,16 +10,14 @@ use edits::EditedJob;
 use entry::Face;
 use job::Job;
 
-#[unsafe(no_mangle)]
-pub extern "C" fn unkept_replace(j: Job, face: i64, f: Face) -> EditedJob
+pub fn unkept_replace(j: Job, face: i64, f: Face) -> EditedJob
     ensures { result ≡ edited_job (Replace face f) j }
 {
     edits::replace(j, face, f)
 }
 
 // Its six lines.
-#[unsafe(no_mangle)]
-pub extern "C" fn unkept_show(j: Job, out: &mut [u8]) -> answers::Text
+pub fn unkept_show(j: Job, out: &mut [u8]) -> answers::Text
     ensures { (result ≡ host_text (job_writing report_text (judged j) out.old))
         × (out.new ≡ job_buffer report_text (judged j) out.old) }
 {

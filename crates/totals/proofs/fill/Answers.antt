@@ -1,0 +1,40 @@
+-- `fill`: a read puts its bytes behind those that stand there, and they come next in the input.
+use Rattle.std.proofs.Common.{◌≡◌, ℕ, ◌+◌, ◌-◌, ◌≤◌, List, ◌++◌, rules, arith, length, take, slice_range, sym, ap}
+use Rattle.std.proofs.Common.{◌∙◌, subst, le_refl, drop_at, length-take-le}
+use Rattle.std.proofs.lemmas.Slice.{take-put_mid_below}
+use Rattle.std.specs.Io.KnownBytes.{Consumes}
+use Rattle.std.proofs.KnownBytes.{Consumes-trans}
+use borrow.Rule.Slice.PartMut.{put_mid, post_of}
+use lib.Seq.{take-add, take-append-le}
+use Rattle.totals.proofs.fill.Goals as goal
+
+-- the front of the buffer, and then what a read put behind it
+joined : (a b : ℕ) (old new : List ℕ) → a ≤ b → take a new ≡ take a old → take a old ++ slice_range new a b ≡ take b new
+joined a b old new h front =
+    let same : a + (b - a) ≡ b = omega arith in
+    ap (λ l. l ++ slice_range new a b) (sym front)
+    ∙ sym (take-add a (b - a) new) ∙ ap (λ n. take n new) same
+
+put_there : (a k n : ℕ) (xs ys : List ℕ) → a ≤ length xs → n ≤ length ys
+    → slice_range (put_mid a k xs ys) a (a + n) ≡ take n ys
+put_there a k n xs ys within fits =
+    let same : (a + n) - a ≡ n = omega arith in
+    let after = post_of a k xs in
+    ap (take ((a + n) - a)) (drop_at (take a xs) (ys ++ after) a (length-take-le a xs within))
+    ∙ ap (λ m. take m (ys ++ after)) same ∙ take-append-le n ys after fits
+
+pub loop-got-preserved : goal.loop-got-preserved
+loop-got-preserved g c =
+    let from = c.loop-got.got in
+    let n = c.in_ok-n.n in
+    let room = length c.loop-got.buf - from in
+    let within = c.loop-got.invariant.0 in
+    let part = put_there from room n c.loop-got.buf c.read.new.buf within c.in_ok-n.ensures.bound.0 in
+    let front = take-put_mid_below _ _ _ _ _ (le_refl _) within in
+    let all = joined from (from + n) c.loop-got.buf (put_mid from room c.loop-got.buf c.read.new.buf) (omega arith) front in (
+      search rules,
+      subst
+          (Consumes _ _)
+          (ap (λ l. take from c.loop-got.buf ++ l) (sym part) ∙ all)
+          (Consumes-trans _ _ _ _ _ c.loop-got.invariant.1 c.in_ok-n.ensures.bytes.0),
+    )
