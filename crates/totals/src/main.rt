@@ -5,7 +5,8 @@
 
 ghost use Rattle.std.specs.Prelude.{◌≡◌, ◌≤◌, ◌<◌, length, take, IfOk, IfSome, OnOk};
 ghost use Rattle.std.specs.Io.KnownBytes.{Consumes, Appends, IsAtEnd};
-ghost use Rattle.totals.specs.Answer.{answer_to};
+ghost use Rattle.sheet.specs.Sheet.{reading};
+ghost use Rattle.report.specs.Report.{totals_text};
 
 use page::Writing;
 use std::io::{self, Read, Write};
@@ -30,7 +31,7 @@ fn fill<R: Read>(input: &mut R, buf: &mut [u8]) -> io::Result<usize>
 // The answer to a text at the start of `lines`, and how many bytes it has.
 fn write_answer(text: &[u8], lines: &mut [u8; 3084]) -> usize
     ensures within { result ≤ 3084 }
-    ensures answer { take result lines.new ≡ answer_to text.now }
+    ensures answer { take result lines.new ≡ totals_text (reading text.now) }
 {
     match report::write_totals(text, lines) {
         Writing::Length(n) if n <= 3084 => n,
@@ -41,7 +42,7 @@ fn write_answer(text: &[u8], lines: &mut [u8; 3084]) -> usize
 // Where their bytes are known, the answer to the whole input is what the output gains.
 fn answer<R: Read, W: Write>(input: &mut R, output: &mut W) -> io::Result<()>
     ensures { OnOk result (IfSome (R.remaining input.old)
-        (λ text. Appends (W.contents output.old) (W.contents output.new) (answer_to text))) }
+        (λ text. Appends (W.contents output.old) (W.contents output.new) (totals_text (reading text)))) }
 {
     let mut text = [0u8; 9021];
     let got = fill(input, &mut text)?;
