@@ -1,6 +1,6 @@
-// What a host program in C links, libaralimogga.a: each entry point of `aralimogga` under its own name, with the contract
-// that it has there (include/aralimogga.h). A static library can't be used by another crate, so this one has no code of
-// its own.
+// What a host program in C links, libaralimogga.a: each entry point of `aralimogga` under its own name, with the
+// contract that it has there (include/aralimogga.h). A static library can't be used by another crate, so this one has
+// no code of its own.
 #![tactic(auto)]
 
 ghost use Rattle.std.specs.Prelude.{◌≡◌};

@@ -31,7 +31,8 @@ loop-got-preserved g c =
     let within = c.loop-got.invariant.0 in
     let part = put_there from room n c.loop-got.buf c.read.new.buf within c.in_ok-n.ensures.bound.0 in
     let front = take-put_mid_below _ _ _ _ _ (le_refl _) within in
-    let all = joined from (from + n) c.loop-got.buf (put_mid from room c.loop-got.buf c.read.new.buf) (omega arith) front in (
+    let all = joined from (from + n) c.loop-got.buf (put_mid from room c.loop-got.buf c.read.new.buf)
+    (omega arith) front in (
       search rules,
       subst
           (Consumes _ _)
