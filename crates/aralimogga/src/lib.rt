@@ -1,5 +1,7 @@
 // The entry points for a host program in C (include/aralimogga.h), which `aralimogga_c` exports. None trusts its
 // caller, and none keeps anything between calls.
+#![tactic(auto)]
+
 ghost use Rattle.std.specs.Prelude.{◌≡◌};
 ghost use Rattle.whole.specs.Digits.{decimal};
 ghost use Rattle.page.specs.Writing.{writing, buffer_after};

@@ -171,7 +171,8 @@ pub data Why (year : ℤ) (g : Building) : ℕ → Type 0 where
   in-order-throughout : Fields g → SizesInOrder (sizes g) → Why year g 0
   a-number-out-of-range : out_of_range g ≡ true → Why year g 3
   outside-the-wall-table : Fields g → out_of_walls year (sizes g) ≡ true → Why year g 4
-  outside-the-roof's-range : Fields g → out_of_walls year (sizes g) ≡ false → out_of_roof (sizes g) ≡ true → Why year g 5
+  outside-the-roof's-range : Fields g → out_of_walls year (sizes g) ≡ false → out_of_roof (sizes g) ≡ true
+      → Why year g 5
 
 pub why : (year : ℤ) (g : Building) → Why year g (building_fault year g)
 why year g =

@@ -123,7 +123,8 @@ pub place-there : (kind direction : ℤ) (place : ℕ) → place_on kind directi
     → (zone_on kind place || local_on kind place) ≡ true
 unfolding place_on
 place-there kind direction place e =
-    (and-true (zone_on kind place || local_on kind place) (not (wall_place place) || one_of wall_directions direction) e).0
+    (and-true (zone_on kind place || local_on kind place) (not
+    (wall_place place) || one_of wall_directions direction) e).0
 
 -- a zone on the building is, if it is on no wall of a single slope that the direction misses
 pub zone-there : (kind direction : ℤ) (zone : ℕ) → zone_on kind zone ≡ true → knows kind direction ≡ true

@@ -33,7 +33,8 @@ first-ranged field (r ∷ rs) fs =
     ap (cond (out r) 3) (first-ranged (field + 1) rs fs) ∙ cond-or (out r) (some out rs) 3 (first fs)
 
 pub fault-tests : (year : ℤ) (g : Building)
-    → building_fault year g ≡ cond (out_of_range g) 3 (cond (out_of_walls year (sizes g)) 4 (cond (out_of_roof (sizes g)) 5 0))
+    → building_fault year g ≡ cond (out_of_range g) 3 (cond (out_of_walls year (sizes g)) 4 (cond (out_of_roof
+    (sizes g)) 5 0))
 unfolding building_fault out_of_range
 fault-tests year g = first-ranged 1 (ranges g) (sizes_faults year (sizes g))
 

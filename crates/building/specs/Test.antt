@@ -1,5 +1,6 @@
 -- Tests of one number, and the fault where a test fails.
-use Rattle.std.specs.Prelude.{Bool, true, false, not, ◌&&◌, ◌||◌, List, [], ◌∷◌, ℕ, ℤ, pos, negsuc, nat_abs, ltb, leb, eqb}
+use Rattle.std.specs.Prelude.{Bool, true, false, not, ◌&&◌, ◌||◌, List, [], ◌∷◌, ℕ, ℤ, pos, negsuc, nat_abs, ltb, leb}
+use Rattle.std.specs.Prelude.{eqb}
 use Rattle.std.specs.Int.Signed.{lt_z}
 
 -- n from `least` to `greatest`, both included

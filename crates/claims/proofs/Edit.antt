@@ -94,11 +94,13 @@ module _ (j : Job) where
   fault-is (Add f) (no-such-face g h) = absurd h
   fault-is (Replace k f) (no-such-face g h) =
       past-held g _ ∙ ap (λ u. u or_then new_face (nat_abs k) f j or_then accepted) (missing k h)
-  fault-is (TakeOut k) (no-such-face g h) = past-held g _ ∙ ap (λ u. u or_then only_face j or_then accepted) (missing k h)
+  fault-is (TakeOut k) (no-such-face g h) = past-held g _ ∙ ap (λ u. u or_then only_face j or_then accepted)
+      (missing k h)
   fault-is (Add f) (full-or-only g n h) =
       past-held g _ ∙ ap (λ u. u or_then new_face (j.faces.count + 1) f j or_then accepted) (is-full h)
   fault-is (Replace k f) (full-or-only g n h) = absurd h
-  fault-is (TakeOut k) (full-or-only g n h) = past-held g _ ∙ past-there k n _ ∙ ap (λ u. u or_then accepted) (is-only h)
+  fault-is (TakeOut k) (full-or-only g n h) = past-held g _ ∙ past-there k n _
+      ∙ ap (λ u. u or_then accepted) (is-only h)
   fault-is (Add f) (new-face k m g n h (p, q) s) =
       past-held g _ ∙ past-full h _ ∙ own (j.faces.count + 1) m f q s
       ∙ ap (λ i. refusal m (face_line (carried j) i)) (sym p)

@@ -63,8 +63,11 @@ sheet-faultless s f = lines-faultless (lines_in s) f
 pub sheet-accepted : (s : List ℕ) (c : Carried) → reading s ≡ Accepted c
     → Faultless (lines_in s) × (lines_of c ≡ lines_in s)
 unfolding reading
-sheet-accepted s c e =
-    (accepted-answer (lines_in s) (read_lines (lines_in s)) (lines-answer (lines_in s)) c e, accepted-lines (lines_in s) c e)
+sheet-accepted s c e = (
+  accepted-answer (lines_in s) (read_lines (lines_in s)) (lines-answer (lines_in s)) c e,
+  accepted-lines
+      (lines_in s) c e,
+)
 
 module _ (j : Job) where
   pub job-faulty : {v : Verdict} → Faulty (lines_of (carried j)) v → judged j ≡ Refused v

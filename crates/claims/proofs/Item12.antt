@@ -65,7 +65,9 @@ pub no-half-on-a-gable : NoHalfOnAGable
 no-half-on-a-gable = gable-slopes
 
 pub half-on-a-flat-roof : HalfOnAFlatRoof
-unfolding divisor_up_to common_divisor outside_of asked_of given_fault building_fault out_of_form out_of_range out_of_walls
-    out_of_roof too_long beyond zone_on local_on knows place_on roof_of coefficient_of flat_column roof_column two_signs roof_way
+unfolding divisor_up_to common_divisor outside_of asked_of given_fault building_fault out_of_form out_of_range
+    out_of_walls
+    out_of_roof too_long beyond zone_on local_on knows place_on roof_of coefficient_of flat_column roof_column
+    two_signs roof_way
     way_in on_straight half_up round_away left_over
 half-on-a-flat-roof = (refl, refl)

@@ -89,7 +89,8 @@ pub record NothingMore : Type 0 where
 -- ---- the proofs
 
 -- what the definitions say of the parts
-under-way : (So : List (List ℕ) → Rose → Type 0) → ((ps : List (List ℕ)) → So ps (parts_taken no_lines ps)) → UnderWay So
+under-way : (So : List (List ℕ) → Rose → Type 0) → ((ps : List (List ℕ)) → So ps (parts_taken no_lines ps))
+    → UnderWay So
 under-way So h κ a r s new ps q t =
     subst (So ps) (sym (parts_are r q ps t ∙ ap (λ (x : Rose). parts_taken x ps) new)) (h ps)
 

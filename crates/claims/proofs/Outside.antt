@@ -17,7 +17,8 @@ use Rattle.building.specs.Places.{knows}
 use Rattle.building.specs.declared.Building.{Building}
 use Rattle.building.specs.Ratio.{up_to}
 use Rattle.building.specs.Roof.{roof_of, along_of, across_of}
-use Rattle.building.specs.Building.{most_length, begun, most_slender, most_oblong, out_of_walls, out_of_roof, sizes, faults}
+use Rattle.building.specs.Building.{most_length, begun, most_slender, most_oblong, out_of_walls, out_of_roof, sizes}
+use Rattle.building.specs.Building.{faults}
 use Rattle.building.specs.Building.{walls_spot, roof_spot, rounded_up}
 use Rattle.building.specs.Year.{has_heights, has_squares}
 use Rattle.building.proofs.Accepted.{within}
@@ -39,7 +40,8 @@ OfNumber n = (n ≡ 0 → ⊥) × (n ≡ 1 → ⊥) × (n ≡ 6 → ⊥)
 
 -- with these the number that stands in the field is outside the range that is told; with 0 and 0, it is not 0
 abbrev pub ToldOutside : Type 0
-ToldOutside = (k : Kind) (b : Before) (fs : List Field) → in_form (forms_by b k) fs ≡ true → OfNumber (line_fault k b fs)
+ToldOutside = (k : Kind) (b : Before) (fs : List Field) → in_form (forms_by b k) fs ≡ true
+    → OfNumber (line_fault k b fs)
     → let p = line_spot k b fs in
     beyond p.least p.greatest (number (at fs (p.field - 1))) ≡ true
 

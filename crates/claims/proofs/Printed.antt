@@ -115,10 +115,14 @@ pub ◌and◌ : {P Q : Type 0} → P → Q → P × Q
 p and q = (p, q)
 
 pub printed-hold : Every Holds printed
-unfolding divisor_up_to common_divisor outside_of asked_of given_fault building_fault out_of_form out_of_range out_of_walls
-    out_of_roof too_long beyond zone_on local_on knows place_on roof_of coefficient_of wall_column gable_column single_column
-    flat_column roof_column two_signs wall_row block_of roof_way way_in on_straight half_up round_away round_down left_over
-    reading lines_in lines_from split fields_of field_from numeral unsigned negative digits_in_form all_digits value_after
+unfolding divisor_up_to common_divisor outside_of asked_of given_fault building_fault out_of_form out_of_range
+    out_of_walls
+    out_of_roof too_long beyond zone_on local_on knows place_on roof_of coefficient_of wall_column gable_column
+    single_column
+    flat_column roof_column two_signs wall_row block_of roof_way way_in on_straight half_up round_away round_down
+    left_over
+    reading lines_in lines_from split fields_of field_from numeral unsigned negative digits_in_form all_digits
+    value_after
     value read_lines walk line_fault in_form has_form factor_at speed_at
 printed-hold =
     refl and refl and refl and refl  -- P1 to P4

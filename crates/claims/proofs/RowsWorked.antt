@@ -41,8 +41,10 @@ worked =
     ∷ []
 
 pub worked-hold : Every Holds worked
-unfolding outside_of asked_of given_fault building_fault out_of_form out_of_range out_of_walls out_of_roof too_long beyond zone_on
-    local_on knows place_on roof_of coefficient_of wall_column gable_column single_column flat_column roof_column two_signs
+unfolding outside_of asked_of given_fault building_fault out_of_form out_of_range out_of_walls out_of_roof too_long
+    beyond zone_on
+    local_on knows place_on roof_of coefficient_of wall_column gable_column single_column flat_column roof_column
+    two_signs
     wall_row block_of roof_way way_in divisor_up_to common_divisor on_straight half_up round_away
 worked-hold =
     refl and refl and refl and refl and refl and refl and refl and refl and refl and refl and refl

@@ -47,9 +47,12 @@ lines =
 pub sample : totals_text (reading (bytes sheet)) ≡ bytes lines
 unfolding divisor_up_to common_divisor round_down left_over half_up round_away digits_within digits decimal all_digits
     value_after value
-    digits_in_form unsigned negative numeral field_from split fields_of lines_from lines_in way_in on_straight wall_row block_of
-    out_of_roof roof_of roof_way given_fault building_fault out_of_form out_of_range out_of_walls too_long zone_on local_on knows
-    place_on wall_column gable_column single_column flat_column roof_column two_signs coefficient_of outside_of asked_of beyond
+    digits_in_form unsigned negative numeral field_from split fields_of lines_from lines_in way_in on_straight
+    wall_row block_of
+    out_of_roof roof_of roof_way given_fault building_fault out_of_form out_of_range out_of_walls too_long zone_on
+    local_on knows
+    place_on wall_column gable_column single_column flat_column roof_column two_signs coefficient_of outside_of
+    asked_of beyond
     has_form in_form line_fault walk read_lines reading better best numbers each choices total cases case_total worst
     padded shown six_extremes spaced total_text extreme_text axis_text six_text report_text factor_at speed_at
 sample = refl

@@ -116,12 +116,15 @@ rows =
     ∷ []
 
 pub rows-hold : Every Holds rows
-unfolding divisor_up_to common_divisor round_down left_over half_up round_away all_digits value_after value digits_in_form unsigned
+unfolding divisor_up_to common_divisor round_down left_over half_up round_away all_digits value_after value
+    digits_in_form unsigned
     negative numeral field_from split fields_of
     lines_from lines_in way_in on_straight wall_row block_of out_of_roof roof_of roof_way given_fault
     building_fault out_of_form out_of_range out_of_walls too_long zone_on local_on wall_column gable_column flat_column
-    coefficient_of outside_of asked_of beyond has_form in_form line_fault walk read_lines reading better best numbers each
-    choices total cases case_total worst padded shown factor_at speed_at knows place_on single_column roof_column two_signs
+    coefficient_of outside_of asked_of beyond has_form in_form line_fault walk read_lines reading better best numbers
+    each
+    choices total cases case_total worst padded shown factor_at speed_at knows place_on single_column roof_column
+    two_signs
 rows-hold = (refl, refl) and (refl, refl) and (refl, refl) and (refl, refl) and tt
 
 -- every face's speed is above 0 at speed 2

@@ -26,7 +26,8 @@ module _ (r : Reading) (line : ℤ) (old : List ℤ) where
       let t = ne_eqb _ 0 (λ z. h (ap (λ (w : Verdict). w.number) e ∙ z)) in
       (rw t e, rw t)
 
-  pub shared : (v : Verdict) (new : List ℤ) → (host_total r line).verdict.number ≡ 0 → v ≡ sharing (forces_on line r) old
+  pub shared : (v : Verdict) (new : List ℤ) → (host_total r line).verdict.number ≡ 0
+      → v ≡ sharing (forces_on line r) old
       → new ≡ buffer_after (column (forces_on line r)) old
       → (v ≡ column_verdict r line old) × (new ≡ column_after r line old)
   unfolding column_verdict column_after

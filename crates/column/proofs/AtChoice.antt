@@ -42,11 +42,13 @@ module _ {F A : Type 0} (force : F → A → ℤ) where
     up_to i = at_choice force (first_of df i fs) (first_of dk i ks)
 
     pub choice-next : (n i : ℕ) → i < n
-        → set (first_of (pos 0) n (up_to i)) i (force (get_or fs i df) (get_or ks i dk)) ≡ first_of (pos 0) n (up_to (i + 1))
+        → set (first_of (pos 0) n (up_to i)) i (force (get_or fs i df) (get_or ks i dk)) ≡ first_of (pos 0) n (up_to
+        (i + 1))
     choice-next n i h =
         let x = first_of-length df i fs in
         let y = first_of-length dk i ks in
-        let long : length (up_to i) ≡ i = choice-length (first_of df i fs) (first_of dk i ks) (omega (arith, x, y)) ∙ x in
+        let long : length (up_to i) ≡ i = choice-length (first_of df i fs) (first_of dk i ks) (omega (arith, x, y))
+        ∙ x in
         let one = force (get_or fs i df) (get_or ks i dk) in
         ap (λ k. set (first_of (pos 0) n (up_to i)) k one) (sym long)
         ∙ sym (first_of-more (pos 0) n (up_to i) one (omega (arith, long)))

@@ -29,7 +29,11 @@ one_more l f = by-test (ltb (length l) most_faces) (λ t. room (ltb-true _ _ t))
     room : length l < most_faces → with_one (listed l) f ≡ listed (l ++ (f ∷ []))
     room h =
         let c : min (length l) (most_faces + 1) ≡ length l = omega arith in
-        let e : min (length (l ++ (f ∷ []))) (most_faces + 1) ≡ length l + 1 = omega (arith, length-append l (f ∷ [])) in
+        let e : min (length (l ++ (f ∷ []))) (most_faces + 1) ≡ length l + 1 = omega (
+          arith,
+          length-append l
+              (f ∷ []),
+        ) in
         rw (c, lt-ltb (length l) most_faces h, e, first_of-more no_face most_faces l f h)
 
     none : most_faces ≤ length l → with_one (listed l) f ≡ listed (l ++ (f ∷ []))
@@ -48,7 +52,8 @@ module _ (fs : List Face) where
       → r ≡ with_one s f
       → r ≡ listed (first_of no_face (i + 1) fs)
   more s r f i e d p =
-      p ∙ ap₂ with_one e d ∙ one_more (first_of no_face i fs) (get_or fs i no_face) ∙ ap listed (first_of-next no_face fs i)
+      p ∙ ap₂ with_one e d ∙ one_more (first_of no_face i fs) (get_or fs i no_face)
+      ∙ ap listed (first_of-next no_face fs i)
 
   -- one more than a record has room for tell all that it says of a list
   telling : listed (first_of no_face (min (length fs) (most_faces + 1)) fs) ≡ listed fs
@@ -63,7 +68,8 @@ module _ (fs : List Face) where
       part : most_faces + 1 < length fs → listed (first_of no_face (min (length fs) (most_faces + 1)) fs) ≡ listed fs
       part h =
           let e : min (length fs) (most_faces + 1) ≡ most_faces + 1 = omega arith in
-          let n : min (length (first_of no_face (most_faces + 1) fs)) (most_faces + 1) ≡ min (length fs) (most_faces + 1) =
+          let n : min (length (first_of no_face (most_faces + 1) fs)) (most_faces + 1) ≡ min (length fs)
+          (most_faces + 1) =
           omega (arith, first_of-length no_face (most_faces + 1) fs) in
           ap (λ k. listed (first_of no_face k fs)) e
           ∙ (λ i. record { count = n i; entry = first_of-fewer no_face most_faces (most_faces + 1) fs (omega arith) i })

@@ -88,7 +88,8 @@ some-fault (Entry s) = omega arith
 
 -- lines up to such a count are read alike, whatever follows it
 module _ (m n : ℕ) (hm : most_faces < m) (hn : most_faces < n) (rest rest' : List (List Field)) where
-  refused-at : (n : ℕ) → most_faces < n → (rest : List (List Field)) (k : Kind) (ks : List Kind) (c : Carried) (line : ℕ)
+  refused-at : (n : ℕ) → most_faces < n → (rest : List (List Field)) (k : Kind) (ks : List Kind) (c : Carried)
+      (line : ℕ)
       → walk (k ∷ ks) c line (count_line F n ∷ rest) ≡ Refused (refusal (count_fault k) line)
   refused-at n h rest k ks c line =
       let e = too_many n h k (before c) in

@@ -115,7 +115,8 @@ module _ (j : Job) (t : Taken j) (axis : Axis) (side : Side) where
         permitted.chosen)
 
     pub handed-shown : (l : List ℤ)
-        → l ≡ first_of (pos 0) most_faces (at_choice (force_in axis) (rows count forces) (first_of 0 count e.alternative))
+        → l ≡ first_of (pos 0) most_faces (at_choice (force_in axis) (rows count forces)
+        (first_of 0 count e.alternative))
         → take count l ≡ forces_shown axis g (host_extreme (carried j).year e)
     handed-shown l h =
         let long : count ≡ length own =

@@ -94,7 +94,8 @@ module _ (c : Carried) where
       }
 
   -- a new face whose line has no fault
-  pub new-fits : (f : Face) → line_fault (Entry F) (before c) (face_fields heights f) ≡ 0 → Fits (carried_face heights f)
+  pub new-fits : (f : Face) → line_fault (Entry F) (before c) (face_fields heights f) ≡ 0
+      → Fits (carried_face heights f)
   new-fits f z =
       let x = face_fields heights f in
       let b = before c in

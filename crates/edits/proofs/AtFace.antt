@@ -119,7 +119,8 @@ module _ (c : Carried) (o : InOrder c) (fs : List Face) (few : Within 1 (face_li
   line-is false = omega (arith, lines-counted (entries_of (with_faces [] c)) (sections false))
 
   pub refused-at-face : Every (λ f. fault_of f ≡ 0) (take i fs) → (fault_of (get_or fs i no_face) ≡ 0 → ⊥)
-      → read_lines (lines_of (with_faces fs c)) ≡ Refused (refusal (fault_of (get_or fs i no_face)) (face_line c (i + 1)))
+      → read_lines (lines_of (with_faces fs c)) ≡ Refused (refusal (fault_of (get_or fs i no_face)) (face_line c
+      (i + 1)))
   unfolding lines_of
   refused-at-face e z =
       let own : Counted c.year F (length xs) = rw (length-map fs (face_fields h)) few in

@@ -24,7 +24,8 @@ use Rattle.entry.specs.declared.Face.{Face}
 use Rattle.building.specs.Year.{has_heights}
 use Rattle.entry.specs.Says.{carried_face}
 use Rattle.rules.specs.Sections.{sections, line_fault}
-use Rattle.entry_written.specs.Fields.{year_fields, building_fields, wind_fields, internal_fields, step_fields, face_fields}
+use Rattle.entry_written.specs.Fields.{year_fields, building_fields, wind_fields, internal_fields, step_fields}
+use Rattle.entry_written.specs.Fields.{face_fields}
 use Rattle.job.specs.Lines.{entries_of, section_of}
 use Rattle.job.specs.Walk.{verdict, walk}
 use Rattle.job.proofs.Walk.{learn_all, EntriesInOrder, Apart, entries_next, entries-tell}

@@ -21,7 +21,8 @@ use Rattle.rules.specs.declared.Kind.TheVariants.{Entry}
 use Rattle.entry.specs.declared.Wind.{Wind}
 use Rattle.entry.specs.declared.Step.{Step}
 use Rattle.entry.specs.declared.Face.{Face}
-use Rattle.entry.specs.Says.{number, mark, both, year_of, building_of, wind_of, internal_of, step_of, face_of, carried_face}
+use Rattle.entry.specs.Says.{number, mark, both, year_of, building_of, wind_of, internal_of, step_of, face_of}
+use Rattle.entry.specs.Says.{carried_face}
 use Rattle.rules.specs.Form.{number_forms}
 use Rattle.rules.specs.Sections.{forms}
 use Rattle.entry_written.specs.Fields.{signed, number_field, mark_field, year_fields, building_fields, wind_fields}
@@ -115,7 +116,8 @@ face-again false (more form.letter (more m (more a (more b (more d none))))) =
 pub year-back : (y : ℤ) → AllFormed (number_forms 1) (year_fields y) → year_of (year_fields y) ≡ y
 year-back y (more s none) = number-back y s
 
-pub building-back : (g : Building) → AllFormed (number_forms 6) (building_fields g) → building_of (building_fields g) ≡ g
+pub building-back : (g : Building) → AllFormed (number_forms 6) (building_fields g)
+    → building_of (building_fields g) ≡ g
 building-back g (more h (more a (more b (more d (more k (more y none)))))) =
     λ i. record {
       h = number-back g.h h i;

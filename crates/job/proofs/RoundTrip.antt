@@ -20,7 +20,8 @@ use Rattle.building.specs.Year.{last_year, has_heights}
 use Rattle.entry.specs.Says.{year_of, building_of, wind_of, internal_of, step_of, face_of, carried_face}
 use Rattle.rules.specs.Form.{number_forms}
 use Rattle.rules.specs.Sections.{sections, forms}
-use Rattle.entry_written.specs.Fields.{year_fields, building_fields, wind_fields, internal_fields, step_fields, face_fields}
+use Rattle.entry_written.specs.Fields.{year_fields, building_fields, wind_fields, internal_fields, step_fields}
+use Rattle.entry_written.specs.Fields.{face_fields}
 use Rattle.job.specs.Lines.{entries_of, section_of, sections_of, sheet_of, lines_of}
 use Rattle.job.specs.Walk.{Accepted, read_lines, judged}
 use Rattle.rules.proofs.Form.{AllFormed}

@@ -102,7 +102,8 @@ module _ (s : Section) (ks : List Kind) where
       let l : line + 1 + i ≡ line + suc i = omega arith in
       walk-on (Entry s) (entries s (length xs) ++ ks) c line x (xs ++ rest) h.0
       ∙ entries-refused xs rest i d (line + 1) (omega arith) h.1 z
-      ∙ ap (λ (m : ℕ). Refused (refusal (line_fault (Entry s) (before (learn_all s (take i xs) d)) (get_or xs i [])) m)) l
+      ∙ ap (λ (m : ℕ). Refused (refusal (line_fault (Entry s) (before (learn_all s (take i xs) d))
+      (get_or xs i [])) m)) l
 
 module _ (s : Section) where
   -- one entry more that is

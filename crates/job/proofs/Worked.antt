@@ -74,6 +74,7 @@ cases =
 
 cases-right : map (λ c. verdict (read_lines c.lines)) cases ≡ map
     (λ c. refusal c.number c.line) cases
-unfolding read_lines walk line_fault in_form has_form out_of_range out_of_walls out_of_roof roof_of too_long beyond zone_on
+unfolding read_lines walk line_fault in_form has_form out_of_range out_of_walls out_of_roof roof_of too_long beyond
+    zone_on
     knows
 cases-right = refl

@@ -108,7 +108,8 @@ building-given g b =
 
 -- so has each entry
 module _ (b : Before) where
-  pub year-given : (y : ℤ) → line_fault (Entry «V») b (year_fields y) ≡ cond (too_long y || false) 1 (first (year_faults y))
+  pub year-given : (y : ℤ) → line_fault (Entry «V») b (year_fields y) ≡ cond (too_long y || false) 1 (first
+      (year_faults y))
   unfolding in_form
   year-given y =
       given_by (Entry «V») b (year_fields y) (too_long y ∷ []) (first (year_faults y)) (rw (number-form y))

@@ -6,7 +6,8 @@ use Rattle.rules.specs.declared.Section.{Section}
 use Rattle.rules.specs.declared.Section.TheVariants.{«V», B, W, I, P, F}
 use Rattle.job.specs.Carried.{Carried, with_faces}
 use Rattle.building.specs.Year.{has_heights}
-use Rattle.entry_written.specs.Fields.{year_fields, building_fields, wind_fields, internal_fields, step_fields, face_fields}
+use Rattle.entry_written.specs.Fields.{year_fields, building_fields, wind_fields, internal_fields, step_fields}
+use Rattle.entry_written.specs.Fields.{face_fields}
 use Rattle.rules.specs.Sections.{about, sections}
 
 -- the entries of each section as fields

@@ -12,7 +12,8 @@ use Rattle.whole.proofs.Tests.{by-test, and-true}
 use Rattle.field.specs.declared.Field.{Field}
 use Rattle.field.specs.declared.Field.TheVariants.{Bad, Plus, Minus, Letter, Dash}
 use Rattle.whole.specs.Digits.{digits, is_digit, all_digits, value_after, value}
-use Rattle.field.specs.Field.{first_byte, digits_in_form, unsigned, negative, numeral, field_from, lone_dash, lone_capital}
+use Rattle.field.specs.Field.{first_byte, digits_in_form, unsigned, negative, numeral, field_from, lone_dash}
+use Rattle.field.specs.Field.{lone_capital}
 use Rattle.whole.specs.Lists.{Every}
 use Rattle.lines.specs.Lines.{split, fields_of, lines_from, lines_in, field_text, line_text, text_of_lines}
 use Rattle.lines.specs.Lines.{InForm, LinesInForm}

@@ -101,7 +101,8 @@ module _ {all : List Fate} {old rows buf list : List ℕ} {at next : ℕ} {p : P
   pub going-added : {buf' list' : List ℕ} {at' next' : ℕ} (added : Bool)
       → Going added all old rows buf list at next p [] → added ≡ true
       → Put buf at (10 ∷ []) buf' at' → Put list next (p.line ∷ 5 ∷ p.place ∷ []) list' next'
-      → (buf' ≡ sets old 0 (with_end added (left all))) × (list' ≡ sets rows 0 (as_numbers (changes_from added 1 1 all)))
+      → (buf' ≡ sets old 0 (with_end added (left all))) × (list' ≡ sets rows 0 (as_numbers
+      (changes_from added 1 1 all)))
   unfolding left changes_from as_numbers
   going-added false g e u v = absurd (true≢false (sym e))
   going-added true g e u v = (

@@ -62,7 +62,8 @@ module _ (d : Bool) (s : List ℕ) (i : ℕ) where
     pub only-stop : ends_run d (get_or s i 0) ≡ true → runs_on d (clean (drop i s)) ≡ true
     only-stop e = rw (clean-other s i h (ends_return d _ e)) (run-stop d _ _ e)
 
-    pub only-fail : ends_run d (get_or s i 0) ≡ false → in_run d (get_or s i 0) ≡ false → runs_on d (clean (drop i s)) ≡ false
+    pub only-fail : ends_run d (get_or s i 0) ≡ false → in_run d (get_or s i 0) ≡ false
+        → runs_on d (clean (drop i s)) ≡ false
     only-fail e p = rw (clean-other s i h (eqb-false _ _ (or-false (eqb (get_or s i 0) 13) _ p).0)) (run-fail d _ _ e p)
 
     pub only-on : ends_run d (get_or s i 0) ≡ false → in_run d (get_or s i 0) ≡ true

@@ -89,7 +89,8 @@ module _ (slip : Slip)
       (λ u. rw u))
       [] [] s (inl refl)
 
-  module _ (digit-next : (b s : List ℕ) → is_digit (next (sift slip (43 ∷ b) s)) ≡ true → is_digit (next s) ≡ true) where
+  module _ (digit-next : (b s : List ℕ) → is_digit (next (sift slip (43 ∷ b) s)) ≡ true
+      → is_digit (next s) ≡ true) where
     plus-calm : (c b : List ℕ) (x : ℕ) (s : List ℕ) → Near c b (x ∷ s) → needless_plus b x s ≡ false
         → needless_plus c x (sift slip (x ∷ b) s) ≡ false
     plus-calm c b x s a q =
@@ -100,7 +101,8 @@ module _ (slip : Slip)
         let n : last c ≡ last b = near_before c b s x z a in
         let d : is_digit (next (sift slip (x ∷ b) s)) ≡ true → is_digit (next s) ≡ true = rw e (digit-next b s) in
         rw (u, n)
-        (falls (parts_fields (last b) && is_digit (next (sift slip (x ∷ b) s))) (parts_fields (last b) && is_digit (next s))
+        (falls (parts_fields (last b) && is_digit (next (sift slip (x ∷ b) s))) (parts_fields (last b) && is_digit
+        (next s))
         (λ h. let f = and-true (parts_fields (last b)) (is_digit (next (sift slip (x ∷ b) s))) h in rw (f.0, d f.1))
         (rw u at q)))
         (λ u. rw u)

@@ -187,6 +187,7 @@ unfolding first_of
 own [] rest = refl
 own (k ∷ ks) rest = ap (λ l. k ∷ l) (own ks rest)
 
-pub own-choice : (n : ℕ) (choice ks : List ℕ) → choice ≡ padded most_walked ks → length ks ≡ n → first_of 0 n choice ≡ ks
+pub own-choice : (n : ℕ) (choice ks : List ℕ) → choice ≡ padded most_walked ks → length ks ≡ n
+    → first_of 0 n choice ≡ ks
 unfolding padded
 own-choice n choice ks e long = (λ j. first_of 0 (sym long j) (e j)) ∙ own ks _

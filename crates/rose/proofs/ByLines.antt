@@ -73,7 +73,8 @@ line-one l b = sym (line-append no_bytes l (b ∷ []))
 module _ (v : Verdict) where
   -- behind a line, if what follows a line that is counted is so
   after_line : (s p : List ℕ) (count : ℕ) (cell : List ℕ)
-      → ((m : ℕ) (c : List ℕ) → part_taken (open_rose v m c no_bytes) s ≡ so_far (open_rose v m c no_bytes) (split 10 s))
+      → ((m : ℕ) (c : List ℕ) → part_taken (open_rose v m c no_bytes) s ≡ so_far (open_rose v m c no_bytes)
+      (split 10 s))
       → (x : Said)
       → part_taken (line_judged (open_rose v count cell (line_after no_bytes p)) x) s
       ≡ so_far (line_judged (open_rose v count cell no_bytes) x) (split 10 s)
@@ -106,7 +107,8 @@ module _ (v : Verdict) where
 
   end_line : (ps : List (List ℕ)) (ls : List (List Field)) (count : ℕ) (cell : List ℕ)
       → ((m : ℕ) (c : List ℕ)
-      → end_taken (so_far (open_rose v m c no_bytes) ps) ≡ shut (lines_judged (open_rose v m c no_bytes) ls)) → (x : Said)
+      → end_taken (so_far (open_rose v m c no_bytes) ps) ≡ shut (lines_judged (open_rose v m c no_bytes) ls))
+      → (x : Said)
       → end_taken (so_far (line_judged (open_rose v count cell no_bytes) x) ps)
       ≡ shut (lines_judged (line_judged (open_rose v count cell no_bytes) x) ls)
   unfolding end_taken

@@ -98,7 +98,8 @@ module _ (top : ℕ) where
       ∙ digits-say top 3 Minus refl (λ v. refl) q (x - 48) (omega arith) (omega arith)
       ∙ sym (ap (field_says top) (first_signed x q lo hi))
 
-  zero-says : (q : List ℕ) → number_says top (number_after (started 0 0) (48 ∷ q)) ≡ field_says top (field_from (48 ∷ q))
+  zero-says : (q : List ℕ) → number_says top (number_after (started 0 0) (48 ∷ q)) ≡ field_says top (field_from
+      (48 ∷ q))
   unfolding number_after field_from numeral unsigned digits_in_form all_digits value value_after
   zero-says [] = refl
   zero-says (y ∷ q) =

@@ -77,7 +77,8 @@ pub spaced-line : (l : List ℕ) → until 32 l < length l
     → line_says (fields_of l)
     ≡ together (field_says 359 (field_from (take (until 32 l) l)))
     (field_says 1000 (field_from (drop (suc (until 32 l)) l)))
-spaced-line l h = ap line_says (fields-more l h) ∙ two-say (field_from (take (until 32 l) l)) (drop (suc (until 32 l)) l)
+spaced-line l h = ap line_says (fields-more l h) ∙ two-say (field_from (take (until 32 l) l)) (drop (suc
+    (until 32 l)) l)
 
 pub one-field-line : (l : List ℕ) → length l ≤ until 32 l → line_says (fields_of l) ≡ OutOfForm
 one-field-line l h = ap line_says (fields-last l h)

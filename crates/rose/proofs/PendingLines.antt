@@ -94,7 +94,8 @@ begun-bytes p =
 
 pub after-bytes : (b : ℕ) (s : List ℕ) → has_bytes (line_after no_bytes (b ∷ s)) ≡ true
 unfolding line_after
-after-bytes b s = begun-bytes (line_after (line_more no_bytes b) s) (after-begun (line_more no_bytes b) s (first-begun b))
+after-bytes b s = begun-bytes (line_after (line_more no_bytes b) s) (after-begun (line_more no_bytes b) s
+    (first-begun b))
 
 -- ---- what it says
 

@@ -126,7 +126,8 @@ stands d v h k =
     }
 
 module _ (d v : Field) {k : ℕ} where
-  two-stand : (x y : Said) → field_says 359 d ≡ x → field_says 1000 v ≡ y → together x y ≡ Is k → StandsIn (d ∷ v ∷ []) k
+  two-stand : (x y : Said) → field_says 359 d ≡ x → field_says 1000 v ≡ y → together x y ≡ Is k
+      → StandsIn (d ∷ v ∷ []) k
   two-stand OutOfForm y p q e = absurd (no-form e)
   two-stand OutOfRange OutOfForm p q e = absurd (no-form e)
   two-stand OutOfRange OutOfRange p q e = absurd (no-range e)

@@ -36,7 +36,8 @@ module _ (v : Verdict) (count : ℕ) (cell : List ℕ) (p : Pending) (s : List �
   byte-pending n q e = at_byte ∙ rw (ne_eqb _ _ n, e)
 
   -- the LF of a line that says x and has fault n
-  module _ (lf : get_or s at 0 ≡ 10) (x : Said) (says : x ≡ pending_says p) (n : ℕ) (fault : n ≡ fault_after count x) where
+  module _ (lf : get_or s at 0 ≡ 10) (x : Said) (says : x ≡ pending_says p) (n : ℕ)
+      (fault : n ≡ fault_after count x) where
     at-line : part_taken so-far (drop at s) ≡ part_taken (line_judged so-far x) (drop (at + 1) s)
     at-line = at_byte ∙ rw (eq-eqb _ _ lf, says)
 

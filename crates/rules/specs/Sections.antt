@@ -82,4 +82,5 @@ line_fault k b fs = cond (in_form (forms_by b k) fs) (first (faults_of k b fs)) 
 -- where a line has it: in the first field that is not in form, or where the first fault that is found lies
 unfoldable pub line_spot : Kind → Before → List Field → Spot
 line_spot k b fs =
-    cond (in_form (forms_by b k) fs) (first_spot (faults_of k b fs)) (spot_of (first_out (forms_by b k) fs) (faults_of k b fs))
+    cond (in_form (forms_by b k) fs) (first_spot (faults_of k b fs)) (spot_of (first_out (forms_by b k) fs)
+    (faults_of k b fs))

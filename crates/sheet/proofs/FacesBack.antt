@@ -38,7 +38,8 @@ faces-read s lent = go (reading s) refl
     go (Refused v) a room = faces-none (flat_after (Refused v) lent)
 
 -- no more than a record has room for
-pub few-read : (s : List ℕ) → (length (faces_read (reading s)) ≤ most_faces) × ((head_of (reading s)).faces ≤ most_faces)
+pub few-read : (s : List ℕ) → (length (faces_read (reading s)) ≤ most_faces)
+    × ((head_of (reading s)).faces ≤ most_faces)
 few-read s = go (reading s) refl
   where
     go : (r : Reading) → reading s ≡ r → (length (faces_read r) ≤ most_faces) × ((head_of r).faces ≤ most_faces)

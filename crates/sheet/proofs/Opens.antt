@@ -9,7 +9,8 @@ use lib.ListN.{length, get_or, drop}
 use borrow.Author.Tests.{ne_eqb}
 use Rattle.whole.proofs.Tests.{by-test}
 use Rattle.whole.specs.Digits.{value}
-use Rattle.field.specs.Field.{first_byte, digits_in_form, unsigned, negative, numeral, lone_dash, lone_capital, field_from}
+use Rattle.field.specs.Field.{first_byte, digits_in_form, unsigned, negative, numeral, lone_dash, lone_capital}
+use Rattle.field.specs.Field.{field_from}
 use Rattle.lines.specs.Lines.{onto, split, fields_of, lines_from, lines_in}
 use Rattle.entry.specs.Says.{letter, at}
 use Rattle.job.specs.Carried.{nothing}

@@ -145,7 +145,8 @@ pub passed-more : (zs : List ℤ) (z : ℤ) (x : ℕ) (t : List ℕ)
     → passed 32 zs ++ (decimal z ++ (x ∷ t)) ≡ passed x (zs ++ (z ∷ [])) ++ t
 unfolding passed line_text
 passed-more [] z x t =
-    ap (λ (l : List ℕ). l ++ (x ∷ t)) (sym (number-text z)) ∙ sym (append_assoc (field_text (number_field z)) (x ∷ []) t)
+    ap (λ (l : List ℕ). l ++ (x ∷ t)) (sym (number-text z)) ∙ sym (append_assoc (field_text (number_field z))
+    (x ∷ []) t)
 passed-more (y ∷ zs) z x t =
     let fs = map number_field (y ∷ zs) in
     append_assoc (line_text fs) (32 ∷ []) (decimal z ++ (x ∷ t))

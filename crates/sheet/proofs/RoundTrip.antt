@@ -27,7 +27,8 @@ reading-answers s = lines-answer (lines_in s)
 -- an accepted sheet, read and written again, is the same bytes
 pub read-written : (s : List ℕ) (c : Carried) → reading s ≡ Accepted c → sheet_text c ≡ s
 unfolding reading sheet_text
-read-written s c a = ap text_of_lines (accepted-lines (lines_in s) c a) ∙ rows-text s (accepted-not-bad (lines_in s) c a)
+read-written s c a = ap text_of_lines (accepted-lines (lines_in s) c a)
+    ∙ rows-text s (accepted-not-bad (lines_in s) c a)
 
 -- so with the record that was read and a lent buffer: what comes of writing it is what comes of writing the text
 pub read-rewritten : (s : List ℕ) (c : Carried) → reading s ≡ Accepted c → (buf : List ℕ)

@@ -187,6 +187,7 @@ cases =
 cases-right : map (λ c. verdict (reading (bytes c.text))) cases ≡ map
     (λ c. refusal c.number c.line) cases
 unfolding reading lines_in lines_from split fields_of field_from numeral unsigned negative digits_in_form
-    all_digits value_after value read_lines walk line_fault in_form has_form out_of_range out_of_walls out_of_roof roof_of too_long
+    all_digits value_after value read_lines walk line_fault in_form has_form out_of_range out_of_walls out_of_roof
+    roof_of too_long
     beyond zone_on knows
 cases-right = refl

@@ -1,5 +1,6 @@
 -- Where the first fault of a sheet lies, and what may stand there.
-use Rattle.std.specs.Prelude.{ℕ, zero, suc, ◌+◌, ◌-◌, min, cond, List, [], ◌∷◌, ◌++◌, ltb, eqb, pos, length, get_or, take, drop}
+use Rattle.std.specs.Prelude.{ℕ, zero, suc, ◌+◌, ◌-◌, min, cond, List, [], ◌∷◌, ◌++◌, ltb, eqb, pos, length, get_or}
+use Rattle.std.specs.Prelude.{take, drop}
 use Rattle.verdict.specs.declared.Verdict.{Verdict}
 use Rattle.field.specs.declared.Field.{Field}
 use Rattle.lines.specs.Lines.{split, fields_of, lines_in}

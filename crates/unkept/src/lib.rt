@@ -1,4 +1,6 @@
 // Edits of a job without stored sums, from C: what ./bench holds the worksheet against. `unkept_c` exports them.
+#![tactic(auto)]
+
 ghost use Rattle.std.specs.Prelude.{◌≡◌};
 ghost use Rattle.job.specs.Walk.{judged};
 ghost use Rattle.sheet.specs.Sheet.{job_writing, job_buffer};

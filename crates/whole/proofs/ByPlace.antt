@@ -19,7 +19,8 @@ member-get_d [] d m = absurd (Memᴰ.not-nil m)
 member-get_d {X} {x} (y ∷ ys) d m =
     ⊎_elim (λ e. (0, omega arith, sym e)) (λ n. later (member-get_d ys d n)) (Memᴰ.cases_cons m)
   where
-    later : (i : ℕ) × (i < length ys) × (get_or ys i d ≡ x) → (i : ℕ) × (i < length (y ∷ ys)) × (get_or (y ∷ ys) i d ≡ x)
+    later : (i : ℕ) × (i < length ys) × (get_or ys i d ≡ x) → (i : ℕ) × (i < length (y ∷ ys))
+        × (get_or (y ∷ ys) i d ≡ x)
     later r = let h = r.1 in (suc r.0, omega arith, r.2)
 
 -- what holds of every member, and of what stands past the end, holds at every place

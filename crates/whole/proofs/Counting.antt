@@ -14,7 +14,8 @@ use Rattle.whole.proofs.Numbers.{numbers-next}
 
 -- one more
 pub many-next : {A : Type 0} (has : A → Bool) (l : List A) (d : A) (i : ℕ) → i < length l
-    → cond (has (get_or l i d)) (suc (how_many has (take i l))) (how_many has (take i l)) ≡ how_many has (take (i + 1) l)
+    → cond (has (get_or l i d)) (suc (how_many has (take i l))) (how_many has (take i l)) ≡ how_many has (take
+    (i + 1) l)
 unfolding how_many
 many-next {A} has l d i h = go l i h ∙ ap (λ n. how_many has (take n l)) (sym (add-one i))
   where

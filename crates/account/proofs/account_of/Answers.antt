@@ -86,14 +86,16 @@ pub returns-then-shown-ne0 : goal.returns-then-shown-ne0
 returns-then-shown-ne0 c =
     let at_shown_of_shown = (goal.at.returns-then-shown-ne0 c).After-shown_of-shown in
     c.no_account.ensures
-    ∙ refused (j at_shown_of_shown) (line at_shown_of_shown) c.args.face (e at_shown_of_shown) (shown at_shown_of_shown) c.if-shown-ne0.true
+    ∙ refused (j at_shown_of_shown) (line at_shown_of_shown) c.args.face (e at_shown_of_shown)
+    (shown at_shown_of_shown) c.if-shown-ne0.true
 
 pub returns-then-beyond : goal.returns-then-beyond
 returns-then-beyond c =
     let at_shown_of_shown = (goal.at.returns-then-beyond c).After-shown_of-shown in
     let at_beyond = (goal.at.returns-then-beyond c).After-beyond in
     c.no_account-then-beyond.ensures
-    ∙ no-such-face (j at_shown_of_shown) (line at_shown_of_shown) (face at_beyond) (e at_shown_of_shown) (shown at_shown_of_shown) (t at_beyond) (named at_beyond)
+    ∙ no-such-face (j at_shown_of_shown) (line at_shown_of_shown) (face at_beyond) (e at_shown_of_shown)
+    (shown at_shown_of_shown) (t at_beyond) (named at_beyond)
     (sym (tested at_beyond) ∙ c.if-beyond.true)
 
 pub overflow_cast-face : goal.overflow_cast-face
@@ -108,7 +110,8 @@ face_account-requires c =
     let at_beyond = (goal.at.face_account-requires c).After-beyond in
     let size = ap nat_abs (number c).same in (
       t at_beyond,
-      line-by (j at_shown_of_shown) (line at_shown_of_shown) (e at_shown_of_shown) (shown at_shown_of_shown) (named at_beyond)
+      line-by (j at_shown_of_shown) (line at_shown_of_shown) (e at_shown_of_shown) (shown at_shown_of_shown)
+          (named at_beyond)
           ∙ ap (host_line (carried (j at_shown_of_shown)).year (six_extremes (carried (j at_shown_of_shown))))
           (sym (to_z-of_z w64 (line at_shown_of_shown) c.ranges.line)),
       named at_beyond,

@@ -24,7 +24,11 @@ coefficient-requires c =
     let a = c.args in
     let f =
     subst (FitIn a.d.year a.d.building a.direction a.place) (sym (asked at_asked_q) ∙ c.in-Of.is)
-    (question-fits a.d.year a.d.building a.direction a.place) in record { sizes_in_order = f.order; kind_nonzero = f.roofed }
+    (question-fits a.d.year a.d.building a.direction a.place) in record {
+      sizes_in_order = f.order;
+      kind_nonzero =
+          f.roofed;
+    }
 
 pub returns-in-Of : goal.returns-in-Of
 unfolding outside_of

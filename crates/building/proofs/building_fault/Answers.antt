@@ -9,7 +9,8 @@ use Rattle.building.specs.Order.{Ranged}
 use Rattle.building.specs.Building.{out_of_range, out_of_walls, out_of_roof, sizes}
 use Rattle.building.proofs.Accepted.{fields, ranged}
 use Rattle.building.proofs.Tested.{fault-tests}
-use Rattle.building.proofs.building_fault.Goals.{After-out_of_roof, After-out_of_walls, After-sizes_of-s, Else-out_of_range}
+use Rattle.building.proofs.building_fault.Goals.{After-out_of_roof, After-out_of_walls, After-sizes_of-s}
+use Rattle.building.proofs.building_fault.Goals.{Else-out_of_range}
 use Rattle.building.proofs.building_fault.Goals as goal
 
 in-range : (c : Else-out_of_range) → out_of_range c.args.d.building ≡ false

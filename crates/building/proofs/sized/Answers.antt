@@ -28,7 +28,8 @@ module _ (c : After-or_then-v) where
 good : (c : Else-v-ne0) → let g = d (goal.at.Else-v-ne0 c).After-or_then-v in InYear g.year g.building
 good c =
     let at_or_then_v = (goal.at.Else-v-ne0 c).After-or_then-v in
-    first-passed (d at_or_then_v).year (d at_or_then_v).building (sym (ap (λ (v : Verdict). v.number) (first-is at_or_then_v)) ∙ c.if-v-ne0.false)
+    first-passed (d at_or_then_v).year (d at_or_then_v).building (sym (ap (λ (v : Verdict). v.number)
+    (first-is at_or_then_v)) ∙ c.if-v-ne0.false)
 
 pub returns-then-v-ne0 : goal.returns-then-v-ne0
 returns-then-v-ne0 c =

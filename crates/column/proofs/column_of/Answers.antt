@@ -39,7 +39,8 @@ module _ (c : After-shown_of-shown) where
 pub returns-then-shown-ne0 : goal.returns-then-shown-ne0
 returns-then-shown-ne0 c =
     let at_shown_of_shown = (goal.at.returns-then-shown-ne0 c).After-shown_of-shown in
-    refused (judged (j at_shown_of_shown)) (line at_shown_of_shown) c.args.list.now (e at_shown_of_shown).verdict (verdict-is at_shown_of_shown) c.if-shown-ne0.true
+    refused (judged (j at_shown_of_shown)) (line at_shown_of_shown) c.args.list.now (e at_shown_of_shown).verdict
+    (verdict-is at_shown_of_shown) c.if-shown-ne0.true
 
 pub share_case-requires : goal.share_case-requires
 share_case-requires c =

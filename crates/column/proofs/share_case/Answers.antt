@@ -62,5 +62,8 @@ pub returns : goal.returns
 returns c =
     let at_at_choice_all = (goal.at.returns c).After-at_choice-all in
     let e = c.share.ensures in
-    let old = c.args.list.now in
-    (e.0 ∙ ap (λ l. sharing l old) (own at_at_choice_all), e.1 ∙ ap (λ l. buffer_after (column l) old) (own at_at_choice_all))
+    let old = c.args.list.now in (
+      e.0 ∙ ap (λ l. sharing l old) (own at_at_choice_all),
+      e.1
+          ∙ ap (λ l. buffer_after (column l) old) (own at_at_choice_all),
+    )

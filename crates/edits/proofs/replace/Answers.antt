@@ -12,7 +12,8 @@ use Rattle.edits.specs.Faces.{replaced}
 use Rattle.edits.specs.Edits.{Replace, held_job, no_such_face, new_face, edit_verdict, edit_faces}
 use Rattle.edits.proofs.Counts.{held-in-order, roomed}
 use Rattle.edits.proofs.Checks.{Passed, replace-passed, there-is, edit-refused, edit-taken}
-use Rattle.edits.proofs.replace.Goals.{After-carried_face-new, After-has_heights, After-magnitude-n, After-of_replace-v, Else-v-ne0, Start}
+use Rattle.edits.proofs.replace.Goals.{After-carried_face-new, After-has_heights, After-magnitude-n, After-of_replace-v}
+use Rattle.edits.proofs.replace.Goals.{Else-v-ne0, Start}
 use Rattle.edits.proofs.replace.Goals as goal
 
 verdict-is : (c : After-of_replace-v) → let a = c.args in

@@ -48,7 +48,8 @@ pub returns-then-z-lt0 : goal.returns-then-z-lt0
 returns-then-z-lt0 c =
     let at_magnitude_m = (goal.at.returns-then-z-lt0 c).After-magnitude-m in
     c.slot-then-z-lt0.ensures
-    ∙ ap slot (signed_below (z at_magnitude_m) (size at_magnitude_m) (sign at_magnitude_m _ c.if-z-lt0.true) ∙ number_short (z at_magnitude_m) (short at_magnitude_m))
+    ∙ ap slot (signed_below (z at_magnitude_m) (size at_magnitude_m) (sign at_magnitude_m _ c.if-z-lt0.true)
+    ∙ number_short (z at_magnitude_m) (short at_magnitude_m))
 
 pub overflow_cast-m-2 : goal.overflow_cast-m-2
 overflow_cast-m-2 c = omega (arith, small (goal.at.overflow_cast-m-2 c).After-magnitude-m)
@@ -57,4 +58,5 @@ pub returns : goal.returns
 returns c =
     let at_magnitude_m = (goal.at.returns c).After-magnitude-m in
     c.slot-2.ensures
-    ∙ ap slot (signed_above (z at_magnitude_m) (size at_magnitude_m) (sign at_magnitude_m _ c.if-z-lt0.false) ∙ number_short (z at_magnitude_m) (short at_magnitude_m))
+    ∙ ap slot (signed_above (z at_magnitude_m) (size at_magnitude_m) (sign at_magnitude_m _ c.if-z-lt0.false)
+    ∙ number_short (z at_magnitude_m) (short at_magnitude_m))

@@ -17,7 +17,8 @@ returns-then-list-all c =
 pub slice_bounds-verdict_of-end : goal.slice_bounds-verdict_of-end
 slice_bounds-verdict_of-end c =
     let t = c.tally_all-bytes in
-    within _ t.result c.with_end-all.result t.ensures.0 c.with_end-all.ensures _ _ c.if-out-all.false c.if-list-all.false
+    within _ t.result c.with_end-all.result t.ensures.0 c.with_end-all.ensures _ _ c.if-out-all.false
+    c.if-list-all.false
     c.put_all.ensures
 
 pub returns : goal.returns

@@ -54,7 +54,8 @@ pub overflow_add-p : goal.overflow_add-p
 overflow_add-p c = let b = both (goal.at.overflow_add-p c).Then-both_addable in omega (arith, b.first.proper)
 
 pub overflow_sub-p-then-both_addable-2 : goal.overflow_sub-p-then-both_addable-2
-overflow_sub-p-then-both_addable-2 c = let b = both (goal.at.overflow_sub-p-then-both_addable-2 c).Then-both_addable in omega (arith, b.second.proper)
+overflow_sub-p-then-both_addable-2 c = let b = both (goal.at.overflow_sub-p-then-both_addable-2 c).Then-both_addable
+    in omega (arith, b.second.proper)
 
 pub carried-requires : goal.carried-requires
 carried-requires c =

@@ -28,7 +28,8 @@ sized c = c.of_size-p.ensures ∙ ap of_size (c.magnitude.ensures ∙ size (tota
 pub returns-then-total-lt0 : goal.returns-then-total-lt0
 returns-then-total-lt0 c =
     let at_of_size_p = (goal.at.returns-then-total-lt0 c).After-of_size-p in
-    c.mirror.ensures ∙ ap mirrored (sized at_of_size_p) ∙ below _ (lt_yes (total at_of_size_p) (num (pos 0)) c.if-total-lt0.true)
+    c.mirror.ensures ∙ ap mirrored (sized at_of_size_p) ∙ below _ (lt_yes (total at_of_size_p) (num
+    (pos 0)) c.if-total-lt0.true)
 
 pub returns-else-total-lt0 : goal.returns-else-total-lt0
 returns-else-total-lt0 c =

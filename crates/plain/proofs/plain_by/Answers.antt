@@ -55,9 +55,11 @@ faces_with_two-requires c = taken c
 pub returns-then-faces_with_two-gt-MOST_WITH_TWO : goal.returns-then-faces_with_two-gt-MOST_WITH_TWO
 returns-then-faces_with_two-gt-MOST_WITH_TWO c =
     c.reckoning-then-faces_with_two-gt-MOST_WITH_TWO.ensures
-    ∙ ap (answer (refusal 10 0) (pos 0)) (none-are c.nothing_yet-then-faces_with_two-gt-MOST_WITH_TWO.result c.nothing_yet-then-faces_with_two-gt-MOST_WITH_TWO.ensures)
+    ∙ ap (answer (refusal 10 0) (pos 0)) (none-are c.nothing_yet-then-faces_with_two-gt-MOST_WITH_TWO.result
+    c.nothing_yet-then-faces_with_two-gt-MOST_WITH_TWO.ensures)
     ∙ by_count (goal.at.returns-then-faces_with_two-gt-MOST_WITH_TWO c).Else-v-ne0 _
-    (ap (λ k. leb k most_with_two) (sym c.faces_with_two.ensures) ∙ lt-leb _ most_with_two c.if-faces_with_two-gt-MOST_WITH_TWO.true)
+    (ap (λ k. leb k most_with_two) (sym c.faces_with_two.ensures)
+    ∙ lt-leb _ most_with_two c.if-faces_with_two-gt-MOST_WITH_TWO.true)
 
 pub every_wind-requires : goal.every_wind-requires
 every_wind-requires c =
@@ -73,4 +75,5 @@ returns c =
     ∙ (λ k. answer (v k) ((returned w64 c.args.job.year c.struct_told-1.given.0.1).same k)
     (c.every_wind.ensures k))
     ∙ by_count at_v_ne0 _
-    (ap (λ k. leb k most_with_two) (sym c.faces_with_two.ensures) ∙ le-leb _ most_with_two c.if-faces_with_two-gt-MOST_WITH_TWO.false)
+    (ap (λ k. leb k most_with_two) (sym c.faces_with_two.ensures)
+    ∙ le-leb _ most_with_two c.if-faces_with_two-gt-MOST_WITH_TWO.false)

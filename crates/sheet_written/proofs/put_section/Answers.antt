@@ -23,7 +23,8 @@ use Rattle.job.proofs.Alone.{entry_of}
 use Rattle.job.proofs.Room.{most-roomed}
 use Rattle.sheet_written.proofs.Puts.{entry-held, put-none, put-entry, put_all}
 use borrow.Author.Rules.{rules, sfits_of}
-use Rattle.sheet_written.proofs.put_section.Goals.{After-entry_count-n, After-has_heights-heights, In-loop-i, Joined-sec, Start}
+use Rattle.sheet_written.proofs.put_section.Goals.{After-entry_count-n, After-has_heights-heights, In-loop-i}
+use Rattle.sheet_written.proofs.put_section.Goals.{Joined-sec, Start}
 use Rattle.sheet_written.proofs.put_section.Goals.{in-V, in-B, in-W, in-I, in-P, in-F}
 use mir.Syntax.{w64}
 use Rattle.sheet_written.proofs.put_section.Goals as goal

@@ -9,7 +9,8 @@ use Rattle.sheet_written.proofs.put_section.Given as goal
 
 abbrev pub invariant-loop-i : goal.invariant-loop-i
 invariant-loop-i l =
-    (l.i ≤ l.n) × Put l.initial.buf l.initial.next (text_of_lines (take l.i (entries_of (carried l.j) l.sec))) l.buf l.next
+    (l.i ≤ l.n) × Put l.initial.buf l.initial.next (text_of_lines (take l.i (entries_of
+    (carried l.j) l.sec))) l.buf l.next
 
 abbrev pub decreases-loop-i : goal.decreases-loop-i
 decreases-loop-i l = l.n - l.i

@@ -57,7 +57,8 @@ pub put_section-next-requires : goal.put_section-next-requires
 unfolding carried
 put_section-next-requires c =
     let at_loop_i = (goal.at.put_section-next-requires c).At-loop-i in
-    subst (λ (s : Section). length (entries_of (carried (job at_loop_i)) s) ≤ (about s).most (job at_loop_i).year) (sym (section-is c))
+    subst (λ (s : Section). length (entries_of (carried (job at_loop_i)) s) ≤ (about s).most (job at_loop_i).year)
+    (sym (section-is c))
     (every-at _ (sections (has_heights (job at_loop_i).year)) «V» c.loop-i.i (few c) c.requires)
 
 pub loop-i-preserved : goal.loop-i-preserved

@@ -70,4 +70,5 @@ returns c =
     let v = c.verdict_of-v.result in
     c.slip_on.ensures
     ∙ (λ i. slip_on v (c.reach.ensures.0 i) (c.part_of.ensures.0 i) (text at_v_eq0))
-    ∙ sym (ap (λ (w : Verdict). slip_with w (text at_v_eq0)) (sym (is at_v_eq0)) ∙ rw (ne_eqb v.number 0 c.if-v-eq0.false))
+    ∙ sym (ap (λ (w : Verdict). slip_with w (text at_v_eq0)) (sym (is at_v_eq0))
+    ∙ rw (ne_eqb v.number 0 c.if-v-eq0.false))

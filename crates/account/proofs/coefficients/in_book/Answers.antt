@@ -46,7 +46,8 @@ pub returns : goal.returns
 returns c =
     let at_outside_in_outside = (goal.at.returns c).After-outside_in-outside in
     let fits : SFits w32 c.less-net.result = search rules in
-    let net-is = to_z-of_z w32 _ fits ∙ c.less-net.ensures ∙ (λ i. net (outside at_outside_in_outside i) (internal at_outside_in_outside i)) in
+    let net-is = to_z-of_z w32 _ fits ∙ c.less-net.ensures ∙ (λ i. net (outside at_outside_in_outside i)
+    (internal at_outside_in_outside i)) in
     λ i. record {
       rows = (c.rows_of-rows.ensures ∙ ap cited_rows (answered at_outside_in_outside)) i;
       outside = outside at_outside_in_outside i;

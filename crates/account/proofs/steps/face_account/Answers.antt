@@ -34,7 +34,9 @@ use Rattle.account.proofs.Case.{Numbers, case-numbers}
 use Rattle.account.proofs.Bounds.{shown-low, area-carried, met, under-is, under_low, internal-low}
 use Rattle.account.proofs.Bounds.{area-is, coefficients-same}
 use Rattle.account.proofs.Together.{put-together}
-use Rattle.account.proofs.steps.face_account.Goals.{After-coefficients_of-c, After-force_of-force, After-newtons_at-newtons, After-on_axis-area, After-under_wind-under, Start}
+use Rattle.account.proofs.steps.face_account.Goals.{After-coefficients_of-c, After-force_of-force}
+use Rattle.account.proofs.steps.face_account.Goals.{After-newtons_at-newtons, After-on_axis-area}
+use Rattle.account.proofs.steps.face_account.Goals.{After-under_wind-under, Start}
 use Rattle.account.proofs.steps.face_account.Goals as goal
 
 module _ (s : Start) where
@@ -73,7 +75,8 @@ module _ (d : After-under_wind-under) where
   abbrev case : CaseOf
   case = d.case_of-case.result
 
-  under : d.under_wind-under.result ≡ under_wind (given (carried (j s))) (wind_at (given (carried (j s))) (shown s).wind)
+  under : d.under_wind-under.result ≡ under_wind (given (carried (j s))) (wind_at (given (carried (j s)))
+      (shown s).wind)
       (face_at (given (carried (j s))) (k s))
   under =
       d.under_wind-under.ensures
@@ -88,14 +91,16 @@ small : (s : Start) (direction : ℤ)
     → nat_abs (outside_in (outside_of (j s).year (j s).building direction (face s).zone) (get_or (shown s).alternative
     (k s - 1) 0)) ≤ 1200
 small s direction =
-    small-outside (j s) s.requires.0.order (k s - 1) (counted s) direction (get_or (shown s).alternative (k s - 1) 0 - 1)
+    small-outside (j s) s.requires.0.order (k s - 1) (counted s) direction (get_or (shown s).alternative
+    (k s - 1) 0 - 1)
 
 low : (d : After-under_wind-under) → nat_abs (to_z w64 (of_z w64 (case d).internal)) ≤ 100
 low d =
     let at_start = (goal.at.After-under_wind-under d).Start in
     let p = d.requires in
     subst (λ (z : ℤ). nat_abs z ≤ 100) (sym (case-internal d))
-    (internal-low (j at_start) p.0 (shown at_start).wind (shown at_start).internal (k at_start) (numbers at_start) p.3 p.4)
+    (internal-low (j at_start) p.0 (shown at_start).wind (shown at_start).internal (k at_start)
+    (numbers at_start) p.3 p.4)
 
 -- its coefficients
 module _ (o : After-coefficients_of-c) where
@@ -103,7 +108,8 @@ module _ (o : After-coefficients_of-c) where
   d = (goal.at.After-coefficients_of-c o).After-under_wind-under
 
   abbrev a : ℕ
-  a = get_or (shown (goal.at.After-under_wind-under d).Start).alternative (k (goal.at.After-under_wind-under d).Start - 1) 0
+  a = get_or (shown (goal.at.After-under_wind-under d).Start).alternative (k
+      (goal.at.After-under_wind-under d).Start - 1) 0
 
   abbrev result : FaceCoefficients
   result = o.coefficients_of-c.result
@@ -130,14 +136,18 @@ module _ (o : After-coefficients_of-c) where
   net-small =
       subst (λ (c : FaceCoefficients). nat_abs c.net ≤ 2200) (sym o.coefficients_of-c.ensures)
       (shown-low d.under_wind-under.result.acts
-      (outside_of (j (goal.at.After-under_wind-under d).Start).year (j (goal.at.After-under_wind-under d).Start).building (to_z w64 (of_z w64 (case d).wind.direction)) (face (goal.at.After-under_wind-under d).Start).zone) a
+      (outside_of (j (goal.at.After-under_wind-under d).Start).year (j
+      (goal.at.After-under_wind-under d).Start).building (to_z w64 (of_z w64 (case d).wind.direction)) (face
+      (goal.at.After-under_wind-under d).Start).zone) a
       (to_z w64 (of_z w64 (case d).internal)) (small (goal.at.After-under_wind-under d).Start _) (low d))
 
   pressure-low : nat_abs d.under_wind-under.result.pressure ≤ 1500000000
   pressure-low =
       let p = d.requires in
       subst (λ (x : UnderWind). nat_abs x.pressure ≤ 1500000000) (sym (under d))
-      (under_low (j (goal.at.After-under_wind-under d).Start) p.0 (shown (goal.at.After-under_wind-under d).Start).wind (shown (goal.at.After-under_wind-under d).Start).internal (k (goal.at.After-under_wind-under d).Start) (numbers (goal.at.After-under_wind-under d).Start) p.3 p.4)
+      (under_low (j (goal.at.After-under_wind-under d).Start) p.0 (shown
+      (goal.at.After-under_wind-under d).Start).wind (shown (goal.at.After-under_wind-under d).Start).internal
+      (k (goal.at.After-under_wind-under d).Start) (numbers (goal.at.After-under_wind-under d).Start) p.3 p.4)
 
 -- and its area
 module _ (r : After-on_axis-area) where
@@ -195,7 +205,8 @@ module _ (n : After-newtons_at-newtons) where
   newtons-same : to_z w64 (of_z w64 n.newtons_at-newtons.result) ≡ n.newtons_at-newtons.result
   newtons-same = let fits : SFits w64 n.newtons_at-newtons.result = search rules in to_z-of_z w64 _ fits
 
-  newtons-is : n.newtons_at-newtons.result ≡ get_or (column (forces_shown (axis_of (line q)) (given (carried (j q))) (shown q)))
+  newtons-is : n.newtons_at-newtons.result ≡ get_or (column (forces_shown (axis_of (line q)) (given (carried (j q)))
+      (shown q)))
       (k q - 1) (pos 0)
   newtons-is =
       n.newtons_at-newtons.ensures
@@ -244,12 +255,15 @@ returns c =
     let u = c.under_wind-under.result in
     let coefficients-are =
     c.coefficients_of-c.ensures
-    ∙ (λ i. cond u.acts (face_coefficients (outside_of (j at_start).year (j at_start).building (direction at_coefficients_of_c i) (face at_start).zone)
+    ∙ (λ i. cond u.acts (face_coefficients (outside_of (j at_start).year (j at_start).building
+    (direction at_coefficients_of_c i) (face at_start).zone)
     (a at_coefficients_of_c) (internal at_coefficients_of_c i)) no_coefficients)
-    ∙ coefficients-same (j at_start) p.0 (shown at_start).wind (shown at_start).internal (k at_start) (numbers at_start) p.3 p.4 (a at_coefficients_of_c) u
+    ∙ coefficients-same (j at_start) p.0 (shown at_start).wind (shown at_start).internal (k at_start)
+    (numbers at_start) p.3 p.4 (a at_coefficients_of_c) u
     (case at_under_wind_under) (under at_under_wind_under) c.case_of-case.ensures in
     let force-is =
-    c.force_of-force.ensures ∙ (λ i. net-same at_coefficients_of_c i *ℤ pressure-same at_coefficients_of_c i *ℤ area-back at_on_axis_area i) in
+    c.force_of-force.ensures ∙ (λ i. net-same at_coefficients_of_c i *ℤ pressure-same at_coefficients_of_c i *ℤ
+    area-back at_on_axis_area i) in
     (λ i. record {
       verdict = accepted;
       zone = (face at_start).zone;
@@ -263,6 +277,8 @@ returns c =
       force = force-same at_newtons_at_newtons i;
       newtons = newtons-same at_newtons_at_newtons i;
     })
-    ∙ put-together (carried (j at_start)) (line at_start) (shown at_start) (k at_start) (face at_start).zone (zone-is at_newtons_at_newtons) (result at_coefficients_of_c)
-    coefficients-are u (under at_under_wind_under) c.on_axis-area.result (here-is at_newtons_at_newtons) c.force_of-force.result force-is
+    ∙ put-together (carried (j at_start)) (line at_start) (shown at_start) (k at_start) (face at_start).zone
+    (zone-is at_newtons_at_newtons) (result at_coefficients_of_c)
+    coefficients-are u (under at_under_wind_under) c.on_axis-area.result
+    (here-is at_newtons_at_newtons) c.force_of-force.result force-is
     c.newtons_at-newtons.result (newtons-is at_newtons_at_newtons)

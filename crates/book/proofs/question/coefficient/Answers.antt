@@ -35,7 +35,14 @@ returns-then-wall_place c =
     ∙ sym (on-wall a.s a.wind a.place (wall (goal.at.returns-then-wall_place c).Then-wall_place))
 
 pub on_roof-requires : goal.on_roof-requires
-on_roof-requires c = record { sizes_in_order = c.requires.sizes_in_order; kind_nonzero = (c.requires.kind_nonzero (off-wall c), off-wall c) }
+on_roof-requires c = record {
+  sizes_in_order = c.requires.sizes_in_order;
+  kind_nonzero = (
+    c.requires.kind_nonzero
+        (off-wall c),
+    off-wall c,
+  );
+}
 
 pub returns : goal.returns
 returns c = c.on_roof.ensures

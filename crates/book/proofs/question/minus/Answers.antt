@@ -58,6 +58,8 @@ returns-in-Two c =
     let fits = c.ranges.internal.sfits in
     let v = c.in-Two.v in
     let w = c.in-Two.w in
-    ap₂ Two (taken-off v z c.less-in-Two.result c.in-Two.known_told-in-Two-1-own.given.0.1 fits c.less-in-Two.type_inv c.less-in-Two.ensures)
-    (taken-off w z c.less-in-Two-2.result c.in-Two.known_told-in-Two-1-own.given.1.0.1 fits c.less-in-Two-2.type_inv c.less-in-Two-2.ensures)
+    ap₂ Two (taken-off v z c.less-in-Two.result c.in-Two.known_told-in-Two-1-own.given.0.1 fits
+    c.less-in-Two.type_inv c.less-in-Two.ensures)
+    (taken-off w z c.less-in-Two-2.result c.in-Two.known_told-in-Two-1-own.given.1.0.1 fits c.less-in-Two-2.type_inv
+    c.less-in-Two-2.ensures)
     ∙ ap (λ (v : Values). minus v z) (sym c.in-Two.is)

@@ -21,7 +21,8 @@ abbrev column : Start → ℕ
 column s = roof_column s.args.s.kind s.args.wind s.args.place
 
 -- the value of the column, as it is handed on
-value : (c : After-roof_value-v) → to_z w32 (of_z w32 c.roof_value-v.result) ≡ value_at (roof_way c.args.s) (column (goal.at.After-roof_value-v c).Start)
+value : (c : After-roof_value-v) → to_z w32 (of_z w32 c.roof_value-v.result) ≡ value_at (roof_way c.args.s) (column
+    (goal.at.After-roof_value-v c).Start)
 value c =
     let a = c.args in
     (returned w32 c.roof_value-v.result c.roof_value-v.type_inv).same

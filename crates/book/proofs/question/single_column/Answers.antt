@@ -18,7 +18,8 @@ pub returns-then-wind-eq45 : goal.returns-then-wind-eq45
 unfolding single_column
 returns-then-wind-eq45 c =
     let wind = c.args.wind in
-    rw (ne_eqb wind 0 c.if-wind-eq0.false, eq-eqb wind 45 c.if-wind-eq45.true) (ap (λ (n : ℕ). 2 + n) c.half_of-then-wind-eq45.ensures)
+    rw (ne_eqb wind 0 c.if-wind-eq0.false, eq-eqb wind 45 c.if-wind-eq45.true) (ap (λ
+    (n : ℕ). 2 + n) c.half_of-then-wind-eq45.ensures)
 
 pub overflow_add-result-then-wind-eq90 : goal.overflow_add-result-then-wind-eq90
 overflow_add-result-then-wind-eq90 c = omega (arith, c.flank_of.ensures, flank-below c.args.zone)

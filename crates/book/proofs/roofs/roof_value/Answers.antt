@@ -52,7 +52,8 @@ from c =
     let at_start = (goal.at.After-cell-lower c).Start in
     let a = c.args in
     let kind = a.s.kind in
-    read (roof_table kind) (last_number kind) a.w.lower a.col c.cell-lower.type_inv c.cell-lower.ensures (lower at_start)
+    read (roof_table kind) (last_number kind) a.w.lower a.col c.cell-lower.type_inv c.cell-lower.ensures
+    (lower at_start)
     (listed at_start).0
 
 to : (c : After-cell-upper) → let a = c.args in
@@ -61,7 +62,8 @@ to c =
     let at_start = (goal.at.After-cell-upper c).Start in
     let a = c.args in
     let kind = a.s.kind in
-    read (roof_table kind) (last_number kind) a.w.upper a.col c.cell-upper.type_inv c.cell-upper.ensures (upper at_start)
+    read (roof_table kind) (last_number kind) a.w.upper a.col c.cell-upper.type_inv c.cell-upper.ensures
+    (upper at_start)
     (listed at_start).1
 
 -- what holds of the two rows' hundredths and of the fraction holds of what the code has
@@ -74,7 +76,8 @@ module _ (s : Start) (v u : ℤ) (from_is : v ≡ hundredths (roof_way s.args.s)
       → P (hundredths way.lower s.args.col) (hundredths way.upper s.args.col) (spot_of way)
       → P v u s.args.w
   alike P h =
-      subst (P v u) (sym s.requires.kind_nonzero.1) (subst₂ (λ (x y : ℤ). P x y (spot_of way)) (sym from_is) (sym to_is) h)
+      subst (P v u) (sym s.requires.kind_nonzero.1) (subst₂ (λ (x y : ℤ). P x y (spot_of way)) (sym from_is)
+      (sym to_is) h)
 
   fine : let w = s.args.w in
       (nat_abs v ≤ 250) × (nat_abs u ≤ 250) × (w.part ≤ w.whole) × (0 < w.whole) × (w.whole < 100000000)
@@ -126,7 +129,11 @@ slope_at-requires c =
     let at_start = (goal.at.slope_at-requires c).Start in
     let at_cell_upper = (goal.at.slope_at-requires c).After-cell-upper in
     let at_cell_lower = (goal.at.slope_at-requires c).After-cell-lower in
-    let roofed = c.requires.kind_nonzero.0 in record { v_bound = fine at_start _ _ (from at_cell_lower) (to at_cell_upper); no_half = none at_start _ _ (from at_cell_lower) (to at_cell_upper) (omega arith) }
+    let roofed = c.requires.kind_nonzero.0 in record {
+      v_bound = fine at_start _ _ (from at_cell_lower)
+          (to at_cell_upper);
+      no_half = none at_start _ _ (from at_cell_lower) (to at_cell_upper) (omega arith);
+    }
 
 pub returns : goal.returns
 returns c =

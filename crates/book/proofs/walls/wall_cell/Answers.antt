@@ -28,7 +28,8 @@ pub returns-then-col-lt4 : goal.returns-then-col-lt4
 returns-then-col-lt4 c =
     let at_printed_wall_w = (goal.at.returns-then-col-lt4 c).After-printed_wall-w in
     let col = c.args.col in
-    (read at_printed_wall_w (λ (w : coded-walls.Wall). get_or w.4 col (pos 0)) (wind-0 (printed at_printed_wall_w) col (omega arith))).same
+    (read at_printed_wall_w (λ (w : coded-walls.Wall). get_or w.4 col (pos 0)) (wind-0
+    (printed at_printed_wall_w) col (omega arith))).same
 
 pub returns-then-col-lt8 : goal.returns-then-col-lt8
 returns-then-col-lt8 c =

@@ -22,7 +22,10 @@ returns-then-s-eq0 c =
 
 pub roof-requires : goal.roof-requires
 roof-requires c =
-    let some : 0 < c.args.s.kind = omega (arith, c.if-s-eq0.false) in record { sizes_in_order = c.requires; kind_nonzero = some }
+    let some : 0 < c.args.s.kind = omega (arith, c.if-s-eq0.false) in record {
+      sizes_in_order = c.requires;
+      kind_nonzero = some;
+    }
 
 pub returns-then-knows : goal.returns-then-knows
 returns-then-knows c =

@@ -18,7 +18,8 @@ module _ (c : After-alone-h) where
   start = (goal.at.After-alone-h c).Start
 
   first : c.alone-e.result
-      ≡ valued start.args.s start.requires.sizes_in_order start.requires.kind_nonzero.0 start.requires.kind_nonzero.1 start.args.wind E
+      ≡ valued start.args.s start.requires.sizes_in_order start.requires.kind_nonzero.0 start.requires.kind_nonzero.1
+      start.args.wind E
   first =
       let c = c in
       c.alone-e.ensures
@@ -28,7 +29,8 @@ module _ (c : After-alone-h) where
       ∙ ap (value_at (roof_way start.args.s)) c.roof_column.ensures)
 
   last : c.alone-h.result
-      ≡ valued start.args.s start.requires.sizes_in_order start.requires.kind_nonzero.0 start.requires.kind_nonzero.1 start.args.wind H
+      ≡ valued start.args.s start.requires.sizes_in_order start.requires.kind_nonzero.0 start.requires.kind_nonzero.1
+      start.args.wind H
   last =
       c.alone-h.ensures
       ∙ ap both_ends

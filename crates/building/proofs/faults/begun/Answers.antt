@@ -9,7 +9,8 @@ squares : (c : After-has_squares) → c.has_squares.result ≡ has_squares c.arg
 squares c = said has_squares c.args.year c.has_squares.ensures c.ranges.year.sfits
 
 pub returns-then-has_squares : goal.returns-then-has_squares
-returns-then-has_squares c = rw (sym (squares (goal.at.returns-then-has_squares c).After-has_squares) ∙ c.if-has_squares.true)
+returns-then-has_squares c = rw (sym (squares (goal.at.returns-then-has_squares c).After-has_squares)
+    ∙ c.if-has_squares.true)
 
 pub returns : goal.returns
 returns c = rw (sym (squares (goal.at.returns c).After-has_squares) ∙ c.if-has_squares.false)

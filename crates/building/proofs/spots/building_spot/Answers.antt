@@ -9,7 +9,8 @@ use Rattle.building.specs.Order.{Ranged}
 use Rattle.building.specs.Building.{out_of_range, out_of_walls, out_of_roof, sizes, walls_spot, roof_spot}
 use Rattle.building.proofs.Accepted.{fields, ranged}
 use Rattle.building.proofs.Tested.{spot-of-range, spot-of-walls, spot-of-roof, spot-of-none}
-use Rattle.building.proofs.spots.building_spot.Goals.{After-out_of_roof, After-out_of_walls, After-sizes_of-s, Else-out_of_range}
+use Rattle.building.proofs.spots.building_spot.Goals.{After-out_of_roof, After-out_of_walls, After-sizes_of-s}
+use Rattle.building.proofs.spots.building_spot.Goals.{Else-out_of_range}
 use Rattle.building.proofs.spots.building_spot.Goals as goal
 
 module _ (c : Else-out_of_range) where
@@ -22,7 +23,8 @@ module _ (c : Else-out_of_range) where
 small : (c : After-sizes_of-s) → Ranged c.sizes_of-s.result
 small c =
     let at_out_of_range = (goal.at.After-sizes_of-s c).Else-out_of_range in
-    subst (λ (s : Sizes). Ranged s) (sym c.sizes_of-s.ensures) (ranged (fields (dated at_out_of_range).building (in-range at_out_of_range)))
+    subst (λ (s : Sizes). Ranged s) (sym c.sizes_of-s.ensures) (ranged (fields (dated at_out_of_range).building
+    (in-range at_out_of_range)))
 
 module _ (c : After-out_of_walls) where
   abbrev sized : After-sizes_of-s

@@ -18,4 +18,5 @@ pub returns-then-most-gt30000 : goal.returns-then-most-gt30000
 returns-then-most-gt30000 c = ap pos (sym (min-eq_left (le_of_lt c.if-most-gt30000.true)))
 
 pub returns : goal.returns
-returns c = to_z_pos w64 (omega (arith, c.if-most-gt30000.false)) ∙ ap pos (sym (min-eq_right (omega (arith, c.if-most-gt30000.false))))
+returns c = to_z_pos w64 (omega (arith, c.if-most-gt30000.false))
+    ∙ ap pos (sym (min-eq_right (omega (arith, c.if-most-gt30000.false))))

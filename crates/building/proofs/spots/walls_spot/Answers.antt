@@ -54,7 +54,8 @@ unfolding walls_spot
 returns-then-has_squares c =
     let at_has_squares = (goal.at.returns-then-has_squares c).After-has_squares in
     rw (slender at_has_squares, sym (squares at_has_squares) ∙ c.if-has_squares.true)
-    (long c.args.s.b _ c.ranged-then-has_squares.ensures (omega (arith, c.struct_known-1.given)) refl c.length_to-then-has_squares.type_inv
+    (long c.args.s.b _ c.ranged-then-has_squares.ensures (omega
+    (arith, c.struct_known-1.given)) refl c.length_to-then-has_squares.type_inv
     c.length_to-then-has_squares.ensures)
 
 pub returns : goal.returns

@@ -15,7 +15,8 @@ loop-i-preserved c =
     let l = c.loop-i in (
       omega (arith, c.loop-i-test.true),
       l.invariant.1,
-      more c.args.faces.now l.all c.put-all.result c.face_at.result l.i l.invariant.2 c.face_at.ensures c.put-all.ensures,
+      more c.args.faces.now l.all c.put-all.result c.face_at.result l.i l.invariant.2 c.face_at.ensures
+          c.put-all.ensures,
     )
 
 pub returns : goal.returns

@@ -21,7 +21,8 @@ use Rattle.column.proofs.forces.at_choice.Goals.{Start}
 use Rattle.column.proofs.forces.at_choice.Goals as goal
 
 module _ (axis : Axis) (forces : List FaceForces) (ks : List ℕ) where
-  nothing_yet : replicate most_faces (pos 0) ≡ first_of (pos 0) most_faces (up_to (force_in axis) no_face_forces 0 forces ks 0)
+  nothing_yet : replicate most_faces (pos 0) ≡ first_of (pos 0) most_faces (up_to
+      (force_in axis) no_face_forces 0 forces ks 0)
   unfolding first_of at_choice
   nothing_yet = sym (first_of-none (pos 0) most_faces)
 
@@ -39,8 +40,10 @@ loop-i-preserved c =
     let a = c.args in (
       omega arith,
       (λ j. set (l.invariant.1 j) l.i
-          ((to_z-of_z w64 c.force_at-one.result (record { sfits = c.force_at-one.type_inv }) ∙ c.force_at-one.ensures) j))
-          ∙ choice-next (force_in (axis_of (line_of at_start))) no_face_forces 0 a.forces.face a.alternative most_faces l.i
+          ((to_z-of_z w64 c.force_at-one.result (record { sfits = c.force_at-one.type_inv })
+          ∙ c.force_at-one.ensures) j))
+          ∙ choice-next (force_in (axis_of (line_of at_start))) no_face_forces 0 a.forces.face a.alternative
+          most_faces l.i
           (omega arith),
     )
 
@@ -51,4 +54,5 @@ returns c =
     let all : l.i ≡ a.faces = omega arith in
     let line = to_z-of_z w64 a.line c.ranges.line in
     l.invariant.1
-    ∙ (λ j. first_of (pos 0) most_faces (up_to (force_in (axis_of (line j))) no_face_forces 0 a.forces.face a.alternative (all j)))
+    ∙ (λ j. first_of (pos 0) most_faces (up_to (force_in (axis_of
+    (line j))) no_face_forces 0 a.forces.face a.alternative (all j)))

@@ -35,7 +35,8 @@ pub returns-then-w-ne0 : goal.returns-then-w-ne0
 returns-then-w-ne0 c =
     let at_worst_cases_w = (goal.at.returns-then-w-ne0 c).After-worst_cases-w in
     c.no_extreme.ensures
-    ∙ sym (ap (λ (r : Reading). host_total r c.args.line) (refused-is (j at_worst_cases_w) (v at_worst_cases_w) (own at_worst_cases_w) c.if-w-ne0.true))
+    ∙ sym (ap (λ (r : Reading). host_total r c.args.line) (refused-is (j at_worst_cases_w) (v at_worst_cases_w)
+    (own at_worst_cases_w) c.if-w-ne0.true))
 
 pub returns : goal.returns
 returns c =

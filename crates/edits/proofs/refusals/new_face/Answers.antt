@@ -17,4 +17,5 @@ pub returns : goal.returns
 returns c =
     let a = c.args in
     ap₂ refusal c.new_face_fault-number.ensures c.line_of.ensures
-    ∙ sym (then-earlier (new_face a.k a.f a.j) accepted (λ z. c.if-number-eq0.false (c.new_face_fault-number.ensures ∙ z)))
+    ∙ sym (then-earlier (new_face a.k a.f a.j) accepted (λ z. c.if-number-eq0.false
+    (c.new_face_fault-number.ensures ∙ z)))

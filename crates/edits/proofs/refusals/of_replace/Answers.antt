@@ -13,7 +13,8 @@ use Rattle.job.specs.InOrder.{InOrder}
 use Rattle.edits.specs.Edits.{held_job, no_such_face, new_face, edit_verdict}
 use Rattle.edits.proofs.Counts.{held-in-order, roomed}
 use Rattle.edits.proofs.Checks.{held-refused, held-passed, there-is}
-use Rattle.edits.proofs.refusals.of_replace.Goals.{After-judge-held, After-magnitude, After-no_such_face-none, Else-held-ne0, Start}
+use Rattle.edits.proofs.refusals.of_replace.Goals.{After-judge-held, After-magnitude, After-no_such_face-none}
+use Rattle.edits.proofs.refusals.of_replace.Goals.{Else-held-ne0, Start}
 use Rattle.edits.proofs.refusals.of_replace.Goals as goal
 
 abbrev number_in : Verdict → ℕ
@@ -67,7 +68,8 @@ returns-then-none-ne0 c =
     let e = none_is at_no_such_face_none in
     let a = c.args in
     e
-    ∙ sym (past-held at_no_such_face_none _ ∙ then-earlier (no_such_face a.k a.j) _ (λ z. c.if-none-ne0.true (ap number_in e ∙ z)))
+    ∙ sym (past-held at_no_such_face_none _ ∙ then-earlier (no_such_face a.k a.j) _ (λ z. c.if-none-ne0.true
+    (ap number_in e ∙ z)))
 
 pub overflow_cast-magnitude : goal.overflow_cast-magnitude
 overflow_cast-magnitude c = omega (arith, few c)

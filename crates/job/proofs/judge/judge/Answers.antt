@@ -15,7 +15,8 @@ use Rattle.job.specs.Judging.{JudgesAs}
 use Rattle.job.proofs.Alone.{alone, few-sections}
 use Rattle.job.proofs.Judged.{es, heights, ss, sofar, year-is, reached-first, judges-as, stops}
 use Rattle.job.proofs.Judged.{few-entries, goes_on, ends}
-use Rattle.job.proofs.judge.judge.Goals.{After-before_faces-b, After-entry_count, After-judge_section-v, After-section_at-s, After-struct_told-1, At-loop-i, Else-v-ne0}
+use Rattle.job.proofs.judge.judge.Goals.{After-before_faces-b, After-entry_count, After-judge_section-v}
+use Rattle.job.proofs.judge.judge.Goals.{After-section_at-s, After-struct_told-1, At-loop-i, Else-v-ne0}
 use Rattle.job.proofs.judge.judge.Goals as goal
 
 -- section i
@@ -100,7 +101,8 @@ pub returns-then-v-ne0 : goal.returns-then-v-ne0
 returns-then-v-ne0 c =
     let at_section_at_s = (goal.at.returns-then-v-ne0 c).After-section_at-s in
     let at_judge_section_v = (goal.at.returns-then-v-ne0 c).After-judge_section-v in
-    stops (job at_section_at_s) c.loop-i.invariant.1 (few at_section_at_s) (verdict-is at_judge_section_v) c.if-v-ne0.true
+    stops (job at_section_at_s) c.loop-i.invariant.1 (few at_section_at_s)
+    (verdict-is at_judge_section_v) c.if-v-ne0.true
 
 pub overflow_add-line : goal.overflow_add-line
 overflow_add-line c = omega (arith, short c)
@@ -113,7 +115,8 @@ loop-i-preserved c =
     let at_section_at_s = (goal.at.loop-i-preserved c).After-section_at-s in
     let at_judge_section_v = (goal.at.loop-i-preserved c).After-judge_section-v in (
       omega arith,
-      goes_on (job at_section_at_s) c.loop-i.invariant.1 (few at_section_at_s) (verdict-is at_judge_section_v) c.if-v-ne0.false (many c),
+      goes_on (job at_section_at_s) c.loop-i.invariant.1 (few at_section_at_s)
+          (verdict-is at_judge_section_v) c.if-v-ne0.false (many c),
     )
 
 pub returns : goal.returns

@@ -182,7 +182,8 @@ module _ (c : Joined-s) (d : Carried) where
 pub returns-then-number-ne0 : goal.returns-then-number-ne0
 returns-then-number-ne0 c d u =
     let at_count_fault_number = (goal.at.returns-then-number-ne0 c).After-count_fault-number in
-    whole at_count_fault_number d (alone-count (section at_count_fault_number) d _ (lines at_count_fault_number) _ (count-judged at_count_fault_number d u) c.if-number-ne0.true)
+    whole at_count_fault_number d (alone-count (section at_count_fault_number) d _ (lines at_count_fault_number) _
+    (count-judged at_count_fault_number d u) c.if-number-ne0.true)
 
 pub loop-i-init : goal.loop-i-init
 loop-i-init c = (search rules, λ d u. tt)
@@ -215,14 +216,19 @@ pub bounds-faces-k : goal.bounds-faces-k
 bounds-faces-k c = small (goal.at.bounds-faces-k c).In-loop-i
 
 pub overflow_add-result-then-number-ne0-2 : goal.overflow_add-result-then-number-ne0-2
-overflow_add-result-then-number-ne0-2 c = omega (arith, small (goal.at.overflow_add-result-then-number-ne0-2 c).In-loop-i)
+overflow_add-result-then-number-ne0-2 c = omega (
+  arith,
+  small
+      (goal.at.overflow_add-result-then-number-ne0-2 c).In-loop-i,
+)
 
 pub returns : goal.returns
 returns c d u =
     let at_faces_1 = (goal.at.returns c).After-faces-1 in
     let at_count_fault_number = (goal.at.returns c).After-count_fault-number in
     whole at_count_fault_number d
-    (alone-passed (section at_count_fault_number) d _ (lines at_count_fault_number) (counted at_faces_1 d u) c.loop-i.i (omega (arith, many at_count_fault_number))
+    (alone-passed (section at_count_fault_number) d _ (lines at_count_fault_number)
+    (counted at_faces_1 d u) c.loop-i.i (omega (arith, many at_count_fault_number))
     (c.loop-i.invariant.1 d u))
 
 pub returns-then-number-ne0-2 : goal.returns-then-number-ne0-2

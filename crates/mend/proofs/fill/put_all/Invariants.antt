@@ -8,7 +8,8 @@ use Rattle.mend.proofs.fill.put_all.Given as goal
 abbrev pub invariant-loop-i : goal.invariant-loop-i
 invariant-loop-i l =
     (l.i ≤ length l.s) × (l.p.line ≤ l.i + 1) × (l.p.place ≤ l.i + 1)
-    × Going l.added (fates_from at_start l.s) l.initial.out l.initial.list l.out l.list l.at l.next l.p (fates_from l.w (drop l.i l.s))
+    × Going l.added (fates_from at_start l.s) l.initial.out l.initial.list l.out l.list l.at l.next l.p
+    (fates_from l.w (drop l.i l.s))
 
 abbrev pub decreases-loop-i : goal.decreases-loop-i
 decreases-loop-i l = length l.s - l.i

@@ -28,7 +28,8 @@ returns-then-newtons-lt0 c =
     c.panel_of.ensures ∙ ap panel_of (back w64 (more at_newtons_lt0) tt).same
 
 pub overflow_add-magnitude : goal.overflow_add-magnitude
-overflow_add-magnitude c = let n = given (goal.at.overflow_add-magnitude c).Start in omega (arith, c.magnitude.ensures, bound n)
+overflow_add-magnitude c = let n = given (goal.at.overflow_add-magnitude c).Start in omega
+    (arith, c.magnitude.ensures, bound n)
 
 pub returns : goal.returns
 returns c =

@@ -47,7 +47,8 @@ there c =
 
 -- its force, read back
 force-is : (c : After-with_force-all)
-    → c.with_force-all.result ≡ plus c.loop-i.all (force_at (list (goal.at.After-with_force-all c).In-loop-i) c.place-at.result)
+    → c.with_force-all.result ≡ plus c.loop-i.all (force_at (list
+    (goal.at.After-with_force-all c).In-loop-i) c.place-at.result)
 force-is c =
     let l = list (goal.at.After-with_force-all c).In-loop-i in
     let at = c.place-at.result in
@@ -77,7 +78,8 @@ pub overflow_add-at : goal.overflow_add-at
 overflow_add-at c = let h = there (goal.at.overflow_add-at c).After-place-at in search rules
 
 pub offset_bounds-list-at-in-loop-i : goal.offset_bounds-list-at-in-loop-i
-offset_bounds-list-at-in-loop-i c = let h = there (goal.at.offset_bounds-list-at-in-loop-i c).After-place-at in search rules
+offset_bounds-list-at-in-loop-i c = let h = there (goal.at.offset_bounds-list-at-in-loop-i c).After-place-at in
+    search rules
 
 pub bounds-list-at-in-loop-i : goal.bounds-list-at-in-loop-i
 bounds-list-at-in-loop-i c = let h = there (goal.at.bounds-list-at-in-loop-i c).After-place-at in search rules
@@ -86,7 +88,8 @@ pub overflow_add-at-in-loop-i : goal.overflow_add-at-in-loop-i
 overflow_add-at-in-loop-i c = let h = there (goal.at.overflow_add-at-in-loop-i c).After-place-at in search rules
 
 pub offset_bounds-list-at-in-loop-i-2 : goal.offset_bounds-list-at-in-loop-i-2
-offset_bounds-list-at-in-loop-i-2 c = let h = there (goal.at.offset_bounds-list-at-in-loop-i-2 c).After-place-at in search rules
+offset_bounds-list-at-in-loop-i-2 c = let h = there (goal.at.offset_bounds-list-at-in-loop-i-2 c).After-place-at in
+    search rules
 
 pub bounds-list-at-in-loop-i-2 : goal.bounds-list-at-in-loop-i-2
 bounds-list-at-in-loop-i-2 c = let h = there (goal.at.bounds-list-at-in-loop-i-2 c).After-place-at in search rules

@@ -102,10 +102,12 @@ loop-i-preserved c =
       λ axis s b h.
           subst (Keeps n (shown_in c.walk-all.result axis s))
           (ap (better s (better s b (first axis s (j at_loop_i) w (i at_loop_i))))
-          (walked_here (j at_loop_i) t axis s w (i at_loop_i + 1) c.requires.2 c.requires.3 (from at_put_cell) (to at_put_cell) (list at_put_cell)
+          (walked_here (j at_loop_i) t axis s w (i at_loop_i + 1) c.requires.2 c.requires.3 (from at_put_cell)
+          (to at_put_cell) (list at_put_cell)
           c.put_cell.ensures.1)
           ∙ over-after s (cell_walked s (loads axis (given (carried (j at_loop_i)))) w) b (i at_loop_i))
-          (c.walk-all.ensures axis s (better s b (first axis s (j at_loop_i) w (i at_loop_i))) (c.loop-i.invariant.1 axis s b h)),
+          (c.walk-all.ensures axis s (better s b (first axis s (j at_loop_i) w (i at_loop_i)))
+          (c.loop-i.invariant.1 axis s b h)),
     )
 
 pub returns : goal.returns

@@ -58,7 +58,8 @@ loop-w-preserved c =
       λ axis s.
           subst (Keeps n (shown_in c.every_internal-six.result axis s))
           (over-next s (wind_walked axis s (carried (j at_loop_w))) (w at_loop_w))
-          (c.every_internal-six.ensures axis s (first axis s (j at_loop_w) (w at_loop_w)) (c.loop-w.invariant.1 axis s)),
+          (c.every_internal-six.ensures axis s (first axis s (j at_loop_w) (w at_loop_w))
+          (c.loop-w.invariant.1 axis s)),
     )
 
 pub returns : goal.returns

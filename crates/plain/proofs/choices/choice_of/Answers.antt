@@ -114,8 +114,10 @@ loop-after-preserved c =
             ∙ turn-left (rows at_loop_after) row rest number n left (i at_loop_after) (here at_loop_after) was.0 was.2,
         (λ m. set (was.1 m) (i at_loop_after) (turned c m).alternative)
             ∙ padded-set most_walked (take (i at_loop_after) (chosen at_loop_after)) (i at_loop_after) _
-            (length-take-le (i at_loop_after) (chosen at_loop_after) (omega (arith, long, u))) (omega (arith, u, c.requires.0))
-            ∙ ap (padded most_walked) (turn-chosen (rows at_loop_after) row rest number n left (i at_loop_after) (here at_loop_after) was.0 was.2),
+            (length-take-le (i at_loop_after) (chosen at_loop_after) (omega (arith, long, u))) (omega
+            (arith, u, c.requires.0))
+            ∙ ap (padded most_walked) (turn-chosen (rows at_loop_after) row rest number n left (i at_loop_after)
+            (here at_loop_after) was.0 was.2),
         ap (λ (x : Turn). choice_of rest x.number) (turned c)
             ∙ turn_on (rows at_loop_after) row rest number n left (i at_loop_after) (here at_loop_after) was.0 was.2,
       ),

@@ -51,10 +51,12 @@ module _ (d : In-loop-i) where
       )
 
 counted : (c : After-magnitude-count)
-    → c.magnitude-count.result ≡ (row_at (list (goal.at.After-magnitude-count c).In-loop-i) (i (goal.at.After-magnitude-count c).In-loop-i)).count
+    → c.magnitude-count.result ≡ (row_at (list (goal.at.After-magnitude-count c).In-loop-i) (i
+    (goal.at.After-magnitude-count c).In-loop-i)).count
 counted c =
     let at_loop_i = (goal.at.After-magnitude-count c).In-loop-i in
-    said nat_abs (get_or (list at_loop_i) (per_row * i at_loop_i) (pos 0)) c.magnitude-count.ensures c.magnitude-arg-1.given
+    said nat_abs (get_or (list at_loop_i) (per_row * i at_loop_i)
+    (pos 0)) c.magnitude-count.ensures c.magnitude-arg-1.given
 
 pub loop-i-init : goal.loop-i-init
 loop-i-init c = (search rules, omega arith)
@@ -74,9 +76,11 @@ loop-i-preserved c =
     let at_magnitude_count = (goal.at.loop-i-preserved c).After-magnitude-count in
     let rest = drop (i at_loop_i + 1) (rows_at (faces at_loop_i) (list at_loop_i)) in (
       omega (arith, left at_loop_i),
-      ap (λ m. m * ways rest) (c.with_face-n.ensures ∙ ap (λ m. cond (eqb m 2) (n at_loop_i + n at_loop_i) (n at_loop_i)) (counted at_magnitude_count))
+      ap (λ m. m * ways rest) (c.with_face-n.ensures ∙ ap (λ m. cond (eqb m 2) (n at_loop_i + n at_loop_i)
+          (n at_loop_i)) (counted at_magnitude_count))
           ∙ ways-turn (row_at (list at_loop_i) (i at_loop_i)) rest (n at_loop_i)
-          ∙ ap (λ (fs : List FaceForces). n at_loop_i * ways fs) (sym (rows-from (faces at_loop_i) (list at_loop_i) (i at_loop_i) (left at_loop_i)))
+          ∙ ap (λ (fs : List FaceForces). n at_loop_i * ways fs) (sym (rows-from (faces at_loop_i) (list at_loop_i)
+          (i at_loop_i) (left at_loop_i)))
           ∙ c.loop-i.invariant.1,
     )
 

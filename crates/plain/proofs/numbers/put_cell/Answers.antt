@@ -64,7 +64,8 @@ loop-i-preserved c =
       ap length put ∙ length-sets (list at_loop_i) (per_row * i at_loop_i) (row_numbers f) ∙ inv.1,
       below_next (λ k. row_at c.put_row.new.list k ≡ get_or (cell at_loop_i) k no_face_forces) (i at_loop_i)
           (λ k t. ap (λ (l : List ℤ). row_at l k) put ∙ row_stays (list at_loop_i) (i at_loop_i) f k t ∙ inv.2 k t)
-          (ap (λ (l : List ℤ). row_at l (i at_loop_i)) put ∙ row-stands (list at_loop_i) (i at_loop_i) f (long at_loop_i)),
+          (ap (λ (l : List ℤ). row_at l (i at_loop_i)) put ∙ row-stands (list at_loop_i) (i at_loop_i) f
+          (long at_loop_i)),
     )
 
 pub shape_of-list : goal.shape_of-list

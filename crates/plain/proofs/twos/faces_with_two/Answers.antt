@@ -77,10 +77,12 @@ loop-w-preserved c =
       λ k h.
           let u = get_or (carried (j at_loop_w)).winds (w at_loop_w) no_wind in
           c.mark_twos.ensures.1 k h
-          ∙ (λ m. cond (two (j at_loop_w) k (get_or (carried (j at_loop_w)).winds (back m) no_wind)) 1 (c.loop-w.invariant.2 k h m))
+          ∙ (λ m. cond (two (j at_loop_w) k (get_or (carried (j at_loop_w)).winds (back m) no_wind)) 1
+          (c.loop-w.invariant.2 k h m))
           ∙ next at_loop_w k (two (j at_loop_w) k u)
           ∙ ap (λ t. cond t 1 0)
-          (sym (any_next (two (j at_loop_w) k) (carried (j at_loop_w)).winds no_wind (w at_loop_w) (omega (arith, counted at_loop_w, long)))),
+          (sym (any_next (two (j at_loop_w) k) (carried (j at_loop_w)).winds no_wind (w at_loop_w) (omega
+          (arith, counted at_loop_w, long)))),
     )
 
 pub how_many-requires : goal.how_many-requires

@@ -51,7 +51,8 @@ counts c k h =
     let g = given (carried j) in
     let one = (ready j t).some_internal in
     ap (λ (x : CellForces). eqb (get_or x.face k no_face_forces).count 2)
-    (c.forces_of-cell.ensures ∙ cell-is j t w 1 (omega (arith, c.requires.1)) c.requires.2 (omega arith) (omega (arith, one)))
+    (c.forces_of-cell.ensures ∙ cell-is j t w 1 (omega (arith, c.requires.1)) c.requires.2 (omega arith) (omega
+    (arith, one)))
     ∙ ap (λ (x : FaceForces). eqb x.count 2) (row_is j t (wind_at g w) (internal_at g 1) k h)
 
 pub loop-i-init : goal.loop-i-init
@@ -90,7 +91,8 @@ loop-i-preserved c =
           (λ k t. get_or-set_other (marks at_loop_i) (i at_loop_i) k new 0 (λ e. omega arith) ∙ inv.2 k t)
           (get_or-set_same (marks at_loop_i) (i at_loop_i) new 0 fits
           ∙ c.marked.ensures
-          ∙ ap (cond (eqb (get_or cell.face (i at_loop_i) no_face_forces).count 2) 1) (inv.3 (i at_loop_i) (omega arith))),
+          ∙ ap (cond (eqb (get_or cell.face (i at_loop_i) no_face_forces).count 2) 1) (inv.3 (i at_loop_i)
+          (omega arith))),
       λ k t. get_or-set_other (marks at_loop_i) (i at_loop_i) k new 0 (λ e. omega arith) ∙ inv.3 k (omega arith),
     )
 

@@ -12,7 +12,8 @@ use Rattle.page.specs.Writing.{Put}
 use Rattle.page.proofs.Put.{put-length, put-nothing}
 use Rattle.report.specs.Lines.{extreme_text, x, y, z, max, min}
 use Rattle.report.proofs.Lines.{six-lines, line-asks, line-put, front}
-use Rattle.report.proofs.six.put_six.Goals.{After-put_line, After-put_line-next, After-put_line-next-2, After-put_line-next-3, After-put_line-next-4, After-put_line-next-5, Start}
+use Rattle.report.proofs.six.put_six.Goals.{After-put_line, After-put_line-next, After-put_line-next-2}
+use Rattle.report.proofs.six.put_six.Goals.{After-put_line-next-3, After-put_line-next-4, After-put_line-next-5, Start}
 use Rattle.report.proofs.six.put_six.Goals as goal
 
 read : (a : Start) → to_z w64 (of_z w64 a.args.year) ≡ a.args.year
@@ -62,35 +63,40 @@ nothing : (a : Start) → Put a.args.buf.now 0 [] a.args.buf.now 0
 nothing a = put-nothing a.args.buf.now 0 (omega arith)
 
 one : (c : After-put_line-next)
-    → Put c.args.buf.now 0 (upto-one (goal.at.After-put_line-next c).Start) c.put_line-next.new.buf c.put_line-next.result
+    → Put c.args.buf.now 0 (upto-one (goal.at.After-put_line-next c).Start) c.put_line-next.new.buf
+    c.put_line-next.result
 one c =
     let at_start = (goal.at.After-put_line-next c).Start in
     line-put (read at_start) x max c.args.s.x.greatest (nothing at_start)
     c.put_bytes-named.ensures c.put_line-next.ensures
 
 two : (c : After-put_line-next-2)
-    → Put c.args.buf.now 0 (upto-two (goal.at.After-put_line-next-2 c).Start) c.put_line-next-2.new.buf c.put_line-next-2.result
+    → Put c.args.buf.now 0 (upto-two (goal.at.After-put_line-next-2 c).Start) c.put_line-next-2.new.buf
+    c.put_line-next-2.result
 two c =
     let at_put_line_next = (goal.at.After-put_line-next-2 c).After-put_line-next in
     line-put (read (goal.at.After-put_line-next-2 c).Start) x min c.args.s.x.least (one at_put_line_next)
     c.put_bytes-named-2.ensures c.put_line-next-2.ensures
 
 three : (c : After-put_line-next-3)
-    → Put c.args.buf.now 0 (upto-three (goal.at.After-put_line-next-3 c).Start) c.put_line-next-3.new.buf c.put_line-next-3.result
+    → Put c.args.buf.now 0 (upto-three (goal.at.After-put_line-next-3 c).Start) c.put_line-next-3.new.buf
+    c.put_line-next-3.result
 three c =
     let at_put_line_next_2 = (goal.at.After-put_line-next-3 c).After-put_line-next-2 in
     line-put (read (goal.at.After-put_line-next-3 c).Start) y max c.args.s.y.greatest (two at_put_line_next_2)
     c.put_bytes-named-3.ensures c.put_line-next-3.ensures
 
 four : (c : After-put_line-next-4)
-    → Put c.args.buf.now 0 (upto-four (goal.at.After-put_line-next-4 c).Start) c.put_line-next-4.new.buf c.put_line-next-4.result
+    → Put c.args.buf.now 0 (upto-four (goal.at.After-put_line-next-4 c).Start) c.put_line-next-4.new.buf
+    c.put_line-next-4.result
 four c =
     let at_put_line_next_3 = (goal.at.After-put_line-next-4 c).After-put_line-next-3 in
     line-put (read (goal.at.After-put_line-next-4 c).Start) y min c.args.s.y.least (three at_put_line_next_3)
     c.put_bytes-named-4.ensures c.put_line-next-4.ensures
 
 five : (c : After-put_line-next-5)
-    → Put c.args.buf.now 0 (upto-five (goal.at.After-put_line-next-5 c).Start) c.put_line-next-5.new.buf c.put_line-next-5.result
+    → Put c.args.buf.now 0 (upto-five (goal.at.After-put_line-next-5 c).Start) c.put_line-next-5.new.buf
+    c.put_line-next-5.result
 five c =
     let at_put_line_next_4 = (goal.at.After-put_line-next-5 c).After-put_line-next-4 in
     line-put (read (goal.at.After-put_line-next-5 c).Start) z max c.args.s.z.greatest (four at_put_line_next_4)

@@ -9,7 +9,9 @@ use Rattle.building.specs.Test.{among, is, beyond}
 use Rattle.entry.specs.declared.Face.{Face}
 use Rattle.entry.specs.Says.{both}
 use Rattle.rules.specs.Faults.{most_height, area_fault}
-use Rattle.rules.proofs.entries.face_fault.Goals.{After-beyond, After-is_marked, After-is_zone, After-off_area, After-off_area-2, After-off_area-3, Else-beyond, Else-not-is_marked, Else-not-is_zone, Else-off_area, Else-off_area-2}
+use Rattle.rules.proofs.entries.face_fault.Goals.{After-beyond, After-is_marked, After-is_zone, After-off_area}
+use Rattle.rules.proofs.entries.face_fault.Goals.{After-off_area-2, After-off_area-3, Else-beyond, Else-not-is_marked}
+use Rattle.rules.proofs.entries.face_fault.Goals.{Else-not-is_zone, Else-off_area, Else-off_area-2}
 use Rattle.rules.proofs.entries.face_fault.Goals as goal
 
 no-zone : (c : After-is_zone) {t : Bool} → not c.is_zone.result ≡ t
@@ -90,7 +92,8 @@ module _ (c : After-off_area-3) where
       ∙ e
 
 pub returns-then-not-is_zone : goal.returns-then-not-is_zone
-returns-then-not-is_zone c = rw (no-zone (goal.at.returns-then-not-is_zone c).After-is_zone (ap not c.if-not-is_zone.true))
+returns-then-not-is_zone c = rw (no-zone (goal.at.returns-then-not-is_zone c).After-is_zone
+    (ap not c.if-not-is_zone.true))
 
 pub returns-then-not-is_marked : goal.returns-then-not-is_marked
 returns-then-not-is_marked c =
@@ -101,7 +104,12 @@ pub returns-then-beyond : goal.returns-then-beyond
 returns-then-beyond c =
     let at_is_marked = (goal.at.returns-then-beyond c).After-is_marked in
     let at_beyond = (goal.at.returns-then-beyond c).After-beyond in
-    rw (is-zoned at_is_marked, unmarked at_is_marked (ap not c.if-not-is_marked.false), off-height at_beyond c.if-beyond.true)
+    rw (
+      is-zoned at_is_marked,
+      unmarked at_is_marked (ap not c.if-not-is_marked.false),
+      off-height at_beyond
+          c.if-beyond.true,
+    )
 
 pub returns-then-off_area : goal.returns-then-off_area
 returns-then-off_area c =

@@ -32,7 +32,8 @@ off c e =
     ∙ e
 
 pub returns-then-not-zone_on : goal.returns-then-not-zone_on
-returns-then-not-zone_on c = rw (off-building (goal.at.returns-then-not-zone_on c).After-zone_on (ap not c.if-not-zone_on.true))
+returns-then-not-zone_on c = rw (off-building (goal.at.returns-then-not-zone_on c).After-zone_on
+    (ap not c.if-not-zone_on.true))
 
 pub returns-then-unmarked_wall : goal.returns-then-unmarked_wall
 returns-then-unmarked_wall c =

@@ -42,7 +42,11 @@ module _ (c : After-has_form) where
   on t e =
       let a = args.args in
       sym loop.loop-i.invariant.1
-      ∙ form-on (forms a.heights a.k) (held a.x) loop.loop-i.i (omega (arith, forms-there (goal.at.At-loop-i loop).Else-held_count-n))
+      ∙ form-on (forms a.heights a.k) (held a.x) loop.loop-i.i (omega (
+        arith,
+        forms-there
+            (goal.at.At-loop-i loop).Else-held_count-n,
+      ))
       (omega (arith, fields-there (goal.at.At-loop-i loop).Else-held_count-n))
       ∙ ap (λ (t : Bool). t && rest)
       (sym (c.has_form.ensures
@@ -56,13 +60,18 @@ returns-then-held_count-n c =
     (λ e. c.if-held_count-n.true (c.held_count.ensures ∙ e ∙ sym c.count_of-n.ensures)))
 
 pub returns-then-not-has_form : goal.returns-then-not-has_form
-returns-then-not-has_form c = sym (on (goal.at.returns-then-not-has_form c).After-has_form false (c.if-not-has_form.true))
+returns-then-not-has_form c = sym (on (goal.at.returns-then-not-has_form c).After-has_form false
+    (c.if-not-has_form.true))
 
 pub loop-i-smaller : goal.loop-i-smaller
 loop-i-smaller c = omega arith
 
 pub loop-i-preserved : goal.loop-i-preserved
-loop-i-preserved c = (omega arith, rw add-one (sym (on (goal.at.loop-i-preserved c).After-has_form true (c.if-not-has_form.false))))
+loop-i-preserved c = (
+  omega arith,
+  rw add-one (sym (on (goal.at.loop-i-preserved c).After-has_form true
+      (c.if-not-has_form.false))),
+)
 
 pub returns : goal.returns
 unfolding in_form

@@ -65,7 +65,8 @@ returns c =
     let marked = said (λ (z' : ℤ). is both z' || knows g.kind z') f.mark c.is_marked.ensures q.0.1 in
     let at =
     c.ranged.ensures
-    ∙ ap (λ (i : ℕ). ranged i (pos 0) (pos 30000)) (c.height_field.ensures ∙ ap height_field (heights at_area_field_at)) in
+    ∙ ap (λ (i : ℕ). ranged i (pos 0) (pos 30000)) (c.height_field.ensures
+    ∙ ap height_field (heights at_area_field_at)) in
     let none : c.area_field-at.result ≡ c.area_field-at.result + 0 = omega arith in
     let areas =
     area f.x c.area_spot-areas.ensures q.1.1.0.1 (none ∙ field at_area_field_at 0)

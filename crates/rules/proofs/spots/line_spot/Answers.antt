@@ -39,7 +39,8 @@ pub returns-in-Count : goal.returns-in-Count
 returns-in-Count c =
     let year = (returned w64 c.args.b.year c.struct_told-1.given.0.1).same in
     let field = c.letter_of.ensures ∙ ap letter c.field_at.ensures in
-    let count = (returned w64 _ c.number_of.type_inv).same ∙ c.number_of.ensures ∙ ap number c.field_at-in-Count.ensures in
+    let count = (returned w64 _ c.number_of.type_inv).same ∙ c.number_of.ensures
+    ∙ ap number c.field_at-in-Count.ensures in
     c.count_spot.ensures
     ∙ (λ i. first_spot (count_faults (year i) c.in-Count.s (field i) (count i)))
     ∙ as-kind (goal.at.returns-in-Count c).Start (Count c.in-Count.s) c.in-Count.is

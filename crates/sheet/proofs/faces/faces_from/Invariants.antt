@@ -7,7 +7,8 @@ use Rattle.sheet.proofs.faces.faces_from.Given as goal
 
 abbrev pub invariant-loop-done : goal.invariant-loop-done
 invariant-loop-done l =
-    (l.done ≤ l.count) × (length l.flat ≡ length l.initial.flat) × Passed l.s l.b l.at l.faces l.initial.flat l.done l.next l.flat
+    (l.done ≤ l.count) × (length l.flat ≡ length l.initial.flat)
+    × Passed l.s l.b l.at l.faces l.initial.flat l.done l.next l.flat
 
 abbrev pub decreases-loop-done : goal.decreases-loop-done
 decreases-loop-done l = l.count - l.done

@@ -87,7 +87,8 @@ pub returns-then-not-formed_at : goal.returns-then-not-formed_at
 returns-then-not-formed_at c =
     let at_loop_i = (goal.at.returns-then-not-formed_at c).At-loop-i in
     let at_formed_at = (goal.at.returns-then-not-formed_at c).After-formed_at in
-    sym (out-here (called at_loop_i) (line at_formed_at) c.loop-i.invariant.1 (more at_formed_at) (field at_formed_at _ (c.if-not-formed_at.true)))
+    sym (out-here (called at_loop_i) (line at_formed_at) c.loop-i.invariant.1 (more at_formed_at)
+    (field at_formed_at _ (c.if-not-formed_at.true)))
 
 pub overflow_add-i : goal.overflow_add-i
 overflow_add-i c = omega (arith, low (goal.at.overflow_add-i c).After-formed_at)
@@ -129,4 +130,5 @@ overflow_cast-result-2 c = omega (arith, few (goal.at.overflow_cast-result-2 c).
 pub returns : goal.returns
 returns c =
     let at_loop_i = (goal.at.returns c).At-loop-i in
-    sym (formed-all (called at_loop_i) c.args.l.now c.loop-i.invariant.1 (omega (arith, count at_loop_i, c.loop-i-test.false)))
+    sym (formed-all (called at_loop_i) c.args.l.now c.loop-i.invariant.1 (omega
+    (arith, count at_loop_i, c.loop-i-test.false)))

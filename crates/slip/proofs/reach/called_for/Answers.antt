@@ -28,7 +28,11 @@ returns-then-left-ne0 c =
 pub returns-then-begun-section_count : goal.returns-then-begun-section_count
 returns-then-begun-section_count c =
     let a = c.args in
-    let few : a.begun < length (sections a.heights) = omega (arith, c.section_count.ensures, c.if-begun-section_count.true) in
+    let few : a.begun < length (sections a.heights) = omega (
+      arith,
+      c.section_count.ensures,
+      c.if-begun-section_count.true,
+    ) in
     rw (c.if-left-ne0.false, drop-cons (sections a.heights) a.begun «V» few)
     (ap (λ (s : Section). Line (Count s)) c.section_at.ensures)
 

@@ -73,7 +73,13 @@ returns-in-I c d e r = e ∙ as-section (goal.at.returns-in-I c).Start d I c.in-
 pub returns-else-not-risen : goal.returns-else-not-risen
 returns-else-not-risen c d e r =
     let at_struct_told_1 = (goal.at.returns-else-not-risen c).After-struct_told-1 in
-    (λ i. record { year = (e i).year; building = (e i).building; lowest = (e i).lowest; highest = high at_struct_told_1 d e i })
+    (λ i. record {
+      year = (e i).year;
+      building = (e i).building;
+      lowest =
+          (e i).lowest;
+      highest = high at_struct_told_1 d e i;
+    })
     ∙ stepped at_struct_told_1 d e (lowest_of d.profile)
     (lowest-kept d.profile (step at_struct_told_1 d e) (sym (c.if-not-risen.false) ∙ r))
 

@@ -13,7 +13,8 @@ moves held out new k = moved_cell (cell_at held k) (cell_at out k) (cell_at new 
 
 abbrev pub invariant-loop-k : goal.invariant-loop-k
 invariant-loop-k l =
-    (l.k ≤ 32) × (length l.all.cell ≡ 32) × ((i : ℕ) → i < l.k → get_or l.all.cell i no_cell ≡ moves l.held l.out l.new i)
+    (l.k ≤ 32) × (length l.all.cell ≡ 32) × ((i : ℕ) → i < l.k
+    → get_or l.all.cell i no_cell ≡ moves l.held l.out l.new i)
 
 abbrev pub decreases-loop-k : goal.decreases-loop-k
 decreases-loop-k l = 32 - l.k

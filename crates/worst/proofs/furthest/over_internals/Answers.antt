@@ -64,15 +64,15 @@ offset_bounds-four-i c = record { fits = omega (arith, below c) }
 -- what each of the three calls asks
 pub with_cell-x-requires : goal.with_cell-x-requires
 with_cell-x-requires c =
-    (c.requires.1, c.loop-i.invariant.1.x, (proper (goal.at.with_cell-x-requires c).In-loop-i).x)
+    (omega (arith, c.requires.1), c.loop-i.invariant.1.x, (proper (goal.at.with_cell-x-requires c).In-loop-i).x)
 
 pub with_cell-y-requires : goal.with_cell-y-requires
 with_cell-y-requires c =
-    (c.requires.1, c.loop-i.invariant.1.y, (proper (goal.at.with_cell-y-requires c).In-loop-i).y)
+    (omega (arith, c.requires.1), c.loop-i.invariant.1.y, (proper (goal.at.with_cell-y-requires c).In-loop-i).y)
 
 pub with_cell-z-requires : goal.with_cell-z-requires
 with_cell-z-requires c =
-    (c.requires.1, c.loop-i.invariant.1.z, (proper (goal.at.with_cell-z-requires c).In-loop-i).z)
+    (omega (arith, c.requires.1), c.loop-i.invariant.1.z, (proper (goal.at.with_cell-z-requires c).In-loop-i).z)
 
 pub loop-i-preserved : goal.loop-i-preserved
 loop-i-preserved c =

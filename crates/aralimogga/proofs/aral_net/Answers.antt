@@ -2,14 +2,11 @@
 use mathlib.Core.Path.{ap, ◌∙◌}
 use Rattle.whole.proofs.Size.{param}
 use Rattle.answers.specs.Answers.{host_coefficient}
-use borrow.Author.Rules.{rules}
-use Rattle.aralimogga.proofs.aral_net.Statement.{statement}
-use Rattle.aralimogga.proofs.aral_net.Tie as tie
+use Rattle.aralimogga.proofs.aral_net.Goals as goal
 
-returns : tie.Need-returns
+pub returns : goal.returns
 returns c =
-    let g = c.before in
-    let f = g.before.ranges in
+    let f = c.ranges in
     let e =
     rw (
       (param f.year).same,
@@ -22,8 +19,5 @@ returns c =
       (param f.direction).same,
       (param f.internal).same,
     )
-    at g.net.ensures in
-    c.coefficient-of.ensures ∙ ap host_coefficient e
-
-pub aral-net-spec : {M : Type 1} → statement M
-aral-net-spec = tie.close (tie.spec (λ c κs. search rules) (λ c κs. search rules) returns)
+    at c.net.ensures in
+    c.coefficient_of.ensures ∙ ap host_coefficient e

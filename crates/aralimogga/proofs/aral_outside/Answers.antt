@@ -5,15 +5,12 @@ use Rattle.whole.proofs.Size.{param}
 use Rattle.building.specs.declared.Building.{Building}
 use Rattle.book.specs.Question.{outside_of}
 use Rattle.answers.specs.Answers.{host_coefficient}
-use borrow.Author.Rules.{rules}
-use Rattle.aralimogga.proofs.aral_outside.Statement.{statement}
-use Rattle.aralimogga.proofs.aral_outside.Tie as tie
+use Rattle.aralimogga.proofs.aral_outside.Goals as goal
 
-returns : tie.Need-returns
+pub returns : goal.returns
 returns c =
-    let g = c.before in
-    let f = g.before.ranges in
-    let a = g.before.args in
+    let f = c.ranges in
+    let a = c.args in
     let building : Building =
     record { h = a.h; a = a.a; b = a.b; density = a.density; kind = a.kind; x = a.x } in
     let e =
@@ -26,9 +23,6 @@ returns c =
       (param f.kind).same,
       (param f.x).same,
     )
-    at g.outside.ensures in
-    c.coefficient-of.ensures
+    at c.outside.ensures in
+    c.coefficient_of.ensures
     ∙ ap host_coefficient (e ∙ ap (λ (z : ℤ). outside_of a.year building z a.place) (param f.direction).same)
-
-pub aral-outside-spec : {M : Type 1} → statement M
-aral-outside-spec = tie.close (tie.spec (λ c κs. search rules) (λ c κs. search rules) returns)
