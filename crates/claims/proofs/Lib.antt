@@ -27,6 +27,8 @@ pub mod RowsWorked
 pub mod Sample
 pub mod SpeedsWorked
 -- ---- the lists, with a line for each public function
+pub mod LentColumn
+pub mod LentFaces
 pub mod Contracts
 pub mod NothingAsked
 pub mod Determined
