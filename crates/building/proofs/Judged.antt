@@ -7,23 +7,28 @@ use lib.Dec.{eqb}
 use native.Mathlib.Omega.{arith}
 use lib.IntN.{ℤ, pos}
 use borrow.Author.Tests.{eqb-true, eqb-false}
+use Rattle.std.specs.Prelude.{Result, Ok, Err}
+use Rattle.std.specs.Result.{IsErrAnd}
 use Rattle.whole.proofs.Tests.{by-test}
 use Rattle.verdict.specs.declared.Verdict.{Verdict}
 use Rattle.verdict.specs.Verdict.{refusal, ◌or_then◌, Refuses}
 use Rattle.building.specs.declared.Building.{Building}
 use Rattle.building.specs.declared.Sizes.{Sizes}
-use Rattle.building.specs.declared.Question.{Question}
-use Rattle.building.specs.declared.Question.TheVariants.{Of, Refused}
 use Rattle.building.specs.Test.{unless}
 use Rattle.building.specs.Year.{is_year, building_line}
 use Rattle.building.specs.Order.{SizesInOrder}
 use Rattle.building.specs.Building.{building_fault, given_fault, sizes}
 use Rattle.building.specs.Places.{knows, wall_place, place_on}
-use Rattle.building.specs.Question.{refuse, sized_of, placed_of, asked_of}
+use Rattle.building.specs.Question.{Question, refuse, sized_of, placed_of, asked_of}
 use Rattle.building.proofs.Accepted.{in_order, given-none, none-given}
 use Rattle.building.proofs.Places.{needs-roof, place-there}
 
-refuse-some : (n line : ℕ) (a : Question) → (n ≡ 0 → ⊥) → refuse n line a ≡ Refused (refusal n line)
+-- the refusal that a `?` hands on is the one that it met
+pub passed_on : {A : Type 0} {v : Verdict} (r : Result A Verdict) → IsErrAnd r (λ w. w ≡ v) → r ≡ Err v
+passed_on (Ok x) h = absurd h
+passed_on (Err w) h = ap Err h
+
+refuse-some : (n line : ℕ) (a : Question) → (n ≡ 0 → ⊥) → refuse n line a ≡ Err (refusal n line)
 refuse-some zero line a h = absurd (h refl)
 refuse-some (suc n) line a h = refl
 
@@ -41,27 +46,27 @@ module _ (year : ℤ) (g : Building) (direction : ℤ) (place : ℕ) where
   abbrev pub On : Bool → Type 0
   On t = place_on g.kind direction place ≡ t
 
-  pub bad-year : is_year year ≡ false → asked_of year g direction place ≡ Refused (refusal 3 0)
+  pub bad-year : is_year year ≡ false → asked_of year g direction place ≡ Err (refusal 3 0)
   unfolding asked_of
   bad-year y = rw y
 
   pub bad-building : is_year year ≡ true → (given_fault year g ≡ 0 → ⊥)
-      → asked_of year g direction place ≡ Refused (refusal (given_fault year g) (building_line year))
+      → asked_of year g direction place ≡ Err (refusal (given_fault year g) (building_line year))
   unfolding asked_of
   bad-building y h = rw y (refuse-some (given_fault year g) (building_line year) _ h)
 
   pub bad-direction : InYear year g → knows g.kind direction ≡ false
-      → asked_of year g direction place ≡ Refused (refusal 3 0)
+      → asked_of year g direction place ≡ Err (refusal 3 0)
   unfolding asked_of
   bad-direction e f = rw (e.is, given-none year g e.none, f)
 
   pub bad-place : InYear year g → knows g.kind direction ≡ true → On false
-      → asked_of year g direction place ≡ Refused (refusal 6 0)
+      → asked_of year g direction place ≡ Err (refusal 6 0)
   unfolding asked_of
   bad-place e f k = rw (e.is, given-none year g e.none, f, k)
 
   pub in-question : InYear year g → knows g.kind direction ≡ true → On true
-      → asked_of year g direction place ≡ Of (sizes g)
+      → asked_of year g direction place ≡ Ok (sizes g)
   unfolding asked_of
   in-question e f k = rw (e.is, given-none year g e.none, f, k)
 
@@ -81,8 +86,8 @@ module _ (year : ℤ) (g : Building) (direction : ℤ) (place : ℕ) where
     pub roofed : wall_place place ≡ false → 0 < s.kind
 
   abbrev pub FitIn : Question → Type 0
-  FitIn (Of s) = Fit s
-  FitIn (Refused v) = Unit {0}
+  FitIn (Ok s) = Fit s
+  FitIn (Err v) = Unit {0}
 
   fits-in-year : InYear year g → FitIn (asked_of year g direction place)
   fits-in-year e =
@@ -111,14 +116,14 @@ first-passed year g e =
 module _ (year : ℤ) (g : Building) where
   -- what they came to: a building in order in its year
   abbrev pub SizedIn : Question → Type 0
-  SizedIn (Of s) = InYear year g × (s ≡ sizes g)
-  SizedIn (Refused v) = Unit {0}
+  SizedIn (Ok s) = InYear year g × (s ≡ sizes g)
+  SizedIn (Err v) = Unit {0}
 
-  pub sized-good : InYear year g → sized_of year g ≡ Of (sizes g)
+  pub sized-good : InYear year g → sized_of year g ≡ Ok (sizes g)
   unfolding sized_of
   sized-good e = rw (e.is, given-none year g e.none)
 
-  pub sized-refused : Refuses (first_refusal year g) → sized_of year g ≡ Refused (first_refusal year g)
+  pub sized-refused : Refuses (first_refusal year g) → sized_of year g ≡ Err (first_refusal year g)
   unfolding sized_of
   sized-refused r =
       first-checks year g (pos 0) 0 (λ y. rw y)
@@ -135,8 +140,8 @@ module _ (year : ℤ) (g : Building) where
   module _ (direction : ℤ) (place : ℕ) where
     -- and where they are in order the direction and the place decide
     abbrev pub onward : Question → Question
-    onward (Of s) = placed_of s g.kind direction place
-    onward (Refused v) = Refused v
+    onward (Ok s) = placed_of s g.kind direction place
+    onward (Err v) = Err v
 
     refuse-onward : (n line : ℕ) (q : Question) → onward (refuse n line q) ≡ refuse n line (onward q)
     refuse-onward zero line q = refl
@@ -145,6 +150,6 @@ module _ (year : ℤ) (g : Building) where
     pub asked-onward : onward (sized_of year g) ≡ asked_of year g direction place
     unfolding sized_of asked_of
     asked-onward =
-        refuse-onward (unless 3 (is_year year)) 0 (refuse (given_fault year g) (building_line year) (Of (sizes g)))
+        refuse-onward (unless 3 (is_year year)) 0 (refuse (given_fault year g) (building_line year) (Ok (sizes g)))
         ∙ ap (refuse (unless 3 (is_year year)) 0)
-        (refuse-onward (given_fault year g) (building_line year) (Of (sizes g)))
+        (refuse-onward (given_fault year g) (building_line year) (Ok (sizes g)))

@@ -61,13 +61,6 @@ pub struct Spot {
     pub greatest: i64,
 }
 
-// A question in order is one about these sizes; or its refusal.
-#[derive(Clone, Copy)]
-pub enum Question {
-    Of(Sizes),
-    Refused(Verdict),
-}
-
 // The number that the building's line gets in a sheet of its year: 0 where it is in order.
 pub fn building_fault(d: Dated) -> u32
     ensures { result ≡ building_fault d.year d.building }
@@ -135,38 +128,35 @@ fn building_refusal(d: Dated) -> Verdict
 }
 
 // The year and the building of a question, judged: the building's sizes, or the refusal.
-pub fn sized(d: Dated) -> Question
+pub fn sized(d: Dated) -> Result<Sizes, Verdict>
     ensures { result ≡ sized_of d.year d.building }
 {
     let by_year = year_refusal(d.year);
     let by_building = building_refusal(d);
     let v = verdict::or_then(by_year, by_building);
     if v.number != 0 {
-        return Question::Refused(v);
+        return Err(v);
     }
-    Question::Of(faults::sizes_of(d.building))
+    Ok(faults::sizes_of(d.building))
 }
 
 // Then its direction and its place, on a roof of this kind.
-fn placed(s: Sizes, kind: i64, direction: i64, place: u8) -> Question
+fn placed(s: Sizes, kind: i64, direction: i64, place: u8) -> Result<Sizes, Verdict>
     ensures { result ≡ placed_of s kind direction place }
 {
     if !kinds::knows(kind, direction) {
-        return Question::Refused(Verdict { number: 3, line: 0 });
+        return Err(Verdict { number: 3, line: 0 });
     }
     if !kinds::place_on(kind, direction, place) {
-        return Question::Refused(Verdict { number: 6, line: 0 });
+        return Err(Verdict { number: 6, line: 0 });
     }
-    Question::Of(s)
+    Ok(s)
 }
 
 // A question about one zone or local under a wind's direction.
-pub fn asked(d: Dated, direction: i64, place: u8) -> Question
+pub fn asked(d: Dated, direction: i64, place: u8) -> Result<Sizes, Verdict>
     ensures { result ≡ asked_of d.year d.building direction place }
 {
-    let q = sized(d);
-    match q {
-        Question::Of(s) => placed(s, d.building.kind, direction, place),
-        Question::Refused(v) => Question::Refused(v),
-    }
+    let s = sized(d)?;
+    placed(s, d.building.kind, direction, place)
 }

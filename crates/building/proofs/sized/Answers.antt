@@ -4,7 +4,7 @@ use lib.IntN.{ℤ}
 use Rattle.verdict.specs.declared.Verdict.{Verdict}
 use Rattle.verdict.specs.Verdict.{refusal, ◌or_then◌}
 use Rattle.building.specs.declared.Dated.{Dated}
-use Rattle.building.specs.declared.Question.TheVariants.{Of, Refused}
+use Rattle.std.specs.Prelude.{Ok, Err}
 use Rattle.building.specs.Test.{unless}
 use Rattle.building.specs.Year.{is_year}
 use Rattle.whole.proofs.Size.{said}
@@ -35,7 +35,7 @@ pub returns-then-v-ne0 : goal.returns-then-v-ne0
 returns-then-v-ne0 c =
     let at_or_then_v = (goal.at.returns-then-v-ne0 c).After-or_then-v in
     let same = first-is at_or_then_v in
-    ap Refused same
+    ap Err same
     ∙ sym (sized-refused (d at_or_then_v).year (d at_or_then_v).building
     (λ e. c.if-v-ne0.true (ap (λ (v : Verdict). v.number) same ∙ e)))
 
@@ -47,4 +47,4 @@ sizes_of-requires c =
 pub returns : goal.returns
 returns c =
     let g = d (goal.at.returns c).After-or_then-v in
-    ap Of c.sizes_of.ensures ∙ sym (sized-good g.year g.building (good (goal.at.returns c).Else-v-ne0))
+    ap Ok c.sizes_of.ensures ∙ sym (sized-good g.year g.building (good (goal.at.returns c).Else-v-ne0))
