@@ -8,22 +8,20 @@ use lib.Dec.{eqb, lit<, lit≤}
 use lib.IntN.{ℤ, pos, nat_abs}
 use lib.ListN.{get_or}
 use borrow.Author.Tests.{eq-eqb, ne_eqb, eqb-true, eqb-false}
+use Rattle.std.specs.Prelude.{Ok, Err}
 use Rattle.whole.specs.Lists.{Every}
 use Rattle.whole.proofs.Size.{nat_abs-neg}
 use Rattle.whole.proofs.Tests.{by-test, and-true}
 use Rattle.building.specs.declared.Building.{Building}
 use Rattle.building.specs.declared.Sizes.{Sizes}
-use Rattle.building.specs.declared.Question.{Question}
-use Rattle.building.specs.declared.Question.TheVariants as asked
 use Rattle.building.specs.Order.{SizesInOrder}
 use Rattle.building.specs.Building.{sizes}
 use Rattle.building.specs.Places.{E, F, wall_place, zone_on, knows, place_on}
-use Rattle.building.specs.Question.{asked_of}
+use Rattle.building.specs.Question.{Question, asked_of}
 use Rattle.building.proofs.Places.{among-yes, among-is, needs-roof, place-there, RoofZone, of-gable}
 use Rattle.building.proofs.Places.{of-single, of-flat, roof-zone}
 use Rattle.building.proofs.Judged.{InYear, FitIn, question-fits, bad-direction, bad-place, in-question}
 use Rattle.building.proofs.Accepted.{in_order}
-use Rattle.book.specs.declared.Answer.TheVariants.{Answered}
 use Rattle.book.specs.declared.Cited.{Cited}
 use Rattle.book.specs.Row.{hundredths}
 use Rattle.book.specs.Line.{value_at}
@@ -137,7 +135,7 @@ small_of (two h k e f) = (h, (k, tt))
 
 module _ (year : ℤ) (g : Building) (direction : ℤ) (place : ℕ) where
   pub answered : InYear year g → knows g.kind direction ≡ true → place_on g.kind direction place ≡ true
-      → outside_of year g direction place ≡ Answered (coefficient_of (sizes g) (nat_abs direction) place)
+      → outside_of year g direction place ≡ Ok (coefficient_of (sizes g) (nat_abs direction) place)
   unfolding outside_of
   answered e f k = rw (in-question year g direction place e f k)
 
@@ -170,12 +168,12 @@ module _ (year : ℤ) (g : Building) (direction : ℤ) (place : ℕ) where
   -- any answer: no alternative is above 2.500
   small-answer : (q : Question) → FitIn year g direction place q
       → Small (values_of (answer_to q (nat_abs direction) place))
-  small-answer (asked.Of s) f =
+  small-answer (Ok s) f =
       let o = f.order in
       small_of
       (alternatives s o (nat_abs direction) place 2500 (lit≤ tt) f.roofed
       (λ w h. roof_value-small s o (f.roofed w) (roof_column s.kind (nat_abs direction) place)))
-  small-answer (asked.Refused v) f = tt
+  small-answer (Err v) f = tt
 
   pub answer-small : Small (values_of (outside_of year g direction place))
   unfolding outside_of

@@ -4,6 +4,7 @@ use mathlib.Core.Bool.{true, false}
 use Prim.Native.Nat.{ℕ, ◌<◌}
 use lib.Dec.{lit<}
 use lib.IntN.{ℤ, neg_ℤ, nat_abs}
+use Rattle.std.specs.Prelude.{Ok}
 use Rattle.whole.proofs.Tests.{by-test}
 use Rattle.building.specs.declared.Building.{Building}
 use Rattle.building.specs.declared.Sizes.{Sizes}
@@ -13,7 +14,6 @@ use Rattle.building.specs.Places.{wall_place, knows, place_on}
 use Rattle.building.proofs.Accepted.{in_order}
 use Rattle.building.proofs.Judged.{InYear}
 use Rattle.building.proofs.Places.{needs-roof, place-there}
-use Rattle.book.specs.declared.Answer.TheVariants.{Answered}
 use Rattle.book.specs.declared.Cited.{Cited}
 use Rattle.book.specs.declared.Values.{Values}
 use Rattle.book.specs.declared.Values.TheVariants.{One, Two}
@@ -69,7 +69,7 @@ module _ (s : Sizes) (o : SizesInOrder s) (wind place : ℕ) where
 module _ (year : ℤ) (g : Building) (direction : ℤ) (place : ℕ) where
   pub outside-is : InYear year g → knows g.kind direction ≡ true
       → place_on g.kind direction place ≡ true
-      → (c : Cited) × (outside_of year g direction place ≡ Answered c)
+      → (c : Cited) × (outside_of year g direction place ≡ Ok c)
       × IsCoefficient (sizes g) (nat_abs direction) place c
   outside-is good known on = (
     coefficient_of (sizes g) (nat_abs direction) place,

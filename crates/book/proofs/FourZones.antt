@@ -9,22 +9,20 @@ use lib.IntN.{ℤ, pos, nat_abs, neg_ℤ, ◌*ℤ◌}
 use lib.ListN.{get_or, drop}
 use lib.Seq.{get_or-take, get_or-drop}
 use borrow.Author.Tests.{eq-eqb, ne_eqb, eqb-true, eqb-false, not-true, not-false}
+use Rattle.std.specs.Prelude.{Err}
 use Rattle.whole.proofs.Tests.{by-test, and-true}
 use Rattle.building.specs.declared.Building.{Building}
 use Rattle.building.specs.declared.Sizes.{Sizes}
-use Rattle.building.specs.declared.Question.{Question}
-use Rattle.building.specs.declared.Question.TheVariants as asked
 use Rattle.verdict.specs.declared.Verdict.{Verdict}
 use Rattle.building.specs.Test.{beyond, one_of}
 use Rattle.building.specs.Order.{SizesInOrder}
 use Rattle.building.specs.Building.{sizes}
 use Rattle.building.specs.Places.{A, D, E, F, G, H, wall_local, wall_place, wall_directions, zone_on, local_on}
 use Rattle.building.specs.Places.{knows, place_on}
-use Rattle.building.specs.Question.{sized_of}
+use Rattle.building.specs.Question.{Question, sized_of}
 use Rattle.building.proofs.Places.{among-yes, among-is, knows-by}
 use Rattle.building.proofs.Accepted.{good-fields}
 use Rattle.building.proofs.Judged.{InYear, bad-direction, bad-place, onward, asked-onward}
-use Rattle.book.specs.declared.Answer.{Answer}
 use Rattle.book.specs.declared.Cited.{Cited}
 use Rattle.book.specs.declared.Ends.{Ends}
 use Rattle.book.specs.declared.Four.{Four}
@@ -33,7 +31,7 @@ use Rattle.book.specs.Line.{value_at}
 use Rattle.book.specs.Walls.{wall_row}
 use Rattle.book.specs.Roofs.{flat_roof, width, roof_way}
 use Rattle.book.specs.Held.{wall_cells}
-use Rattle.book.specs.Answer.{values_in, values_of}
+use Rattle.book.specs.Answer.{Answer, values_in, values_of}
 use Rattle.book.specs.Question.{wall_column, gable_column, single_column, flat_column, roof_column, two_signs}
 use Rattle.book.specs.Question.{answer_to, outside_of}
 use Rattle.book.specs.Zones.{ends_of, ends_at, four_from, both_ends, no_ends, no_four, ends_on, four_on, wall_half}
@@ -253,7 +251,7 @@ module _ (year : ℤ) (g : Building) (direction : ℤ) where
       }))
 
   -- a refused building has none
-  pub none-asked : (v : Verdict) (zone : ℕ) → sized_of year g ≡ asked.Refused v
+  pub none-asked : (v : Verdict) (zone : ℕ) → sized_of year g ≡ Err v
       → no_four ≡ four_from year g direction zone
   unfolding outside_of
   none-asked v zone e =

@@ -4,6 +4,7 @@ use mathlib.Core.Path.{◌≡◌, refl, sym, ap, ◌∙◌}
 use Prim.Native.Nat.{ℕ}
 use lib.IntN.{ℤ, pos}
 use mathlib.Core.Bool.{true, false, true≢false}
+use Rattle.std.specs.Prelude.{Err}
 use Rattle.whole.proofs.Tests.{by-test}
 use Rattle.verdict.specs.Verdict.{refusal}
 use Rattle.building.specs.declared.Building.{Building}
@@ -13,7 +14,6 @@ use Rattle.building.specs.Building.{given_fault}
 use Rattle.building.specs.Places.{knows, place_on}
 use Rattle.building.proofs.Judged.{InYear, first-checks, bad-building, bad-direction, bad-place}
 use Rattle.building.proofs.Readings.{in-order-last, fault-apart, given-apart}
-use Rattle.book.specs.declared.Answer.TheVariants.{Refused}
 use Rattle.book.specs.Question.{outside_of}
 use Rattle.book.proofs.Answers.{answered}
 
@@ -30,8 +30,8 @@ module _ (y z : ℤ) (g : Building) (direction : ℤ) (place : ℕ) where
   -- the same answer, or the same number of a refused building at its line in each year
   pub data Apart : Type 0 where
     same : outside_of y g direction place ≡ outside_of z g direction place → Apart
-    lines : (n : ℕ) → outside_of y g direction place ≡ Refused (refusal n (building_line y))
-        → outside_of z g direction place ≡ Refused (refusal n (building_line z)) → Apart
+    lines : (n : ℕ) → outside_of y g direction place ≡ Err (refusal n (building_line y))
+        → outside_of z g direction place ≡ Err (refusal n (building_line z)) → Apart
 
   pub readings-apart : is_year y ≡ true → is_year z ≡ true → (g.a ≡ g.b → ⊥) → Apart
   unfolding outside_of
@@ -41,7 +41,7 @@ module _ (y z : ℤ) (g : Building) (direction : ℤ) (place : ℕ) where
       let n = given-apart y z g h in
       lines (given_fault y g) (rw (bad-building y g direction place p f))
       (rw (bad-building z g direction place q (λ k. f (n ∙ k)))
-      (ap (λ m. Refused (refusal m (building_line z))) (sym n))))
+      (ap (λ m. Err (refusal m (building_line z))) (sym n))))
       (λ e. same (readings-agree e (record { is = q; none = sym (fault-apart y z g h) ∙ e.none })))
     where
       clash : is_year y ≡ false → ⊥

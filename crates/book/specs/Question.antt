@@ -1,22 +1,19 @@
 -- The question about one zone or local: its column, its coefficient and, less the internal coefficient, its net.
+use Rattle.std.specs.Prelude.{Ok, Err}
 use Rattle.std.specs.Prelude.{Bool, cond, ◌&&◌, ◌||◌, ℕ, ◌+◌, ◌-◌, ℤ, pos, neg_ℤ, nat_abs, ◌-ℤ◌, ◌*ℤ◌, leb, eqb}
 use Rattle.verdict.specs.Verdict.{refusal}
 use Rattle.building.specs.declared.Building.{Building}
 use Rattle.building.specs.declared.Sizes.{Sizes}
-use Rattle.building.specs.declared.Question.{Question}
-use Rattle.building.specs.declared.Question.TheVariants as asked
 use Rattle.building.specs.Test.{beyond}
 use Rattle.building.specs.Places.{A, E, F, G, L1, wall_local, wall_place}
-use Rattle.building.specs.Question.{asked_of}
-use Rattle.book.specs.declared.Answer.{Answer}
-use Rattle.book.specs.declared.Answer.TheVariants.{Answered, Refused}
+use Rattle.building.specs.Question.{Question, asked_of}
 use Rattle.book.specs.declared.Cited.{Cited}
 use Rattle.book.specs.declared.Values.{Values}
 use Rattle.book.specs.declared.Values.TheVariants.{One, Two}
 use Rattle.book.specs.Line.{Way, value_at}
 use Rattle.book.specs.Walls.{wall_way}
 use Rattle.book.specs.Roofs.{flat_roof, roof_way}
-use Rattle.book.specs.Answer.{cites}
+use Rattle.book.specs.Answer.{Answer, cites}
 
 -- ---- the coefficient
 
@@ -70,8 +67,8 @@ coefficient_of s wind place =
 
 -- what is refused stays refused
 abbrev pub answer_to : Question → ℕ → ℕ → Answer
-answer_to (asked.Of s) wind place = Answered (coefficient_of s wind place)
-answer_to (asked.Refused v) wind place = Refused v
+answer_to (Ok s) wind place = Ok (coefficient_of s wind place)
+answer_to (Err v) wind place = Err v
 
 unfoldable pub outside_of : ℤ → Building → ℤ → ℕ → Answer
 outside_of year g direction place = answer_to (asked_of year g direction place) (nat_abs direction) place
@@ -101,8 +98,8 @@ too_great internal = beyond (neg_ℤ (pos 100)) (pos 100) internal
 
 -- the internal coefficient is judged once the rest is in order
 abbrev pub net_to : Answer → ℤ → Answer
-net_to (Answered c) internal = cond (too_great internal) (Refused (refusal 3 0)) (Answered (net_cited c internal))
-net_to (Refused v) internal = Refused v
+net_to (Ok c) internal = cond (too_great internal) (Err (refusal 3 0)) (Ok (net_cited c internal))
+net_to (Err v) internal = Err v
 
 unfoldable pub net_of : ℤ → Building → ℤ → ℕ → ℤ → Answer
 net_of year g direction place internal = net_to (outside_of year g direction place) internal

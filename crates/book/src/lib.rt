@@ -6,7 +6,7 @@ ghost use Rattle.std.specs.Prelude.{◌≡◌};
 ghost use Rattle.book.specs.Question.{outside_of, net_of};
 ghost use Rattle.book.specs.Zones.{wall_four, roof_four};
 
-use building::{Dated, Question};
+use building::Dated;
 use verdict::Verdict;
 
 mod line;
@@ -33,24 +33,12 @@ pub struct Cited {
     pub whole: u32,
 }
 
-// A coefficient; or the refusal.
-#[derive(Clone, Copy)]
-pub enum Answer {
-    Answered(Cited),
-    Refused(Verdict),
-}
-
 // The outside coefficient of a zone or local.
-pub fn outside(d: Dated, direction: i64, place: u8) -> Answer
+pub fn outside(d: Dated, direction: i64, place: u8) -> Result<Cited, Verdict>
     ensures { result ≡ outside_of d.year d.building direction place }
 {
-    let q = building::asked(d, direction, place);
-    match q {
-        Question::Of(s) => {
-            Answer::Answered(question::coefficient(s, whole::magnitude(direction), place))
-        }
-        Question::Refused(v) => Answer::Refused(v),
-    }
+    let s = building::asked(d, direction, place)?;
+    Ok(question::coefficient(s, whole::magnitude(direction), place))
 }
 
 // The first and the last of a zone's outside coefficients, in thousandths: one that it has alone is both.
@@ -73,10 +61,9 @@ pub struct Four {
 pub fn wall_zones(d: Dated, direction: i64) -> Four
     ensures { result ≡ wall_four d.year d.building direction }
 {
-    let q = building::sized(d);
-    match q {
-        Question::Of(s) => zones::wall_half(s, direction),
-        Question::Refused(_) => zones::no_zones(),
+    match building::sized(d) {
+        Ok(s) => zones::wall_half(s, direction),
+        Err(_) => zones::no_zones(),
     }
 }
 
@@ -84,25 +71,19 @@ pub fn wall_zones(d: Dated, direction: i64) -> Four
 pub fn roof_zones(d: Dated, direction: i64) -> Four
     ensures { result ≡ roof_four d.year d.building direction }
 {
-    let q = building::sized(d);
-    match q {
-        Question::Of(s) => zones::roof_half(s, d.building.kind, direction),
-        Question::Refused(_) => zones::no_zones(),
+    match building::sized(d) {
+        Ok(s) => zones::roof_half(s, d.building.kind, direction),
+        Err(_) => zones::no_zones(),
     }
 }
 
 // The net coefficient: the outside one less the internal one, which is in hundredths.
-pub fn net(d: Dated, direction: i64, place: u8, internal: i64) -> Answer
+pub fn net(d: Dated, direction: i64, place: u8, internal: i64) -> Result<Cited, Verdict>
     ensures { result ≡ net_of d.year d.building direction place internal }
 {
-    let r = outside(d, direction, place);
-    match r {
-        Answer::Answered(c) => {
-            if question::too_great(internal) {
-                return Answer::Refused(Verdict { number: 3, line: 0 });
-            }
-            Answer::Answered(question::net_cited(c, internal))
-        }
-        Answer::Refused(v) => Answer::Refused(v),
+    let c = outside(d, direction, place)?;
+    if question::too_great(internal) {
+        return Err(Verdict { number: 3, line: 0 });
     }
+    Ok(question::net_cited(c, internal))
 }

@@ -137,6 +137,13 @@ module _ (year : ℤ) (g : Building) where
       (λ y h. rw y (subst SizedIn (sym (refuse-some (given_fault year g) (building_line year) _ h)) tt))
       (λ e. subst SizedIn (sym (sized-good e)) (e, refl))
 
+  module _ {s : Sizes} (e : sized_of year g ≡ Ok s) where
+    pub sized-by : InYear year g × (s ≡ sizes g)
+    sized-by = subst SizedIn e sized-in
+
+    pub sized-order : SizesInOrder s
+    sized-order = subst SizesInOrder (sym sized-by.1) (in_order year g sized-by.0.none)
+
   module _ (direction : ℤ) (place : ℕ) where
     -- and where they are in order the direction and the place decide
     abbrev pub onward : Question → Question

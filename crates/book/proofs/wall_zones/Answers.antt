@@ -1,42 +1,28 @@
 -- `wall_zones`: a refused building has none; one in order has what each question answers.
--- a building with sizes is one in order
-use mathlib.Core.Path.{◌≡◌, sym, ap, ◌∙◌, subst}
+use mathlib.Core.Path.{sym, ap, ◌∙◌}
 use Rattle.whole.proofs.Size.{said}
 use Rattle.building.specs.declared.Sizes.{Sizes}
-use Rattle.building.specs.declared.Question.TheVariants.{Of}
-use Rattle.building.specs.Order.{SizesInOrder}
-use Rattle.building.specs.Building.{sizes}
 use Rattle.building.specs.Places.{A}
-use Rattle.building.proofs.Accepted.{in_order}
-use Rattle.building.proofs.Judged.{InYear, SizedIn, sized-in}
+use Rattle.building.proofs.Judged.{sized-by, sized-order}
 use Rattle.book.specs.Zones.{wall_half}
 use Rattle.book.proofs.FourZones.{walls-asked, none-asked}
-use Rattle.book.proofs.wall_zones.Goals.{After-sized-q}
 use Rattle.book.proofs.wall_zones.Goals as goal
-
-good : (c : After-sized-q) (s : Sizes) → c.sized-q.result ≡ Of s
-    → let d = c.args.d in InYear d.year d.building × (s ≡ sizes d.building)
-good c s e =
-    let d = c.args.d in
-    subst (SizedIn d.year d.building) (sym c.sized-q.ensures ∙ e) (sized-in d.year d.building)
 
 pub wall_half-requires : goal.wall_half-requires
 wall_half-requires c =
-    let a = c.args in
-    let g = good (goal.at.wall_half-requires c).After-sized-q c.in-Of.s c.in-Of.is in
-    subst SizesInOrder (sym g.1) (in_order a.d.year a.d.building g.0.none)
+    let d = c.args.d in sized-order d.year d.building (sym c.sized.ensures ∙ c.in-Ok.is)
 
-pub returns-in-Of : goal.returns-in-Of
-returns-in-Of c =
+pub returns-in-Ok : goal.returns-in-Ok
+returns-in-Ok c =
     let a = c.args in
-    let g = good (goal.at.returns-in-Of c).After-sized-q c.in-Of.s c.in-Of.is in
-    said (wall_half c.in-Of.s) a.direction c.wall_half.ensures c.ranges.direction.sfits
+    let g = sized-by a.d.year a.d.building (sym c.sized.ensures ∙ c.in-Ok.is) in
+    said (wall_half c.in-Ok.s) a.direction c.wall_half.ensures c.ranges.direction.sfits
     ∙ ap (λ (z : Sizes). wall_half z a.direction) g.1
     ∙ walls-asked a.d.year a.d.building a.direction g.0
 
-pub returns-in-Refused : goal.returns-in-Refused
-returns-in-Refused c =
+pub returns-in-Err : goal.returns-in-Err
+returns-in-Err c =
     let a = c.args in
     c.no_zones.ensures
-    ∙ none-asked a.d.year a.d.building a.direction c.in-Refused.field-0 A
-    (sym c.sized-q.ensures ∙ c.in-Refused.is)
+    ∙ none-asked a.d.year a.d.building a.direction c.in-Err.field-0 A
+    (sym c.sized.ensures ∙ c.in-Err.is)
