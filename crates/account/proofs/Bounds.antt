@@ -7,7 +7,7 @@ use borrow.Author.Tests.{le-leb}
 use lib.IntN.{ℤ, pos, nat_abs, ◌*ℤ◌}
 use lib.ListN.{get_or}
 use Rattle.whole.proofs.Size.{minus-small, times-small}
-use Rattle.book.specs.declared.Answer.{Answer}
+use Rattle.book.specs.Answer.{Answer}
 use Rattle.book.specs.Question.{outside_of, net}
 use Rattle.entry.specs.declared.Wind.{Wind}
 use Rattle.entry.specs.declared.Face.{Face}

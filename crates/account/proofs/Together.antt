@@ -5,7 +5,7 @@ use Prim.Native.Nat.{ℕ, ◌-◌}
 use lib.IntN.{ℤ, pos, ◌*ℤ◌, zero-*ℤ}
 use lib.ListN.{get_or}
 use Rattle.verdict.specs.Verdict.{accepted}
-use Rattle.book.specs.declared.Answer.{Answer}
+use Rattle.book.specs.Answer.{Answer}
 use Rattle.book.specs.Question.{outside_of, net}
 use Rattle.entry.specs.declared.Wind.{Wind}
 use Rattle.entry.specs.declared.Face.{Face}

@@ -1,11 +1,11 @@
 -- The account of one face in the case of one report line: every step from the printed rows to the face's force, and
 -- its newtons in the column.
+use Rattle.std.specs.Prelude.{Ok, Err}
 use Rattle.std.specs.Prelude.{cond, ℕ, ◌-◌, eqb, ℤ, pos, nat_abs, length, get_or}
 use Rattle.verdict.specs.declared.Verdict.{Verdict}
 use Rattle.verdict.specs.Verdict.{accepted, refusal}
 use Rattle.building.specs.Test.{beyond}
-use Rattle.book.specs.declared.Answer.{Answer}
-use Rattle.book.specs.declared.Answer.TheVariants.{Answered, Refused}
+use Rattle.book.specs.Answer.{Answer}
 use Rattle.book.specs.Question.{outside_of, net}
 use Rattle.entry.specs.declared.Wind.{Wind}
 use Rattle.entry.specs.declared.Face.{Face}
@@ -26,8 +26,8 @@ abbrev pub no_rows : Rows
 no_rows = record { lower = 0; upper = 0; part = 0; whole = 0 }
 
 abbrev pub cited_rows : Answer → Rows
-cited_rows (Answered c) = record { lower = c.lower; upper = c.upper; part = c.part; whole = c.whole }
-cited_rows (Refused v) = no_rows
+cited_rows (Ok c) = record { lower = c.lower; upper = c.upper; part = c.part; whole = c.whole }
+cited_rows (Err v) = no_rows
 
 abbrev pub rows_under : Carried → Wind → Face → Rows
 rows_under c w f =

@@ -1,7 +1,6 @@
 -- The coefficients of a face that takes part, as the code finds them. Only contracts of private functions cite it.
 use Rattle.std.specs.Prelude.{ℕ, ◌-◌, ℤ, pos, get_or}
-use Rattle.book.specs.declared.Answer.{Answer}
-use Rattle.book.specs.Answer.{values_of}
+use Rattle.book.specs.Answer.{Answer, values_of}
 use Rattle.book.specs.Question.{net}
 use Rattle.account.specs.declared.coefficients.FaceCoefficients.{FaceCoefficients}
 use Rattle.account.specs.Account.{cited_rows, no_rows}

@@ -64,11 +64,8 @@ fn outside_in(a: Answer, alternative: u8) -> i32
     ensures { result ≡ outside_in a alternative }
 {
     match a {
-        Answer::Answered(c) => {
-            let values = c.values;
-            value_of(values, alternative)
-        }
-        Answer::Refused(_) => 0,
+        Ok(c) => value_of(c.values, alternative),
+        Err(_) => 0,
     }
 }
 
@@ -76,13 +73,13 @@ fn rows_of(a: Answer) -> Rows
     ensures { result ≡ cited_rows a }
 {
     match a {
-        Answer::Answered(c) => Rows {
+        Ok(c) => Rows {
             lower: c.lower,
             upper: c.upper,
             part: c.part,
             whole: c.whole,
         },
-        Answer::Refused(_) => no_rows(),
+        Err(_) => no_rows(),
     }
 }
 

@@ -1,11 +1,11 @@
 -- The records of include/aralimogga.h for each answer: accepted with what was asked for, or a refusal with zeros.
+use Rattle.std.specs.Prelude.{Ok, Err}
 use Rattle.std.specs.Prelude.{ℕ, cond, List, [], ◌∷◌, eqb, ℤ, pos, negsuc, replicate}
 use Rattle.verdict.specs.declared.Verdict.{Verdict}
 use Rattle.verdict.specs.Verdict.{accepted, refusal}
 use Rattle.page.specs.declared.Writing.{Writing}
 use Rattle.page.specs.declared.Writing.TheVariants as written
-use Rattle.book.specs.declared.Answer as book
-use Rattle.book.specs.declared.Answer.TheVariants as asked
+use Rattle.book.specs.Answer as book
 use Rattle.book.specs.declared.Cited.{Cited}
 use Rattle.book.specs.declared.Values.{Values}
 use Rattle.book.specs.declared.Values.TheVariants.{One, Two}
@@ -53,8 +53,8 @@ host_values c (One v) = host_cited c 1 (v ∷ pos 0 ∷ [])
 host_values c (Two v w) = host_cited c 2 (v ∷ w ∷ [])
 
 abbrev pub host_coefficient : book.Answer → Coefficient
-host_coefficient (asked.Answered c) = host_values c c.values
-host_coefficient (asked.Refused v) =
+host_coefficient (Ok c) = host_values c c.values
+host_coefficient (Err v) =
     record { verdict = v; count = 0; value = pos 0 ∷ pos 0 ∷ []; lower = 0; upper = 0; part = 0; whole = 0 }
 
 -- ---- a double

@@ -108,8 +108,8 @@ pub fn coefficient_of(a: book::Answer) -> Coefficient
     ensures { result ≡ host_coefficient a }
 {
     match a {
-        book::Answer::Answered(c) => of_cited(c),
-        book::Answer::Refused(r) => Coefficient {
+        Ok(c) => of_cited(c),
+        Err(r) => Coefficient {
             verdict: r,
             count: 0,
             value: [0, 0],

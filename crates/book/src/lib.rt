@@ -33,8 +33,11 @@ pub struct Cited {
     pub whole: u32,
 }
 
+// A coefficient; or the refusal.
+pub type Answer = Result<Cited, Verdict>;
+
 // The outside coefficient of a zone or local.
-pub fn outside(d: Dated, direction: i64, place: u8) -> Result<Cited, Verdict>
+pub fn outside(d: Dated, direction: i64, place: u8) -> Answer
     ensures { result ≡ outside_of d.year d.building direction place }
 {
     let s = building::asked(d, direction, place)?;
@@ -78,7 +81,7 @@ pub fn roof_zones(d: Dated, direction: i64) -> Four
 }
 
 // The net coefficient: the outside one less the internal one, which is in hundredths.
-pub fn net(d: Dated, direction: i64, place: u8, internal: i64) -> Result<Cited, Verdict>
+pub fn net(d: Dated, direction: i64, place: u8, internal: i64) -> Answer
     ensures { result ≡ net_of d.year d.building direction place internal }
 {
     let c = outside(d, direction, place)?;

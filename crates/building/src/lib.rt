@@ -61,6 +61,9 @@ pub struct Spot {
     pub greatest: i64,
 }
 
+// A question in order is one about these sizes; or its refusal.
+pub type Question = Result<Sizes, Verdict>;
+
 // The number that the building's line gets in a sheet of its year: 0 where it is in order.
 pub fn building_fault(d: Dated) -> u32
     ensures { result ≡ building_fault d.year d.building }
@@ -128,7 +131,7 @@ fn building_refusal(d: Dated) -> Verdict
 }
 
 // The year and the building of a question, judged: the building's sizes, or the refusal.
-pub fn sized(d: Dated) -> Result<Sizes, Verdict>
+pub fn sized(d: Dated) -> Question
     ensures { result ≡ sized_of d.year d.building }
 {
     let by_year = year_refusal(d.year);
@@ -141,7 +144,7 @@ pub fn sized(d: Dated) -> Result<Sizes, Verdict>
 }
 
 // Then its direction and its place, on a roof of this kind.
-fn placed(s: Sizes, kind: i64, direction: i64, place: u8) -> Result<Sizes, Verdict>
+fn placed(s: Sizes, kind: i64, direction: i64, place: u8) -> Question
     ensures { result ≡ placed_of s kind direction place }
 {
     if !kinds::knows(kind, direction) {
@@ -154,7 +157,7 @@ fn placed(s: Sizes, kind: i64, direction: i64, place: u8) -> Result<Sizes, Verdi
 }
 
 // A question about one zone or local under a wind's direction.
-pub fn asked(d: Dated, direction: i64, place: u8) -> Result<Sizes, Verdict>
+pub fn asked(d: Dated, direction: i64, place: u8) -> Question
     ensures { result ≡ asked_of d.year d.building direction place }
 {
     let s = sized(d)?;

@@ -30,11 +30,11 @@ fn print_rows(rt: &impl Print, c: Cited) -> io::Result<()> {
 fn print_answer(rt: &impl Print, title: &str, a: Answer) -> io::Result<()> {
     print!(rt; "{title}")?;
     match a {
-        Answer::Answered(c) => {
+        Ok(c) => {
             print_values(rt, c.values)?;
             print_rows(rt, c)?;
         }
-        Answer::Refused(v) => print_refusal(rt, v)?,
+        Err(v) => print_refusal(rt, v)?,
     }
     print!(rt; "\n")
 }

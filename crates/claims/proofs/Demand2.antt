@@ -11,7 +11,7 @@ use Rattle.page.specs.declared.Writing.TheVariants as written
 use Rattle.page.specs.Writing.{writing}
 use Rattle.whole.specs.Digits.{decimal}
 use Rattle.building.specs.declared.Building.{Building}
-use Rattle.book.specs.declared.Answer as book
+use Rattle.book.specs.Answer as book
 use Rattle.book.specs.Question.{outside_of, net_of}
 use Rattle.job.specs.declared.Job.{Job}
 use Rattle.entry.specs.declared.Wind.{Wind}

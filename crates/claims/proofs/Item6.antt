@@ -8,6 +8,7 @@ use lib.Dec.{ltb, leb}
 use lib.IntN.{ℤ, pos, nat_abs}
 use lib.ListN.{get_or}
 use borrow.Author.Tests.{le-leb, le-ltb}
+use Rattle.std.specs.Prelude.{Ok, Err}
 use Rattle.verdict.specs.Verdict.{refusal}
 use Rattle.building.specs.declared.Building.{Building}
 use Rattle.building.specs.Year.{is_year, has_heights, has_squares, building_line}
@@ -16,8 +17,7 @@ use Rattle.building.proofs.Tested.{fault-tests}
 use Rattle.entry_written.specs.Fields.{building_fields}
 use Rattle.job.specs.Carried.{Carried}
 use Rattle.job.specs.Lines.{entries_of, sheet_of, lines_of}
-use Rattle.book.specs.declared.Answer as book
-use Rattle.book.specs.declared.Answer.TheVariants.{Answered, Refused}
+use Rattle.book.specs.Answer as book
 use Rattle.book.specs.Answer.{values_of}
 use Rattle.book.specs.Question.{outside_of, net_to, net_of}
 use Rattle.book.proofs.Readings.{Apart, same, lines, readings-agree, readings-apart}
@@ -40,8 +40,8 @@ pub record ReadingsShare : Type 0 where
 
 -- the number that an answer gives, 0 where it is not refused
 abbrev pub number_in : book.Answer → ℕ
-number_in (Answered c) = 0
-number_in (Refused v) = v.number
+number_in (Ok c) = 0
+number_in (Err v) = v.number
 
 -- in two years: number and values are the same, and where both have the building on the same line, all is
 pub record Alike (y z : ℤ) (r q : book.Answer) : Type 0 where
@@ -73,7 +73,7 @@ BuildingStandsThere = (c : Carried) → get_or (lines_of c) (building_line c.yea
 
 -- the answers in two years, said of whatever is made of them
 module _ (y z : ℤ) (g : Building) (direction : ℤ) (place : ℕ) (of : book.Answer → book.Answer)
-    (refusing : (v : _) → of (Refused v) ≡ Refused v) where
+    (refusing : (v : _) → of (Err v) ≡ Err v) where
   shared : InSheet y g → InSheet z g → of (outside_of y g direction place) ≡ of (outside_of z g direction place)
   shared p q =
       ap of (readings-agree y z g direction place (in-year y g direction place p) (in-year z g direction place q))
@@ -92,7 +92,7 @@ module _ (y z : ℤ) (g : Building) (direction : ℤ) (place : ℕ) (of : book.A
           record {
             number = ap number_in u ∙ sym (ap number_in v);
             values = ap values_of u ∙ sym (ap values_of v);
-            all = λ l. u ∙ ap (λ m. Refused (refusal n m)) l ∙ sym v;
+            all = λ l. u ∙ ap (λ m. Err (refusal n m)) l ∙ sym v;
           }
 
 -- a question of one year, as one about the building and the rest of another

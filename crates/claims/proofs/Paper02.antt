@@ -3,13 +3,13 @@ use mathlib.Core.Path.{◌≡◌, refl, sym, ◌∙◌}
 use mathlib.Core.Bool.{true, false}
 use Prim.Native.Nat.{ℕ}
 use lib.IntN.{ℤ, nat_abs}
+use Rattle.std.specs.Prelude.{Ok}
 use Rattle.building.specs.declared.Building.{Building}
 use Rattle.building.specs.declared.Sizes.{Sizes}
 use Rattle.building.specs.Building.{sizes}
 use Rattle.building.specs.Places.{wall_place}
 use Rattle.building.proofs.Accepted.{in_order}
 use Rattle.building.proofs.Places.{needs-roof, place-there}
-use Rattle.book.specs.declared.Answer.TheVariants.{Answered}
 use Rattle.book.specs.declared.Cited.{Cited}
 use Rattle.book.specs.Line.{Way}
 use Rattle.book.specs.Interpolated.{LiesAt}
@@ -30,18 +30,18 @@ use Rattle.claims.proofs.Question.{clash, faultless, answered-so}
 -- "A coefficient question now also answers the two rows it lay between and the exact fraction of the way, in lowest
 -- terms; on a row itself .. both are that row and the fraction is 0 over 1."
 abbrev pub AnswersCiteRows : Type 0
-AnswersCiteRows = Always of.outside.Post (λ κ a r s. (c : Cited) → r ≡ Answered c → wall_place a.1.1.0 ≡ false
+AnswersCiteRows = Always of.outside.Post (λ κ a r s. (c : Cited) → r ≡ Ok c → wall_place a.1.1.0 ≡ false
     → let b = sizes a.0.building in
     (w : Way) × LiesAt (part_of b) b.along b.across w × (c ≡ cites c.values w))
 
 -- "or where the table has nothing to interpolate": on a wall, the row that its building has
 abbrev pub WallsCiteTheirRow : Type 0
-WallsCiteTheirRow = Always of.outside.Post (λ κ a r s. (c : Cited) → r ≡ Answered c → wall_place a.1.1.0 ≡ true
+WallsCiteTheirRow = Always of.outside.Post (λ κ a r s. (c : Cited) → r ≡ Ok c → wall_place a.1.1.0 ≡ true
     → c ≡ cites c.values (wall_way (sizes a.0.building)))
 
 -- "Students ask where 0.303 came from": the answer, the printed table and the column are enough to work it out again.
 abbrev pub AnswersCanBeRedone : Type 0
-AnswersCanBeRedone = Always of.outside.Post (λ κ a r s. (c : Cited) → r ≡ Answered c → let b = sizes a.0.building in
+AnswersCanBeRedone = Always of.outside.Post (λ κ a r s. (c : Cited) → r ≡ Ok c → let b = sizes a.0.building in
     ByHand (table_for b a.1.1.0) (column_for b (nat_abs a.1.0) a.1.1.0) c)
 
 -- ---- the proofs
@@ -69,7 +69,7 @@ walls-cite-their-row κ a r s p c e =
     on-wall (sizes a.0.building) (nat_abs a.1.0) a.1.1.0 i
 
 again : (year : ℤ) (g : Building) (direction : ℤ) (place : ℕ) {c : Cited}
-    → outside_of year g direction place ≡ Answered c
+    → outside_of year g direction place ≡ Ok c
     → ByHand (table_for (sizes g) place) (column_for (sizes g) (nat_abs direction) place) c
 again year g direction place h =
     let answered = answered-so year g direction place h in

@@ -5,6 +5,7 @@ use Prim.Native.Nat.{ℕ}
 use mathlib.Core.Path.{◌≡◌, refl}
 use mathlib.Core.List.{List, [], ◌∷◌}
 use lib.IntN.{ℤ, pos, neg_ℤ}
+use Rattle.std.specs.Prelude.{Ok}
 use Rattle.whole.proofs.Quoted.{bytes}
 use Rattle.whole.specs.Lists.{Every}
 use Rattle.whole.specs.Round.{half_up, round_away, round_down, left_over}
@@ -22,7 +23,6 @@ use Rattle.book.specs.Gable.{block_of}
 use Rattle.book.specs.Roofs.{roof_way}
 use Rattle.building.specs.Roof.{roof_of}
 use Rattle.building.specs.Building.{given_fault, building_fault, out_of_form, out_of_range, out_of_walls, out_of_roof}
-use Rattle.book.specs.declared.Answer.TheVariants.{Answered}
 use Rattle.book.specs.declared.Values.{Values}
 use Rattle.book.specs.declared.Values.TheVariants.{One}
 use Rattle.building.specs.Places.{E, L1, zone_on, local_on, knows, place_on}
@@ -65,7 +65,7 @@ alone density speed net area =
 
 abbrev pub Holds : Row → Type 0
 Holds (gives year g direction place values lower upper part whole) = (outside_of (pos year) g (pos direction) place
-    ≡ Answered (record { values = values; lower = lower; upper = upper; part = part; whole = whole }))
+    ≡ Ok (record { values = values; lower = lower; upper = upper; part = part; whole = whole }))
 Holds (gets year g number) = (given_fault (pos year) g ≡ number)
 Holds (pushes density speed net area units whole) =
     (alone density speed net area ≡ units) × (newtons units ≡ whole) × (remainder units ≡ 0)

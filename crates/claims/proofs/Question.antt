@@ -6,13 +6,12 @@ use Prim.Native.Nat.{ℕ}
 use native.Mathlib.Omega.{arith}
 use lib.Dec.{T}
 use lib.IntN.{ℤ, nat_abs}
+use Rattle.std.specs.Prelude.{Ok, Err}
 use Rattle.whole.proofs.Tests.{by-test}
 use Rattle.verdict.specs.declared.Verdict.{Verdict}
 use Rattle.verdict.specs.Verdict.{refusal}
 use Rattle.building.specs.declared.Building.{Building}
-use Rattle.building.specs.declared.Question.{Question}
-use Rattle.building.specs.declared.Question.TheVariants as asked
-use Rattle.building.specs.Question.{asked_of}
+use Rattle.building.specs.Question.{Question, asked_of}
 use Rattle.building.specs.Building.{given_fault, sizes}
 use Rattle.building.specs.Places.{knows, place_on}
 use Rattle.building.proofs.Accepted.{in_order, given-none, none-given}
@@ -20,8 +19,7 @@ use Rattle.building.proofs.Judged as judged
 use Rattle.building.proofs.Judged.{InYear}
 use Rattle.building.specs.Year.{building_line}
 use Rattle.job.proofs.Written.{building-given}
-use Rattle.book.specs.declared.Answer as book
-use Rattle.book.specs.declared.Answer.TheVariants.{Answered, Refused}
+use Rattle.book.specs.Answer as book
 use Rattle.book.specs.declared.Cited.{Cited}
 use Rattle.book.specs.declared.Values.{Values}
 use Rattle.book.specs.declared.Values.TheVariants.{One, Two}
@@ -106,8 +104,8 @@ module _ (year : ℤ) (g : Building) (direction : ℤ) (place : ℕ) where
 
   -- the refusal, or that there is none
   judged-so : {P : Type 0}
-      → ((v : Verdict) → Refusal year g direction place v → asked_of year g direction place ≡ asked.Refused v → P)
-      → (InQuestion year g direction place → asked_of year g direction place ≡ asked.Of (sizes g) → P) → P
+      → ((v : Verdict) → Refusal year g direction place v → asked_of year g direction place ≡ Err v → P)
+      → (InQuestion year g direction place → asked_of year g direction place ≡ Ok (sizes g) → P) → P
   judged-so bad good =
       judged.first-checks year g direction place
       (λ y. bad _ (bad-year y) (judged.bad-year year g direction place y))
@@ -124,7 +122,7 @@ module _ (year : ℤ) (g : Building) (direction : ℤ) (place : ℕ) where
   question-judged = judged-so (λ v f e. rw e (not-asked f)) (λ q e. rw e (asked-of q))
 
   pub judged-unique : {r r' : Question} → Judged year g direction place r → Judged year g direction place r' → r ≡ r'
-  judged-unique (not-asked f) (not-asked h) = ap asked.Refused (refusal-unique f h)
+  judged-unique (not-asked f) (not-asked h) = ap Err (refusal-unique f h)
   judged-unique (not-asked f) (asked-of q) = not-both f q
   judged-unique (asked-of q) (not-asked f) = not-both f q
   judged-unique (asked-of q) (asked-of q') = refl
@@ -132,8 +130,8 @@ module _ (year : ℤ) (g : Building) (direction : ℤ) (place : ℕ) where
   -- ---- the coefficient
 
   outside-by : {P : Type 0}
-      → ((v : Verdict) → Refusal year g direction place v → outside_of year g direction place ≡ Refused v → P)
-      → (InQuestion year g direction place → (c : Cited) → outside_of year g direction place ≡ Answered c
+      → ((v : Verdict) → Refusal year g direction place v → outside_of year g direction place ≡ Err v → P)
+      → (InQuestion year g direction place → (c : Cited) → outside_of year g direction place ≡ Ok c
       → IsCoefficient (sizes g) (nat_abs direction) place c → P) → P
   unfolding outside_of
   outside-by bad good =
@@ -148,7 +146,7 @@ module _ (year : ℤ) (g : Building) (direction : ℤ) (place : ℕ) where
       (λ q c e i. subst (Outside year g direction place) (sym e) (answered q i))
 
   -- what is answered is the coefficient, and the question was in order
-  pub answered-so : {c : Cited} → outside_of year g direction place ≡ Answered c
+  pub answered-so : {c : Cited} → outside_of year g direction place ≡ Ok c
       → InQuestion year g direction place × IsCoefficient (sizes g) (nat_abs direction) place c
   answered-so {c} h =
       outside-by (λ v f e. let z : ◌≡◌ {A = ℕ} 0 1 = cc in absurd (omega arith))
@@ -162,10 +160,10 @@ module _ (year : ℤ) (g : Building) (direction : ℤ) (place : ℕ) where
 
   pub outside-unique : {r r' : book.Answer} → Outside year g direction place r → Outside year g direction place r'
       → r ≡ r'
-  outside-unique (refused f) (refused h) = ap Refused (refusal-unique f h)
+  outside-unique (refused f) (refused h) = ap Err (refusal-unique f h)
   outside-unique (refused f) (answered q i) = not-both f q
   outside-unique (answered q i) (refused f) = not-both f q
-  outside-unique (answered q i) (answered q' i') = ap Answered (coefficient-one q i i')
+  outside-unique (answered q i) (answered q' i') = ap Ok (coefficient-one q i i')
 
   -- ---- the net coefficient
 
@@ -183,7 +181,7 @@ module _ (year : ℤ) (g : Building) (direction : ℤ) (place : ℕ) where
 
     pub net-unique : {r r' : book.Answer} → Net year g direction place internal r
         → Net year g direction place internal r' → r ≡ r'
-    net-unique (as-outside f) (as-outside h) = ap Refused (refusal-unique f h)
+    net-unique (as-outside f) (as-outside h) = ap Err (refusal-unique f h)
     net-unique (as-outside f) (bad-internal q e) = not-both f q
     net-unique (as-outside f) (less-internal q e o v r) = not-both f q
     net-unique (bad-internal q e) (as-outside f) = not-both f q
@@ -194,7 +192,7 @@ module _ (year : ℤ) (g : Building) (direction : ℤ) (place : ℕ) where
     net-unique (less-internal q e o v r) (less-internal q' e' o' v' r') =
         let outside = coefficient-one q o o' in
         let values = v ∙ ap (λ c. map (λ y. net y internal) (values_in c.values)) outside ∙ sym v' in
-        ap Answered
+        ap Ok
         (same-cited values
         (record {
           lower = sym r.lower ∙ ap (λ c. c.lower) outside ∙ r'.lower;

@@ -8,6 +8,7 @@ use native.Mathlib.Omega.{arith}
 use lib.IntN.{ℤ, pos, negsuc, nat_abs, ◌*ℤ◌}
 use lib.ListN.{length, get_or, length-map}
 use borrow.Author.Tests.{le-ltb}
+use Rattle.std.specs.Prelude.{Ok, Err}
 use Rattle.whole.proofs.Lists.{get_d_map, every-member}
 use Rattle.whole.proofs.Tests.{by-test}
 use Rattle.building.specs.Test.{beyond}
@@ -15,8 +16,7 @@ use Rattle.entry.specs.declared.Wind.{Wind}
 use Rattle.entry.specs.declared.Face.{Face}
 use Rattle.job.specs.Carried.{Carried}
 use Rattle.job.specs.InOrder.{InOrder, InternalInOrder}
-use Rattle.book.specs.declared.Answer as book
-use Rattle.book.specs.declared.Answer.TheVariants.{Answered, Refused}
+use Rattle.book.specs.Answer as book
 use Rattle.book.specs.Answer.{values_of}
 use Rattle.book.specs.Question.{outside_of, net, too_great, net_to, net_of}
 use Rattle.worst.specs.declared.Axis.{Axis}
@@ -37,8 +37,8 @@ not-too-great (negsuc n) h = rw (le-ltb 99 n (omega arith))
 
 net-values : (r : book.Answer) (internal : ℤ) → too_great internal ≡ false
     → values_of (net_to r internal) ≡ map (λ v. net v internal) (values_of r)
-net-values (Answered c) internal e = rw e (minus-values internal c.values)
-net-values (Refused v) internal e = refl
+net-values (Ok c) internal e = rw e (minus-values internal c.values)
+net-values (Err v) internal e = refl
 
 -- ---- one face
 

@@ -1,10 +1,10 @@
 -- What a question about one zone or local gets: the first refusal in paper 01's order, or the coefficient.
+use Rattle.std.specs.Prelude.{Ok, Err}
 use Rattle.std.specs.Prelude.{◌≡◌, true, false, map, ℕ, ◌<◌, ℤ, nat_abs}
 use Rattle.verdict.specs.declared.Verdict.{Verdict}
 use Rattle.verdict.specs.Verdict.{refusal}
 use Rattle.building.specs.declared.Building.{Building}
-use Rattle.building.specs.declared.Question as asked
-use Rattle.building.specs.declared.Question.TheVariants as judged
+use Rattle.building.specs.Question as asked
 use Rattle.building.specs.Building.{sizes}
 use Rattle.building.specs.Year.{is_year, building_line}
 use Rattle.building.specs.Places.{knows, place_on}
@@ -13,8 +13,7 @@ use Rattle.rules.specs.declared.Kind.TheVariants.{Entry}
 use Rattle.rules.specs.Sections.{line_fault}
 use Rattle.entry_written.specs.Fields.{building_fields}
 use Rattle.job.specs.Carried.{nothing, with_year, before}
-use Rattle.book.specs.declared.Answer as book
-use Rattle.book.specs.declared.Answer.TheVariants.{Answered, Refused}
+use Rattle.book.specs.Answer as book
 use Rattle.book.specs.declared.Cited.{Cited}
 use Rattle.book.specs.Answer.{values_in}
 use Rattle.book.specs.Coefficient.{IsCoefficient}
@@ -56,23 +55,23 @@ module _ (year : ℤ) (g : Building) (direction : ℤ) (place : ℕ) where
 
   -- the question judged: what the tables are asked for are the building's sizes
   pub data Judged : asked.Question → Type 0 where
-    not-asked : {v : Verdict} → Refusal v → Judged (judged.Refused v)
-    asked-of : InQuestion → Judged (judged.Of (sizes g))
+    not-asked : {v : Verdict} → Refusal v → Judged (Err v)
+    asked-of : InQuestion → Judged (Ok (sizes g))
 
   -- an answer is the coefficient with its rows
   pub data Outside : book.Answer → Type 0 where
-    refused : {v : Verdict} → Refusal v → Outside (Refused v)
-    answered : {c : Cited} → InQuestion → IsCoefficient (sizes g) (nat_abs direction) place c → Outside (Answered c)
+    refused : {v : Verdict} → Refusal v → Outside (Err v)
+    answered : {c : Cited} → InQuestion → IsCoefficient (sizes g) (nat_abs direction) place c → Outside (Ok c)
 
   -- "then, where the net is asked, the internal coefficient, 3 with line 0"; else outside minus internal, alternative
   -- by alternative
   pub data Net (internal : ℤ) : book.Answer → Type 0 where
-    as-outside : {v : Verdict} → Refusal v → Net internal (Refused v)
-    bad-internal : InQuestion → too_great internal ≡ true → Net internal (Refused (refusal 3 0))
+    as-outside : {v : Verdict} → Refusal v → Net internal (Err v)
+    bad-internal : InQuestion → too_great internal ≡ true → Net internal (Err (refusal 3 0))
     less-internal : {outside c : Cited} → InQuestion → too_great internal ≡ false
         → IsCoefficient (sizes g) (nat_abs direction) place outside
         → values_in c.values ≡ map (λ v. net v internal) (values_in outside.values) → SameRows outside c
-        → Net internal (Answered c)
+        → Net internal (Ok c)
 
 -- ---- from C
 

@@ -4,7 +4,7 @@ use Rattle.std.specs.Prelude.{◌≡◌, true, false, List, [], ◌∷◌, ℕ, 
 use Rattle.entry.specs.declared.Wind.{Wind}
 use Rattle.entry.specs.declared.Face.{Face}
 use Rattle.job.specs.Carried.{Carried}
-use Rattle.book.specs.declared.Answer as book
+use Rattle.book.specs.Answer as book
 use Rattle.book.specs.Answer.{values_of}
 use Rattle.worst.specs.declared.Axis.{Axis}
 use Rattle.worst.specs.Forces.{acts, face_speed, pressure, area}

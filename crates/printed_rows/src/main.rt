@@ -72,8 +72,8 @@ fn put_values(rt: &impl Print, values: Values) -> io::Result<()> {
 
 fn put_answer(rt: &impl Print, answer: Answer) -> io::Result<()> {
     match answer {
-        Answer::Answered(c) => put_values(rt, c.values),
-        Answer::Refused(v) => {
+        Ok(c) => put_values(rt, c.values),
+        Err(v) => {
             print!(rt; "refused ")?;
             put(rt, v.number as i64)?;
             put(rt, v.line as i64)
@@ -84,14 +84,14 @@ fn put_answer(rt: &impl Print, answer: Answer) -> io::Result<()> {
 // Between which rows it lies, and the fraction of the way.
 fn put_rows(rt: &impl Print, answer: Answer) -> io::Result<()> {
     match answer {
-        Answer::Answered(c) => {
+        Ok(c) => {
             print!(rt; "rows ")?;
             put(rt, c.lower as i64)?;
             put(rt, c.upper as i64)?;
             put(rt, c.part as i64)?;
             put(rt, c.whole as i64)
         }
-        Answer::Refused(_) => Ok(()),
+        Err(_) => Ok(()),
     }
 }
 

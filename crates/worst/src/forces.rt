@@ -19,7 +19,7 @@ use crate::reckon::setting_of;
 use crate::speeds::{Factor, factor_in, fill};
 use crate::sums::pressure_of;
 use crate::{AxisForces, CellForces, FaceForces};
-use book::{Answer, Values};
+use book::Values;
 use building::Dated;
 use entry::{Face, Wind};
 use job::{Job, Setting};
@@ -56,13 +56,9 @@ fn of_values(values: Values) -> Coefficients
 fn asked(d: Dated, w: Wind, f: Face) -> Coefficients
     ensures { result ≡ coefficients_at d.year d.building w f }
 {
-    let answer = book::outside(d, w.direction, f.zone);
-    match answer {
-        Answer::Answered(c) => {
-            let values = c.values;
-            of_values(values)
-        }
-        Answer::Refused(_) => of_pair(0, 0, 0),
+    match book::outside(d, w.direction, f.zone) {
+        Ok(c) => of_values(c.values),
+        Err(_) => of_pair(0, 0, 0),
     }
 }
 

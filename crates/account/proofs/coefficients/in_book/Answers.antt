@@ -6,7 +6,7 @@ use lib.IntN.{ℤ, nat_abs}
 use mir.Syntax.{w32, w64}
 use mir.Val.{SFits, to_z, of_z}
 use mir.ValLaws.{to_z-of_z}
-use Rattle.book.specs.declared.Answer.{Answer}
+use Rattle.book.specs.Answer.{Answer}
 use Rattle.book.specs.Question.{outside_of, net}
 use Rattle.account.specs.Account.{cited_rows}
 use Rattle.account.specs.Coefficients.{outside_in}
