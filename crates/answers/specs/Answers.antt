@@ -1,10 +1,8 @@
 -- The records of include/aralimogga.h for each answer: accepted with what was asked for, or a refusal with zeros.
-use Rattle.std.specs.Prelude.{Ok, Err}
-use Rattle.std.specs.Prelude.{ℕ, cond, List, [], ◌∷◌, eqb, ℤ, pos, negsuc, replicate}
+use Rattle.std.specs.Prelude.{ℕ, cond, List, [], ◌∷◌, eqb, ℤ, pos, negsuc, replicate, Ok, Err}
 use Rattle.verdict.specs.declared.Verdict.{Verdict}
 use Rattle.verdict.specs.Verdict.{accepted, refusal}
-use Rattle.page.specs.declared.Writing.{Writing}
-use Rattle.page.specs.declared.Writing.TheVariants as written
+use Rattle.page.specs.Writing.{Writing}
 use Rattle.book.specs.Answer as book
 use Rattle.book.specs.declared.Cited.{Cited}
 use Rattle.book.specs.declared.Values.{Values}
@@ -30,8 +28,8 @@ abbrev pub no_host_text : Verdict → Text
 no_host_text v = record { verdict = v; length = 0 }
 
 abbrev pub host_text : Writing → Text
-host_text (written.Length n) = record { verdict = accepted; length = n }
-host_text (written.Refused v) = no_host_text v
+host_text (Ok n) = record { verdict = accepted; length = n }
+host_text (Err v) = no_host_text v
 
 -- ---- a coefficient
 

@@ -8,7 +8,6 @@ ghost use Rattle.answers.specs.Answers.{host_double, no_host_extreme, host_units
 
 use book::{Cited, Values};
 use building::year::has_long_sheds;
-use page::Writing;
 use pair::Pair;
 use panel::Panel;
 use verdict::Verdict;
@@ -67,15 +66,15 @@ pub fn no_text(v: Verdict) -> Text
     }
 }
 
-pub fn text_of(w: Writing) -> Text
+pub fn text_of(w: Result<usize, Verdict>) -> Text
     ensures { result ≡ host_text w }
 {
     match w {
-        Writing::Length(n) => Text {
+        Ok(n) => Text {
             verdict: Verdict { number: 0, line: 0 },
             length: n as u64,
         },
-        Writing::Refused(v) => no_text(v),
+        Err(v) => no_text(v),
     }
 }
 

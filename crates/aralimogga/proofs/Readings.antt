@@ -6,7 +6,7 @@ use mathlib.Core.List.{List}
 use lib.IntN.{ℤ}
 use Rattle.verdict.specs.declared.Verdict.{Verdict}
 use Rattle.verdict.specs.Verdict.{Refuses}
-use Rattle.page.specs.declared.Writing.{Writing}
+use Rattle.page.specs.Writing.{Writing}
 use Rattle.job.specs.Carried.{Carried}
 use Rattle.job.specs.Walk.{Reading, Refused, verdict, judged}
 use Rattle.sheet.specs.declared.read.Read.{Read}

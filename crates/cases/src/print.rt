@@ -1,12 +1,11 @@
 // What is printed: a text that was written into a buffer, a number, a refusal.
-use page::Writing;
 use std::io;
 use verdict::Verdict;
 
 // Nothing, where it was refused.
-pub(crate) fn print_text(rt: &impl Print, buf: &[u8], written: Writing) -> io::Result<()> {
+pub(crate) fn print_text(rt: &impl Print, buf: &[u8], written: Result<usize, Verdict>) -> io::Result<()> {
     match written {
-        Writing::Length(n) if n <= buf.len() => rt.write_all(&buf[..n]),
+        Ok(n) if n <= buf.len() => rt.write_all(&buf[..n]),
         _ => Ok(()),
     }
 }

@@ -4,9 +4,9 @@ use mathlib.Core.List.{List}
 use Prim.Native.Nat.{ℕ}
 use lib.ListN.{length, take, drop}
 use lib.Seq.{take-append_seam}
+use Rattle.std.specs.Prelude.{Ok}
 use Rattle.verdict.specs.Verdict.{accepted}
-use Rattle.page.specs.declared.Writing.{Writing}
-use Rattle.page.specs.declared.Writing.TheVariants.{Length}
+use Rattle.page.specs.Writing.{Writing}
 use Rattle.job.specs.declared.Job.{Job}
 use Rattle.job.specs.Carried.{Carried, carried, recorded, SameJob}
 use Rattle.job.specs.Walk.{Reading, Accepted, judged}
@@ -45,12 +45,12 @@ rewritten s c a before {after} {w} p =
 
 -- ---- a job written and read again
 
-written_start : {text before after : List ℕ} {n : ℕ} → Written text before after (Length n) → take n after ≡ text
+written_start : {text before after : List ℕ} {n : ℕ} → Written text before after (Ok n) → take n after ≡ text
 written_start {text} {before} (put h e) =
     ap (take (length text)) e ∙ take-append_seam text (drop (length text) before)
 
 pub job-again : (j : Job) (c : Carried) → judged j ≡ Accepted c → (before : List ℕ) {after s : List ℕ} {n : ℕ}
-    → (Length n ≡ job_writing sheet_text (judged j) before) × (after ≡ job_buffer sheet_text (judged j) before)
+    → (Ok n ≡ job_writing sheet_text (judged j) before) × (after ≡ job_buffer sheet_text (judged j) before)
     → s ≡ take n after
     → (answer (reading s) ≡ record { verdict = accepted; job = recorded (carried j) })
     × SameJob j (answer (reading s)).job

@@ -8,11 +8,11 @@ use Prim.Native.Nat.{ℕ, ◌≤◌}
 use lib.Dec.{eqb, lit≤}
 use lib.IntN.{ℤ, pos, negsuc}
 use borrow.Author.Tests.{ne_eqb}
+use Rattle.std.specs.Prelude.{Err}
 use Rattle.verdict.specs.declared.Verdict.{Verdict}
 use Rattle.verdict.specs.Verdict.{accepted, refusal}
 use Rattle.field.specs.declared.Field.{Field}
 use Rattle.lines.specs.Lines.{lines_in}
-use Rattle.page.specs.declared.Writing.TheVariants as written
 use Rattle.page.specs.Writing.{writing}
 use Rattle.job.specs.declared.Job.{Job}
 use Rattle.job.specs.Carried.{Carried, carried, no_job}
@@ -50,11 +50,11 @@ pub record BadGetsFirstFault : Type 0 where
   pub judge : GetsFault of.judge.Post (λ κ a. lines_of (carried a.0)) (λ κ a v. v)
   pub worst-cases : GetsFault of.worst-cases.Post (λ κ a. lines_of (carried a.0))
       (λ κ a v. record { verdict = v; year = pos 0; six = no_six })
-  pub write-sheet : GetsFault of.write-sheet.Post (λ κ a. lines_of (carried a.0)) (λ κ a v. written.Refused v)
-  pub write-report : GetsFault of.write-report.Post (λ κ a. lines_of (carried a.0)) (λ κ a v. written.Refused v)
+  pub write-sheet : GetsFault of.write-sheet.Post (λ κ a. lines_of (carried a.0)) (λ κ a v. Err v)
+  pub write-report : GetsFault of.write-report.Post (λ κ a. lines_of (carried a.0)) (λ κ a v. Err v)
   pub worst-stored : GetsFault of.worst-stored.Post (λ κ a. lines_of (carried a.0))
       (λ κ a v. record { verdict = v; year = pos 0; six = no_six })
-  pub write-stored : GetsFault of.write-stored.Post (λ κ a. lines_of (carried a.0)) (λ κ a v. written.Refused v)
+  pub write-stored : GetsFault of.write-stored.Post (λ κ a. lines_of (carried a.0)) (λ κ a v. Err v)
 
 -- Where there is no fault, it is accepted: number 0, line 0. What is then written and shown is said by demands 2 and
 -- 3.

@@ -5,10 +5,9 @@ use mathlib.Core.List.{List}
 use Prim.Native.Nat.{ℕ}
 use lib.IntN.{ℤ}
 use lib.ListN.{take}
+use Rattle.std.specs.Prelude.{Ok}
 use Rattle.verdict.specs.Verdict.{accepted}
-use Rattle.page.specs.declared.Writing.{Writing}
-use Rattle.page.specs.declared.Writing.TheVariants as written
-use Rattle.page.specs.Writing.{writing}
+use Rattle.page.specs.Writing.{Writing, writing}
 use Rattle.whole.specs.Digits.{decimal}
 use Rattle.building.specs.declared.Building.{Building}
 use Rattle.book.specs.Answer as book
@@ -80,7 +79,7 @@ SheetRewritten = Always of.aral-rewrite.Post (λ κ a r s. (c : Carried) → rea
 -- each count.
 abbrev pub JobAgain : Type 0
 JobAgain = Always of.write-sheet.Post (λ κ a r s. Always of.read-sheet.Post (λ κ' b q t.
-    (c : Carried) (n : ℕ) → judged a.0 ≡ Accepted c → r ≡ written.Length n → b.0.now ≡ take n s.1.0.now
+    (c : Carried) (n : ℕ) → judged a.0 ≡ Accepted c → r ≡ Ok n → b.0.now ≡ take n s.1.0.now
     → (q ≡ record { verdict = accepted; job = recorded (carried a.0) }) × SameJob a.0 q.job))
 
 -- What is written is the text: a program that writes nothing, or something else, falls.

@@ -3,7 +3,7 @@
 use mathlib.Core.Path.{◌≡◌, refl, sym, ap, subst, ◌∙◌}
 use mathlib.Core.List.{Memᴰ}
 use lib.IntN.{pos}
-use Rattle.page.specs.declared.Writing.{Writing}
+use Rattle.page.specs.Writing.{Writing}
 use Rattle.job.specs.declared.Job.{Job}
 use Rattle.job.specs.Carried.{Carried}
 use Rattle.job.specs.Walk.{Accepted, judged}

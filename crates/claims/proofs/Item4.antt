@@ -6,14 +6,14 @@ use native.Mathlib.Omega.{arith}
 use lib.IntN.{pos, nat_abs}
 use lib.ListN.{length, take, drop}
 use lib.Seq.{take-append_seam}
+use Rattle.std.specs.Prelude.{Ok}
 use Rattle.verdict.specs.declared.Verdict.{Verdict}
 use Rattle.verdict.specs.Verdict.{accepted, refusal, Refuses}
 use Rattle.job.specs.declared.Job.{Job}
 use Rattle.job.specs.Carried.{Carried, carried}
 use Rattle.job.specs.Lines.{lines_of, face_line}
 use Rattle.job.specs.Walk.{Accepted, Refused, judged}
-use Rattle.page.specs.declared.Writing.{Writing}
-use Rattle.page.specs.declared.Writing.TheVariants as written
+use Rattle.page.specs.Writing.{Writing}
 use Rattle.job.proofs.RoundTrip.{judged-carried}
 use Rattle.sheet.proofs.RoundTrip.{written_read}
 use Rattle.sheet.specs.Sheet.{reading, sheet_text, job_writing, job_buffer}
@@ -50,7 +50,7 @@ abbrev pub ReportsAfresh : Type 0
 ReportsAfresh = (w v : Worksheet) → TrueSums w → Session w v
     → Always of.aral-write.Post (λ κ a r s. Always of.aral-show.Post (λ κ' b q t.
     Always of.aral-report.Post (λ κ'' d p u. (n : ℕ) → a.0 ≡ v → b.0 ≡ v
-    → r ≡ host_text (written.Length n) → d.0.now ≡ take n s.1.0.now → b.1.0.now ≡ d.1.0.now
+    → r ≡ host_text (Ok n) → d.0.now ≡ take n s.1.0.now → b.1.0.now ≡ d.1.0.now
     → (q ≡ p) × (t.1.0.now ≡ u.1.0.now))))
 
 -- the job that is held stays an accepted one
@@ -104,7 +104,7 @@ stays-accepted w v c a (edits {u = u} s t) = let k = one-step w u c a s in stays
 
 -- a text that was written with room stands at the start
 at-start : {text before after : List ℕ} {w : Writing} {n : ℕ} → Written text before after w
-    → host_text w ≡ host_text (written.Length n) → take n after ≡ text
+    → host_text w ≡ host_text (Ok n) → take n after ≡ text
 at-start {text} {before} (put h e) q =
     ap₂ take (sym (ap (λ x. x.length) q)) e ∙ take-append_seam text (drop (length text) before)
 at-start (longer h e) q = let seven : ◌≡◌ {A = ℕ} 7 0 = ap (λ x. x.verdict.number) q in absurd (omega arith)
@@ -112,7 +112,7 @@ at-start (longer h e) q = let seven : ◌≡◌ {A = ℕ} 7 0 = ap (λ x. x.verd
 -- what was written, read again
 read-afresh : (v : Worksheet) (d : Carried) → judged v.job ≡ Accepted d
     → (buf : List ℕ) {after s : List ℕ} {r : Text} {n : ℕ} → r ≡ host_text (job_writing sheet_text (judged v.job) buf)
-    → after ≡ job_buffer sheet_text (judged v.job) buf → r ≡ host_text (written.Length n) → s ≡ take n after
+    → after ≡ job_buffer sheet_text (judged v.job) buf → r ≡ host_text (Ok n) → s ≡ take n after
     → reading s ≡ judged v.job
 read-afresh v d a buf p q e same =
     let start = at-start (again.job-written sheet_text a buf (refl, q)) (sym p ∙ e) in

@@ -8,6 +8,7 @@ use lib.IntN.{ℤ, pos, nat_abs, ◌*ℤ◌}
 use lib.Dec.{leb}
 use lib.ListN.{length, take}
 use lib.Signed.{◌≤ℤ◌}
+use Rattle.std.specs.Prelude.{Ok, Err}
 use Rattle.whole.specs.Lists.{Every}
 use Rattle.whole.proofs.Lists.{every-by}
 use Rattle.verdict.specs.Verdict.{refusal}
@@ -35,7 +36,6 @@ use Rattle.worst.proofs.Ranges.{case_total-small}
 use Rattle.report.specs.Report.{report_text}
 use Rattle.report.proofs.Lengths.{report-most}
 use Rattle.answers.specs.Answers.{host_text}
-use Rattle.page.specs.declared.Writing.TheVariants as written
 use Rattle.claims.specs.Contract.{Always}
 use Rattle.claims.proofs.Contracts as of
 use Rattle.claims.proofs.Accepted.{job-in-order, sheet-in-order}
@@ -101,7 +101,7 @@ answered-length : (x : Reading) (buf : List ℕ) → ((c : Carried) → x ≡ Ac
 answered-length (Accepted c) buf h = go (leb (length (report_text c)) (length buf))
   where
     go : (t : Bool)
-        → (host_text (cond t (written.Length (length (report_text c))) (written.Refused (refusal 7 0)))).length ≤ 3084
+        → (host_text (cond t (Ok (length (report_text c))) (Err (refusal 7 0)))).length ≤ 3084
     go true = h c refl
     go false = omega arith
 answered-length (Refused v) buf h = omega arith

@@ -19,8 +19,7 @@ use Rattle.whole.proofs.Order.{≤ℤ-trans}
 use Rattle.whole.proofs.Size.{size-rises, size-grows}
 use Rattle.whole.proofs.Lists.{every-member}
 use Rattle.whole.proofs.ByPlace.{get_d-member}
-use Rattle.page.specs.declared.Writing.{Writing}
-use Rattle.page.specs.Writing.{writing, buffer_after}
+use Rattle.page.specs.Writing.{Writing, writing, buffer_after}
 use Rattle.building.specs.declared.Building.{Building}
 use Rattle.building.specs.Year.{has_heights}
 use Rattle.entry.specs.declared.Wind.{Wind}

@@ -7,6 +7,7 @@ use Prim.Native.Nat.{ℕ, zero, suc}
 use lib.Dec.{leb, eqb}
 use lib.IntN.{ℤ, pos}
 use lib.ListN.{length, take, drop, replicate}
+use Rattle.std.specs.Prelude.{Ok, Err}
 use Rattle.claims.specs.Contract.{RefusedUnchanged, RefusedCleared, IsRefused}
 use Rattle.claims.proofs.Contracts as of
 use Rattle.verdict.specs.declared.Verdict.{Verdict}
@@ -14,9 +15,7 @@ use Rattle.verdict.specs.Verdict.{accepted, refusal, Refuses}
 use Rattle.whole.specs.Lists.{first_of}
 use Rattle.whole.proofs.Tests.{by-test}
 use Rattle.entry.specs.Flat.{flat_faces}
-use Rattle.page.specs.declared.Writing.{Writing}
-use Rattle.page.specs.declared.Writing.TheVariants as written
-use Rattle.page.specs.Writing.{writing, buffer_after}
+use Rattle.page.specs.Writing.{Writing, writing, buffer_after}
 use Rattle.sharing.specs.Column.{column, sharing}
 use Rattle.sharing.proofs.Entries.{column-length}
 use Rattle.whole.specs.Digits.{decimal}
@@ -48,7 +47,7 @@ module _ (text buf : List ℕ) where
   put-kept : IsRefused (writing text buf) → buffer_after text buf ≡ buf
   put-kept = go (leb (length text) (length buf))
     where
-      go : (t : Bool) → IsRefused (cond t (written.Length (length text)) (written.Refused (refusal 7 0)))
+      go : (t : Bool) → IsRefused (cond t (Ok (length text)) (Err (refusal 7 0)))
           → cond t (text ++ drop (length text) buf) buf ≡ buf
       go true h = absurd h
       go false h = refl
@@ -68,8 +67,8 @@ module _ (text : Carried → List ℕ) (x : Reading) (buf : List ℕ) where
 
 -- so too from C, where a refusal is told by its verdict
 host-refused : {t : Text} (w : Writing) → t ≡ host_text w → Refuses t.verdict → IsRefused w
-host-refused (written.Length n) e h = absurd (h (ap (λ x. x.verdict.number) e))
-host-refused (written.Refused v) e h = tt
+host-refused (Ok n) e h = absurd (h (ap (λ x. x.verdict.number) e))
+host-refused (Err v) e h = tt
 
 -- a column of newtons goes into a list of signed numbers
 share-kept : (fs old : List ℤ) {r : Verdict} {after : List ℤ}

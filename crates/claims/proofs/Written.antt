@@ -7,10 +7,9 @@ use native.Mathlib.Omega.{arith}
 use lib.Dec.{leb}
 use lib.ListN.{length, drop}
 use borrow.Author.Tests.{leb-true, leb-false}
+use Rattle.std.specs.Prelude.{Ok, Err}
 use Rattle.verdict.specs.Verdict.{refusal}
-use Rattle.page.specs.declared.Writing.{Writing}
-use Rattle.page.specs.declared.Writing.TheVariants.{Length, Refused}
-use Rattle.page.specs.Writing.{writing, buffer_after}
+use Rattle.page.specs.Writing.{Writing, writing, buffer_after}
 use Rattle.claims.specs.Written.{Written, put, longer}
 
 module _ (text before : List ℕ) where
@@ -19,7 +18,7 @@ module _ (text before : List ℕ) where
     where
       go : (t : Bool) → leb (length text) (length before) ≡ t
           → Written text before (cond t (text ++ drop (length text) before) before)
-          (cond t (Length (length text)) (Refused (refusal 7 0)))
+          (cond t (Ok (length text)) (Err (refusal 7 0)))
       go true e = put (leb-true (length text) (length before) e) refl
       go false e = longer (leb-false (length text) (length before) e) refl
 

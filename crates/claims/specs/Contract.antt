@@ -1,8 +1,7 @@
 -- What is asked of a contract: that it asks nothing of its caller, that it leaves no choice, that a refused call
 -- changes nothing, and what whatever it allows must be.
-use Rattle.std.specs.Prelude.{◌≡◌, List, ℤ, pos, length, replicate}
-use Rattle.page.specs.declared.Writing.{Writing}
-use Rattle.page.specs.declared.Writing.TheVariants.{Length, Refused}
+use Rattle.std.specs.Prelude.{◌≡◌, List, ℤ, pos, length, replicate, Ok, Err}
+use Rattle.page.specs.Writing.{Writing}
 
 -- Asked κ a is what a caller would have to show, as the checker reads it off the source, at the lifetimes κ and the
 -- arguments a
@@ -42,5 +41,5 @@ module _ {L : Type 0} {A R S : L → Type 0} (Post : (κ : L) → A κ → R κ 
       Always (λ κ a r s. refused κ r → after κ s ≡ replicate (length (before κ a)) (pos 0))
 
 abbrev pub IsRefused : Writing → Type 0
-IsRefused (Length n) = ⊥
-IsRefused (Refused v) = Unit
+IsRefused (Ok n) = ⊥
+IsRefused (Err v) = Unit

@@ -3,7 +3,7 @@ use Rattle.std.specs.Prelude.{◌≡◌, ◌⊎◌, ℕ, ◌<◌, ℤ, pos, ◌�
 use mathlib.Core.List.{List, [], ◌∷◌, Memᴰ}
 use Rattle.whole.specs.Lists.{Every}
 use Rattle.whole.specs.Newton.{newton}
-use Rattle.page.specs.declared.Writing.{Writing}
+use Rattle.page.specs.Writing.{Writing}
 use Rattle.entry.specs.declared.Wind.{Wind}
 use Rattle.job.specs.Carried.{Carried, most_faces}
 use Rattle.worst.specs.declared.Side.{Side}

@@ -5,7 +5,7 @@ ghost use Rattle.std.specs.Prelude.{◌≡◌, length};
 ghost use Rattle.page.specs.Writing.{Put, writing, buffer_after};
 ghost use Rattle.whole.specs.Digits.{digits, decimal};
 
-use page::Writing;
+use verdict::Verdict;
 
 // The digits of n, most significant first: those of a tenth of it, and then the last. 20 bytes hold every number.
 fn put_long(text: &mut [u8; 20], n: u64) -> usize
@@ -46,7 +46,7 @@ pub fn put_decimal(buf: &mut [u8], at: usize, z: i64) -> usize
 }
 
 // z in decimal at the start of `buf`.
-pub fn write_decimal(z: i64, buf: &mut [u8]) -> Writing
+pub fn write_decimal(z: i64, buf: &mut [u8]) -> Result<usize, Verdict>
     ensures { (result ≡ writing (decimal z) buf.old)
         × (buf.new ≡ buffer_after (decimal z) buf.old) }
 {

@@ -11,8 +11,7 @@ use lib.ListN.{length, take, drop, set, get_or, length-append, take-append-drop}
 use lib.Seq.{sets, sets-eq, set_out, take_at, take-suc, length-sets}
 use borrow.Author.Tests.{leb-true, leb-false}
 use Rattle.whole.proofs.Tests.{by-test}
-use Rattle.page.specs.declared.Writing.{Writing}
-use Rattle.page.specs.Writing.{Put, writing, buffer_after}
+use Rattle.page.specs.Writing.{Writing, Put, writing, buffer_after}
 
 -- ---- runs of stores
 

@@ -1,13 +1,16 @@
 -- A text put into a lent buffer: what the answer is, and what the buffer then holds.
-use Rattle.std.specs.Prelude.{◌≡◌, ℕ, ◌+◌, min, cond, List, ◌++◌, leb, length, drop}
+use Rattle.std.specs.Prelude.{◌≡◌, ℕ, ◌+◌, min, cond, List, ◌++◌, leb, length, drop, Result, Ok, Err}
 use Rattle.std.proofs.lemmas.List.Edits.{sets}
+use Rattle.verdict.specs.declared.Verdict.{Verdict}
 use Rattle.verdict.specs.Verdict.{refusal}
-use Rattle.page.specs.declared.Writing.{Writing}
-use Rattle.page.specs.declared.Writing.TheVariants.{Length, Refused}
 
--- the text's length; 7 with line 0 exactly if the text is longer than the buffer
+-- the text's length, or a refusal
+abbrev pub Writing : Type 0
+Writing = Result ℕ Verdict
+
+-- 7 with line 0 exactly if the text is longer than the buffer
 abbrev pub writing : List ℕ → List ℕ → Writing
-writing text buf = cond (leb (length text) (length buf)) (Length (length text)) (Refused (refusal 7 0))
+writing text buf = cond (leb (length text) (length buf)) (Ok (length text)) (Err (refusal 7 0))
 
 -- the text (or list) at the start, and what stood after it as it was; where it is refused, all as it was
 abbrev pub buffer_after : {A : Type 0} → List A → List A → List A

@@ -7,13 +7,6 @@ ghost use Rattle.page.specs.Writing.{Put, writing, buffer_after};
 
 use verdict::Verdict;
 
-// What writing comes to: the text's length, or a refusal.
-#[derive(Clone, Copy)]
-pub enum Writing {
-    Length(usize),
-    Refused(Verdict),
-}
-
 fn lesser(a: usize, b: usize) -> usize
     ensures { result ≡ min a b }
 {
@@ -58,13 +51,13 @@ pub fn put_bytes(buf: &mut [u8], at: usize, s: &[u8]) -> usize
 }
 
 // The first n bytes of `text`, or all where it has fewer, at the start of `buf`.
-pub fn emit(text: &[u8], n: usize, buf: &mut [u8]) -> Writing
+pub fn emit(text: &[u8], n: usize, buf: &mut [u8]) -> Result<usize, Verdict>
     ensures { (result ≡ writing (take n text.now) buf.old)
         × (buf.new ≡ buffer_after (take n text.now) buf.old) }
 {
     let size = lesser(n, text.len());
     if buf.len() < size {
-        return Writing::Refused(Verdict { number: 7, line: 0 });
+        return Err(Verdict { number: 7, line: 0 });
     }
-    Writing::Length(put_whole(buf, 0, &text[..size]))
+    Ok(put_whole(buf, 0, &text[..size]))
 }

@@ -6,8 +6,8 @@ use Prim.Native.Nat.{ℕ, ◌<◌}
 use native.Mathlib.Omega.{arith}
 use borrow.Author.Tests.{eq-eqb, ne_eqb}
 use lib.Dec.{leb, eqb}
+use Rattle.std.specs.Prelude.{Err}
 use Rattle.whole.proofs.Tests.{by-test}
-use Rattle.page.specs.declared.Writing.TheVariants as written
 use Rattle.page.specs.Writing.{writing, buffer_after}
 use Rattle.verdict.specs.declared.Verdict.{Verdict}
 use Rattle.verdict.specs.Verdict.{refusal, Refuses}
@@ -76,7 +76,7 @@ module _ (reckon : Reading → Reckoning) (text : Carried → List ℕ)
       let none : eqb (reckon (Refused v)).verdict.number 0 ≡ false =
       ne_eqb (reckon (Refused v)).verdict.number 0
       (λ z. absurd (omega (arith, some, ap (λ (u : Verdict). u.number) (own v), z))) in
-      (rw none (ap written.Refused (own v)), rw none)
+      (rw none (ap Err (own v)), rw none)
   six-written x (accepts c o) buf =
       let zero : eqb (reckon (Accepted c)).verdict.number 0 ≡ true = eq-eqb _ 0 (fine c) in
       (rw zero (ap (λ t. writing t buf) (lines c)), rw zero (ap (λ t. buffer_after t buf) (lines c)))

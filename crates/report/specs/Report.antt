@@ -1,9 +1,7 @@
 -- The report of what a sheet carries, and what the program `totals` writes for a text: the report, or `refused`,
 -- number and line.
-use Rattle.std.specs.Prelude.{ℕ, cond, List, [], ◌∷◌, ◌++◌, eqb}
-use Rattle.page.specs.declared.Writing.{Writing}
-use Rattle.page.specs.declared.Writing.TheVariants as written
-use Rattle.page.specs.Writing.{writing, buffer_after}
+use Rattle.std.specs.Prelude.{ℕ, cond, List, [], ◌∷◌, ◌++◌, eqb, Err}
+use Rattle.page.specs.Writing.{Writing, writing, buffer_after}
 use Rattle.verdict.specs.declared.Verdict.{Verdict}
 use Rattle.job.specs.Carried.{Carried}
 use Rattle.job.specs.Walk.{Reading, Accepted, Refused}
@@ -36,7 +34,7 @@ totals_text (Refused v) = refused_text v
 -- what was reckoned, put into a buffer: a refusal, or its six lines
 abbrev pub six_writing : Reckoning → List ℕ → Writing
 six_writing w buf =
-    cond (eqb w.verdict.number 0) (writing (six_text w.year w.six) buf) (written.Refused w.verdict)
+    cond (eqb w.verdict.number 0) (writing (six_text w.year w.six) buf) (Err w.verdict)
 
 abbrev pub six_buffer : Reckoning → List ℕ → List ℕ
 six_buffer w buf = cond (eqb w.verdict.number 0) (buffer_after (six_text w.year w.six) buf) buf

@@ -10,7 +10,6 @@ ghost use Rattle.report.specs.Report.{report_text, stored_text, totals_text, six
 ghost use Rattle.report.specs.Short.{Own, SixPrintable};
 
 use job::Job;
-use page::Writing;
 use verdict::Verdict;
 use worst::{Reckoning, Stored};
 
@@ -28,26 +27,26 @@ fn write_lent<'a>(
     z_high: &'a [u8; 240],
     z_low: &'a [u8; 240],
     buf: &mut [u8],
-) -> Writing
+) -> Result<usize, Verdict>
     requires { (w.verdict.number ≡ 0 → SixPrintable w)
         × Own w.six x_high.now x_low.now y_high.now y_low.now z_high.now z_low.now }
     ensures { (result ≡ six_writing w buf.old) × (buf.new ≡ six_buffer w buf.old) }
 {
     let v = w.verdict;
     if v.number != 0 {
-        return Writing::Refused(v);
+        return Err(v);
     }
     if six::have_room(buf.len(), w.year, w.six) {
         let n = six::put_six(
             buf, w.year, w.six, x_high, x_low, y_high, y_low, z_high, z_low,
         );
-        return Writing::Length(n);
+        return Ok(n);
     }
-    Writing::Refused(Verdict { number: 7, line: 0 })
+    Err(Verdict { number: 7, line: 0 })
 }
 
 // The same of a record that is at hand.
-fn write_six(w: Reckoning, buf: &mut [u8]) -> Writing
+fn write_six(w: Reckoning, buf: &mut [u8]) -> Result<usize, Verdict>
     requires { w.verdict.number ≡ 0 → SixPrintable w }
     ensures { (result ≡ six_writing w buf.old) × (buf.new ≡ six_buffer w buf.old) }
 {
@@ -64,7 +63,7 @@ fn write_six(w: Reckoning, buf: &mut [u8]) -> Writing
 }
 
 // The report of j at the start of `buf`. None is longer than 3084 bytes.
-pub fn write_report(j: Job, buf: &mut [u8]) -> Writing
+pub fn write_report(j: Job, buf: &mut [u8]) -> Result<usize, Verdict>
     ensures { (result ≡ job_writing report_text (judged j) buf.old)
         × (buf.new ≡ job_buffer report_text (judged j) buf.old) }
 {
@@ -72,7 +71,7 @@ pub fn write_report(j: Job, buf: &mut [u8]) -> Writing
 }
 
 // The same with the six lines that stored sums tell.
-pub fn write_stored(j: Job, stored: Stored, buf: &mut [u8]) -> Writing
+pub fn write_stored(j: Job, stored: Stored, buf: &mut [u8]) -> Result<usize, Verdict>
     ensures { (result ≡ job_writing (stored_text stored) (judged j) buf.old)
         × (buf.new ≡ job_buffer (stored_text stored) (judged j) buf.old) }
 {
@@ -81,7 +80,7 @@ pub fn write_stored(j: Job, stored: Stored, buf: &mut [u8]) -> Writing
 
 // The same by the plain engine, which takes a job with at most 8 faces that have two alternatives, and refuses
 // another with 10.
-pub fn write_plain(j: Job, buf: &mut [u8]) -> Writing
+pub fn write_plain(j: Job, buf: &mut [u8]) -> Result<usize, Verdict>
     ensures { (result ≡ job_writing report_text (plainly (judged j)) buf.old)
         × (buf.new ≡ job_buffer report_text (plainly (judged j)) buf.old) }
 {
@@ -89,7 +88,7 @@ pub fn write_plain(j: Job, buf: &mut [u8]) -> Writing
 }
 
 // The report of the sheet s, of which no record is made.
-pub fn write_read(s: &[u8], buf: &mut [u8]) -> Writing
+pub fn write_read(s: &[u8], buf: &mut [u8]) -> Result<usize, Verdict>
     ensures { (result ≡ job_writing report_text (reading s.now) buf.old)
         × (buf.new ≡ job_buffer report_text (reading s.now) buf.old) }
 {
@@ -107,7 +106,7 @@ pub fn write_read(s: &[u8], buf: &mut [u8]) -> Writing
 }
 
 // What the program `totals` writes for the sheet s: its report, or one line that refuses it.
-pub fn write_totals(s: &[u8], buf: &mut [u8]) -> Writing
+pub fn write_totals(s: &[u8], buf: &mut [u8]) -> Result<usize, Verdict>
     ensures { (result ≡ writing (totals_text (reading s.now)) buf.old)
         × (buf.new ≡ buffer_after (totals_text (reading s.now)) buf.old) }
 {

@@ -3,7 +3,6 @@ ghost use Rattle.std.specs.Prelude.{◌≡◌};
 ghost use Rattle.page.specs.Writing.{Put, writing, buffer_after};
 ghost use Rattle.report.specs.Report.{refused_text};
 
-use page::Writing;
 use verdict::Verdict;
 
 fn put_refused(buf: &mut [u8], v: Verdict) -> usize
@@ -15,7 +14,7 @@ fn put_refused(buf: &mut [u8], v: Verdict) -> usize
     page::put_byte(buf, placed, b'\n')
 }
 
-pub(crate) fn write_refused(v: Verdict, buf: &mut [u8]) -> Writing
+pub(crate) fn write_refused(v: Verdict, buf: &mut [u8]) -> Result<usize, Verdict>
     ensures { (result ≡ writing (refused_text v) buf.old)
         × (buf.new ≡ buffer_after (refused_text v) buf.old) }
 {

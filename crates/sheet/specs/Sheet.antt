@@ -1,11 +1,9 @@
 -- What the text of a sheet says, and the text of a job: from bytes to lines of fields, from there to what the sheet
 -- carries, and the same way back.
-use Rattle.std.specs.Prelude.{ℕ, List}
+use Rattle.std.specs.Prelude.{ℕ, List, Err}
 use Rattle.verdict.specs.Verdict.{accepted}
-use Rattle.page.specs.declared.Writing.{Writing}
-use Rattle.page.specs.declared.Writing.TheVariants as written
 use Rattle.lines.specs.Lines.{lines_in, text_of_lines}
-use Rattle.page.specs.Writing.{writing, buffer_after}
+use Rattle.page.specs.Writing.{Writing, writing, buffer_after}
 use Rattle.job.specs.Carried.{Carried, no_job, recorded}
 use Rattle.job.specs.Lines.{lines_of}
 use Rattle.job.specs.Walk.{Reading, Accepted, Refused, read_lines}
@@ -30,7 +28,7 @@ sheet_text c = text_of_lines (lines_of c)
 -- a text about a job put into a buffer: the job's own refusal first, and then 7
 abbrev pub job_writing : (Carried → List ℕ) → Reading → List ℕ → Writing
 job_writing text (Accepted c) buf = writing (text c) buf
-job_writing text (Refused v) buf = written.Refused v
+job_writing text (Refused v) buf = Err v
 
 abbrev pub job_buffer : (Carried → List ℕ) → Reading → List ℕ → List ℕ
 job_buffer text (Accepted c) buf = buffer_after (text c) buf

@@ -6,11 +6,10 @@ use mathlib.Core.Bool.{Bool, true, false}
 use mathlib.Core.List.{List}
 use native.Mathlib.Omega.{arith}
 use lib.ListN.{length, take}
+use Rattle.std.specs.Prelude.{Err}
 use Rattle.verdict.specs.declared.Verdict.{Verdict}
 use Rattle.verdict.specs.Verdict.{Refuses}
-use Rattle.page.specs.declared.Writing.{Writing}
-use Rattle.page.specs.declared.Writing.TheVariants as written
-use Rattle.page.specs.Writing.{Put, writing, buffer_after}
+use Rattle.page.specs.Writing.{Writing, Put, writing, buffer_after}
 use Rattle.page.proofs.Put.{emitted}
 use Rattle.job.specs.declared.Job.{Job}
 use Rattle.job.specs.Carried.{Carried, carried}
@@ -29,7 +28,7 @@ use Rattle.sheet.proofs.RoundTrip.{written_read}
 
 module _ (j : Job) (v : Verdict) (e : v ≡ verdict (judged j)) where
   pub job-refused : Refuses v → (buf : List ℕ)
-      → (written.Refused v ≡ job_writing sheet_text (judged j) buf)
+      → (Err v ≡ job_writing sheet_text (judged j) buf)
       × (buf ≡ job_buffer sheet_text (judged j) buf)
   job-refused h buf =
       rw (judged-refused j v e h) (refl, refl)

@@ -16,7 +16,6 @@ use entry_written::{building_line, face_line, internal_line, step_line, wind_lin
 use job::judge::judge;
 use job::{Job, entry_count};
 use lines_written::put_line;
-use page::Writing;
 use rules::Section;
 use rules::shape::{count_line, section_at, section_count};
 
@@ -78,13 +77,13 @@ fn put_sheet(buf: &mut [u8], j: Job) -> usize
 }
 
 // The text of j at the start of `buf`; no accepted job has one of more than 8967 bytes.
-pub fn write_sheet(j: Job, buf: &mut [u8]) -> Writing
+pub fn write_sheet(j: Job, buf: &mut [u8]) -> Result<usize, Verdict>
     ensures { (result ≡ job_writing sheet_text (judged j) buf.old)
         × (buf.new ≡ job_buffer sheet_text (judged j) buf.old) }
 {
     let v = judge(j);
     if v.number != 0 {
-        return Writing::Refused(v);
+        return Err(v);
     }
     let mut page = [0u8; 8967];
     let n = put_sheet(&mut page, j);

@@ -1,7 +1,7 @@
 -- No answer is longer than 3084 bytes: a report is not, and a refusal has one digit for its number and few for its
 -- line, which stands among the first 9021 bytes.
 use Rattle.std.proofs.Common.{◌≡◌, ◌≤◌, ◌+◌, ℕ, List, [], ◌∷◌, ◌++◌, length, take, true, arith, sym, ◌∙◌, subst, refl}
-use Rattle.std.specs.Prelude.{eqb}
+use Rattle.std.specs.Prelude.{eqb, Ok, Err}
 use Rattle.std.proofs.Math.Nat.{min-le_left}
 use lib.Dec.{T, leb, leb→le}
 use lib.ListN.{length-append, length-take}
@@ -25,9 +25,7 @@ use Rattle.job.specs.Walk.{Reading, Accepted, Refused, verdict, walk, calls, lea
 use Rattle.job.proofs.InOrder.{accepted-in-order}
 use Rattle.sheet.specs.Sheet.{reading}
 use Rattle.sheet.proofs.Part.{ByLines, none, unended, ended, by_lines, part-decides}
-use Rattle.page.specs.declared.Writing.{Writing}
-use Rattle.page.specs.declared.Writing.TheVariants as written
-use Rattle.page.specs.Writing.{writing}
+use Rattle.page.specs.Writing.{Writing, writing}
 use Rattle.report.specs.Report.{totals_text}
 use Rattle.report.proofs.Lengths.{report-most, refused-most}
 
@@ -111,9 +109,9 @@ answer-short s =
 
 -- so a buffer of that length has room
 pub has-room : (s buf : List ℕ) {w : Writing} (v : Verdict) → 3084 ≤ length buf
-    → w ≡ writing (totals_text (reading s)) buf → w ≡ written.Refused v → ⊥
+    → w ≡ writing (totals_text (reading s)) buf → w ≡ Err v → ⊥
 has-room s buf v h e r =
     let t = totals_text (reading s) in
     let room : leb (length t) (length buf) ≡ true = le-leb (length t) (length buf) (omega (arith, answer-short s, h)) in
-    let told : written.Length (length t) ≡ written.Refused v = sym (rw room at e) ∙ r in
+    let told : Ok (length t) ≡ Err v = sym (rw room at e) ∙ r in
     let z : ◌≡◌ {A = ℕ} 0 1 = cc in omega arith

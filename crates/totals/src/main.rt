@@ -8,7 +8,6 @@ ghost use Rattle.std.specs.Io.KnownBytes.{Consumes, Appends, IsAtEnd};
 ghost use Rattle.sheet.specs.Sheet.{reading};
 ghost use Rattle.report.specs.Report.{totals_text};
 
-use page::Writing;
 use std::io::{self, Read, Write};
 
 // Fills `buf` from its start, until it is full or the input ends, and answers how many bytes of the input it then has.
@@ -34,7 +33,7 @@ fn write_answer(text: &[u8], lines: &mut [u8; 3084]) -> usize
     ensures answer { take result lines.new ≡ totals_text (reading text.now) }
 {
     match report::write_totals(text, lines) {
-        Writing::Length(n) if n <= 3084 => n,
+        Ok(n) if n <= 3084 => n,
         _ => 0,
     }
 }

@@ -6,8 +6,8 @@ use lib.ListN.{length}
 use borrow.Author.Tests.{eq-eqb, ne_eqb, leb-true}
 use mir.Syntax.{w64}
 use mir.Val.{to_z, of_z}
+use Rattle.std.specs.Prelude.{Ok}
 use Rattle.whole.proofs.Size.{returned}
-use Rattle.page.specs.declared.Writing.TheVariants.{Length}
 use Rattle.page.proofs.Put.{put-ends, put-start}
 use Rattle.report.specs.Lines.{six_text}
 use Rattle.report.specs.Short.{Printable, AllSix, SixPrintable, faces_shown}
@@ -54,7 +54,7 @@ returns-then-have_room c =
     let fits = told (goal.at.returns-then-have_room c).After-have_room c.if-have_room.true in
     let p = rw (read (goal.at.returns-then-have_room c).After-struct_told-1) at c.put_six-n.ensures in
     let room = leb-true _ _ fits in
-    rw (eq-eqb a.w.verdict.number 0 c.if-v-ne0.false, fits) (ap Length (put-ends p room), put-start p room)
+    rw (eq-eqb a.w.verdict.number 0 c.if-v-ne0.false, fits) (ap Ok (put-ends p room), put-start p room)
 
 pub returns : goal.returns
 returns c =
