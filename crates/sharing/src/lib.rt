@@ -21,10 +21,8 @@ pub fn share(forces: &[i64], list: &mut [i64]) -> Verdict
         return Verdict { number: 7, line: 0 };
     }
     let missing = missing::missing_newtons(forces);
-    let mut face: usize = 0;
-    while face < forces.len() {
+    for face in 0..forces.len() {
         list[face] = shares::share_of(forces, face, missing);
-        face += 1;
     }
     Verdict { number: 0, line: 0 }
 }

@@ -8,14 +8,12 @@ pub(crate) fn missing_newtons(forces: &[i64]) -> usize
 {
     let mut count: usize = 0;
     let mut past: u64 = 0;
-    let mut i: usize = 0;
-    while i < forces.len() {
-        past += whole::remainder(forces[i]);
+    for &force in forces {
+        past += whole::remainder(force);
         if past >= 20_000_000_000 {
             past -= 20_000_000_000;
             count += 1;
         }
-        i += 1;
     }
     count
 }

@@ -19,12 +19,10 @@ pub(crate) fn how_many_ahead(forces: &[i64], face: usize) -> usize
 {
     let own = whole::remainder(forces[face]);
     let mut n: usize = 0;
-    let mut other: usize = 0;
-    while other < forces.len() {
-        if comes_first(whole::remainder(forces[other]), other, own, face) {
+    for (other, &force) in forces.iter().enumerate() {
+        if comes_first(whole::remainder(force), other, own, face) {
             n += 1;
         }
-        other += 1;
     }
     n
 }

@@ -26,7 +26,7 @@ module _ (c : At-loop-face) where
   room = c.if-list-forces.false
 
   same : length c.loop-face.list ≡ length old
-  same = ap length c.loop-face.invariant.1 ∙ pasted_length fs old room c.loop-face.face c.loop-face.invariant.0
+  same = ap length c.loop-face.invariant ∙ pasted_length fs old room c.loop-face.face c.loop-face.auto.face-end
 
 pub returns-then-list-forces : goal.returns-then-list-forces
 returns-then-list-forces c =
@@ -38,7 +38,7 @@ returns-then-list-forces c =
     (simp s, simp t)
 
 pub loop-face-init : goal.loop-face-init
-loop-face-init c = (omega arith, refl)
+loop-face-init c = refl
 
 pub bounds-list-face : goal.bounds-list-face
 bounds-list-face c =
@@ -48,11 +48,9 @@ bounds-list-face c =
 pub loop-face-preserved : goal.loop-face-preserved
 loop-face-preserved c =
     let d = (goal.at.loop-face-preserved c).At-loop-face in
-    let value = (returned w64 c.share_of.result c.share_of.type_inv).same ∙ c.share_of.ensures in (
-      omega arith,
-      (λ k. set (c.loop-face.invariant.1 k) c.loop-face.face (value k))
-          ∙ pasted-next (fs d) (old d) (room d) c.loop-face.face c.loop-face-test.true,
-    )
+    let value = (returned w64 c.share_of.result c.share_of.type_inv).same ∙ c.share_of.ensures in
+    (λ k. set (c.loop-face.invariant k) c.loop-face.face (value k))
+    ∙ pasted-next (fs d) (old d) (room d) c.loop-face.face c.loop-face-test.true
 
 pub shape_of-list : goal.shape_of-list
 shape_of-list c = same (goal.at.shape_of-list c).At-loop-face
@@ -62,7 +60,7 @@ returns c =
     let d = (goal.at.returns c).At-loop-face in
     let all : c.loop-face.face ≡ length (fs d) = omega arith in (
       simp (le-leb (length (fs d)) (length (old d)) (room d)),
-      c.loop-face.invariant.1
+      c.loop-face.invariant
           ∙ ap (pasted (fs d) (old d)) all
           ∙ pasted-all (fs d) (old d) (room d),
     )

@@ -44,11 +44,11 @@ module _ (c : After-comes_first) where
   few =
       let ns = numbers l.loop-other.other 0 in
       let m = many-few (λ j. is_ahead fs j face) ns in
-      omega (arith, l.loop-other.invariant.1, m, length-numbers l.loop-other.other 0)
+      omega (arith, l.loop-other.invariant, m, length-numbers l.loop-other.other 0)
 
 pub loop-other-init : goal.loop-other-init
 unfolding numbers how_many
-loop-other-init c = (search rules, refl)
+loop-other-init c = refl
 
 pub overflow_add-n : goal.overflow_add-n
 overflow_add-n c = let t = few (goal.at.overflow_add-n c).After-comes_first in omega arith
@@ -61,16 +61,14 @@ loop-other-preserved c =
     elim c.if-comes_first.branch [
       | then-comes_first w ↦ w.n-is ∙ add-one n ∙ sym (ap (λ t. cond t (suc n) n) w.if-comes_first.true)
       | else-comes_first w ↦ w.n-is ∙ sym (ap (λ t. cond t (suc n) n) w.if-comes_first.false)
-    ] in (
-      omega arith,
-      e
-          ∙ (λ k. cond (tested d k) (suc (c.loop-other.invariant.1 k)) (c.loop-other.invariant.1 k))
-          ∙ sym (many-number (λ j. is_ahead (fs d) j (face d)) c.loop-other.other),
-    )
+    ] in
+    e
+    ∙ (λ k. cond (tested d k) (suc (c.loop-other.invariant k)) (c.loop-other.invariant k))
+    ∙ sym (many-number (λ j. is_ahead (fs d) j (face d)) c.loop-other.other)
 
 pub returns : goal.returns
 unfolding ahead
 returns c =
     let s = c.args in
     let all : c.loop-other.other ≡ length s.forces.now = omega arith in
-    c.loop-other.invariant.1 ∙ ap (among s.forces.now s.face) all
+    c.loop-other.invariant ∙ ap (among s.forces.now s.face) all

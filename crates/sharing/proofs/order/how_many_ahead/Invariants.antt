@@ -1,9 +1,8 @@
 -- `order::how_many_ahead` meets its contract: after as many turns as `other`, those of the first so many are counted.
 use mathlib.Core.Path.{◌≡◌}
 use mathlib.Core.List.{List}
-use Prim.Native.Nat.{ℕ, ◌-◌, ◌≤◌}
+use Prim.Native.Nat.{ℕ}
 use lib.IntN.{ℤ}
-use lib.ListN.{length}
 use Rattle.whole.specs.Lists.{numbers, how_many}
 use Rattle.sharing.specs.Column.{is_ahead}
 use Rattle.sharing.proofs.order.how_many_ahead.Given as goal
@@ -13,7 +12,4 @@ abbrev pub among : List ℤ → ℕ → ℕ → ℕ
 among fs i n = how_many (λ j. is_ahead fs j i) (numbers n 0)
 
 abbrev pub invariant-loop-other : goal.invariant-loop-other
-invariant-loop-other l = (l.other ≤ length l.forces) × (l.n ≡ among l.forces l.face l.other)
-
-abbrev pub decreases-loop-other : goal.decreases-loop-other
-decreases-loop-other l = length l.forces - l.other
+invariant-loop-other l = l.n ≡ among l.forces l.face l.other
