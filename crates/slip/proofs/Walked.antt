@@ -26,7 +26,7 @@ use Rattle.job.specs.Walk.{entries, calls, learn, Reading, verdict, walk, openin
 use Rattle.job.proofs.Walk.{walk-on, walk_refused}
 use Rattle.sheet.specs.Sheet.{reading}
 use Rattle.sheet.proofs.OutOfForm.{bad-first, many-held}
-use Rattle.slip.specs.declared.reach.Called.{Called}
+use Rattle.std.specs.Prelude.{Option}
 use Rattle.slip.specs.Slip.{called, read_with, behind, reached_in}
 
 -- ---- a line before the one that is refused
@@ -201,7 +201,7 @@ module _ (s : List ℕ) (n i : ℕ) (refused : (verdict (reading s)).line ≡ su
 
 -- behind all of them
 pub reaches_end : {s : List ℕ} {n : ℕ} {h : Bool} {i : ℕ} {sec : Section} {left begun read : ℕ} {b : Before}
-    {risen : Bool} {next : ℕ} → Reaches s n h i sec left begun read b risen next → n ≤ i → {k : Called}
+    {risen : Bool} {next : ℕ} → Reaches s n h i sec left begun read b risen next → n ≤ i → {k : Option Kind}
     → k ≡ called (calls_for h sec left begun) → record { called = k; before = b; read = read } ≡ reached_in n s
 unfolding behind
 reaches_end {n = n} {i = i} {read = read} r z e =

@@ -1,6 +1,6 @@
 -- Where the first fault of a sheet lies, and what may stand there.
 use Rattle.std.specs.Prelude.{ℕ, zero, suc, ◌+◌, ◌-◌, min, cond, List, [], ◌∷◌, ◌++◌, ltb, eqb, pos, length, get_or}
-use Rattle.std.specs.Prelude.{take, drop}
+use Rattle.std.specs.Prelude.{Option, None, Some, take, drop}
 use Rattle.verdict.specs.declared.Verdict.{Verdict}
 use Rattle.field.specs.declared.Field.{Field}
 use Rattle.lines.specs.Lines.{split, fields_of, lines_in}
@@ -14,8 +14,6 @@ use Rattle.job.specs.Carried.{Carried, nothing, before}
 use Rattle.job.specs.Walk.{calls, learn, verdict, opening, sheet}
 use Rattle.sheet.specs.Sheet.{reading}
 use Rattle.slip.specs.declared.parts.Part.{Part}
-use Rattle.slip.specs.declared.reach.Called.{Called}
-use Rattle.slip.specs.declared.reach.Called.TheVariants.{Nothing, Line}
 use Rattle.slip.specs.declared.reach.Reached.{Reached}
 use Rattle.slip.specs.declared.Slip.{Slip}
 
@@ -40,9 +38,9 @@ bytes_of p s = take (p.to - p.from) (drop p.from s)
 
 -- ---- what was called for
 
-abbrev pub called : List Kind → Called
-called [] = Nothing
-called (k ∷ ks) = Line k
+abbrev pub called : List Kind → Option Kind
+called [] = None
+called (k ∷ ks) = Some k
 
 -- so many entries of a section were read, with this line
 abbrev pub read_with : Kind → ℕ → ℕ
@@ -53,30 +51,30 @@ read_with (Entry s) n = n + 1
 -- were read
 unfoldable pub behind : ℕ → List Kind → Carried → ℕ → List (List Field) → Reached
 behind zero ks c read xs = record { called = called ks; before = before c; read = read }
-behind (suc n) [] c read xs = record { called = Nothing; before = before c; read = read }
-behind (suc n) (k ∷ ks) c read [] = record { called = Line k; before = before c; read = read }
+behind (suc n) [] c read xs = record { called = None; before = before c; read = read }
+behind (suc n) (k ∷ ks) c read [] = record { called = Some k; before = before c; read = read }
 behind (suc n) (k ∷ ks) c read (x ∷ xs) = behind n (calls k x ++ ks) (learn k x c) (read_with k read) xs
 
 abbrev pub reached_in : ℕ → List ℕ → Reached
 reached_in n s = behind n (sheet (opening (lines_in s))) nothing 0 (lines_in s)
 
 -- the letter of its section, and its number there
-abbrev pub section_of : Called → ℕ
-section_of Nothing = 0
-section_of (Line (Count s)) = (about s).letter
-section_of (Line (Entry s)) = (about s).letter
+abbrev pub section_of : Option Kind → ℕ
+section_of None = 0
+section_of (Some (Count s)) = (about s).letter
+section_of (Some (Entry s)) = (about s).letter
 
-abbrev pub entry_of : Called → ℕ → ℕ
-entry_of Nothing read = 0
-entry_of (Line (Count s)) read = 0
-entry_of (Line (Entry s)) read = read + 1
+abbrev pub entry_of : Option Kind → ℕ → ℕ
+entry_of None read = 0
+entry_of (Some (Count s)) read = 0
+entry_of (Some (Entry s)) read = read + 1
 
 -- ---- where the line has its fault
 
 -- a line that was called for, by its bytes
-abbrev pub called_spot : Called → Before → List ℕ → Spot
-called_spot Nothing b l = spot 0
-called_spot (Line k) b l = line_spot k b (fields_of l)
+abbrev pub called_spot : Option Kind → Before → List ℕ → Spot
+called_spot None b l = spot 0
+called_spot (Some k) b l = line_spot k b (fields_of l)
 
 -- a line that no LF ends is at fault as a whole
 unfoldable pub spot_in : Reached → Part → List ℕ → Spot

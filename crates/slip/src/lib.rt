@@ -9,7 +9,7 @@ ghost use Rattle.slip.specs.Slip.{bytes_of, section_of, entry_of, spot_in, no_sl
 
 use crate::form::first_out;
 use crate::parts::{Part, bytes_at, part_of};
-use crate::reach::{Called, Reached, reach};
+use crate::reach::{Reached, reach};
 use building::Spot;
 use building::spots::ranged;
 use building::year::has_heights;
@@ -41,28 +41,22 @@ pub struct Slip {
     pub greatest: i64,
 }
 
-fn section_of(called: Called) -> u8
+fn section_of(called: Option<Kind>) -> u8
     ensures { result ≡ section_of called }
 {
     match called {
-        Called::Nothing => 0,
-        Called::Line(k) => match k {
-            Kind::Count(s) => section_letter(s),
-            Kind::Entry(s) => section_letter(s),
-        },
+        None => 0,
+        Some(Kind::Count(s) | Kind::Entry(s)) => section_letter(s),
     }
 }
 
-fn entry_of(called: Called, read: u32) -> u32
+fn entry_of(called: Option<Kind>, read: u32) -> u32
     requires { read < 4294967295 }
     ensures { result ≡ entry_of called read }
 {
     match called {
-        Called::Nothing => 0,
-        Called::Line(k) => match k {
-            Kind::Count(_) => 0,
-            Kind::Entry(_) => read + 1,
-        },
+        Some(Kind::Entry(_)) => read + 1,
+        _ => 0,
     }
 }
 
@@ -88,10 +82,9 @@ fn spot_in(at: Reached, s: &[u8], line: Part) -> Spot
     if line.to == s.len() {
         return ranged(0, 0, 0);
     }
-    let called = at.called;
-    match called {
-        Called::Nothing => ranged(0, 0, 0),
-        Called::Line(k) => line_spot(k, at.before, s, line),
+    match at.called {
+        None => ranged(0, 0, 0),
+        Some(k) => line_spot(k, at.before, s, line),
     }
 }
 
@@ -121,12 +114,11 @@ fn slip_on(v: Verdict, at: Reached, line: Part, s: &[u8]) -> Slip
     let from = line.from;
     let to = line.to;
     let bytes = bytes_at(p.field, line, &s[from..to]);
-    let called = at.called;
     Slip {
         number: v.number,
         line: v.line,
-        section: section_of(called),
-        entry: entry_of(called, at.read),
+        section: section_of(at.called),
+        entry: entry_of(at.called, at.read),
         field: p.field,
         from: bytes.from,
         to: bytes.to,

@@ -19,18 +19,11 @@ use lines::{Line, field_at, line_at};
 use rules::shape::{section_at, section_count};
 use rules::{Before, Kind, Section};
 
-// The line that is called for, if one is.
-#[derive(Clone, Copy)]
-pub enum Called {
-    Nothing,
-    Line(Kind),
-}
-
-// Behind some lines of a sheet: the line that is called for, what it is judged by, and how many entries of its section
+// Behind some lines of a sheet: the line that is called for, if one is, what it is judged by, and how many entries of its section
 // were read.
 #[derive(Clone, Copy)]
 pub struct Reached {
-    pub called: Called,
+    pub called: Option<Kind>,
     pub before: Before,
     pub read: u32,
 }
@@ -77,22 +70,31 @@ fn learned(sec: Section, b: Before, risen: bool, x: Line) -> Before
     ensures { (c : Carried) → b ≡ job.before c → risen ≡ ltb 0 (length c.profile)
         → result ≡ job.before (learn (Kind.Entry sec) (held x) c) }
 {
-    let mut next = b;
     match sec {
-        Section::V => next.year = says::year_of(x),
-        Section::B => next.building = says::building_of(x),
-        Section::W => (),
-        Section::I => (),
+        Section::V => Before {
+            year: says::year_of(x),
+            ..b
+        },
+        Section::B => Before {
+            building: says::building_of(x),
+            ..b
+        },
         Section::P => {
             let t = says::step_of(x);
-            next.highest = t.height;
-            if !risen {
-                next.lowest = t.height;
+            if risen {
+                return Before {
+                    highest: t.height,
+                    ..b
+                };
+            }
+            Before {
+                lowest: t.height,
+                highest: t.height,
+                ..b
             }
         }
-        Section::F => (),
+        Section::W | Section::I | Section::F => b,
     }
-    next
 }
 
 // Whether an entry of the section is a step of the profile, or one was read before.
@@ -100,27 +102,20 @@ fn rises(sec: Section, risen: bool) -> bool
     ensures { (c : Carried) (fs : List Field) → risen ≡ ltb 0 (length c.profile)
         → result ≡ ltb 0 (length (learn (Kind.Entry sec) fs c).profile) }
 {
-    match sec {
-        Section::V => risen,
-        Section::B => risen,
-        Section::W => risen,
-        Section::I => risen,
-        Section::P => true,
-        Section::F => risen,
-    }
+    risen || matches!(sec, Section::P)
 }
 
 // With so many entries of a section left, and then the sections after the first `begun`.
-fn called_for(heights: bool, sec: Section, left: u32, begun: usize) -> Called
+fn called_for(heights: bool, sec: Section, left: u32, begun: usize) -> Option<Kind>
     ensures { result ≡ called (entries sec left ++ map Kind.Count (drop begun (sections heights))) }
 {
     if left != 0 {
-        return Called::Line(Kind::Entry(sec));
+        return Some(Kind::Entry(sec));
     }
     if begun < section_count(heights) {
-        return Called::Line(Kind::Count(section_at(heights, begun)));
+        return Some(Kind::Count(section_at(heights, begun)));
     }
-    Called::Nothing
+    None
 }
 
 // Behind the first n lines, where the line after them is the first at fault.

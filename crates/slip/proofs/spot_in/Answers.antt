@@ -30,12 +30,12 @@ returns-then-line-s c =
 pub line_spot-requires : goal.line_spot-requires
 line_spot-requires c = (c.requires.0, ended (goal.at.line_spot-requires c).Else-line-s)
 
-pub returns-in-Nothing : goal.returns-in-Nothing
+pub returns-in-None : goal.returns-in-None
 unfolding spot_in
-returns-in-Nothing c =
-    rw (ends (goal.at.returns-in-Nothing c).Else-line-s, c.in-Nothing.is) c.ranged-in-Nothing.ensures
+returns-in-None c =
+    rw (ends (goal.at.returns-in-None c).Else-line-s, c.in-None.is) c.ranged-in-None.ensures
 
-pub returns-in-Line : goal.returns-in-Line
+pub returns-in-Some : goal.returns-in-Some
 unfolding spot_in
-returns-in-Line c =
-    rw (ends (goal.at.returns-in-Line c).Else-line-s, c.in-Line.is) c.line_spot.ensures
+returns-in-Some c =
+    rw (ends (goal.at.returns-in-Some c).Else-line-s, c.in-Some.is) c.line_spot.ensures

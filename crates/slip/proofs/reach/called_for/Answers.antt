@@ -11,12 +11,12 @@ use Rattle.rules.specs.declared.Kind.{Kind}
 use Rattle.rules.specs.declared.Kind.TheVariants.{Count, Entry}
 use Rattle.rules.specs.Sections.{sections}
 use Rattle.job.specs.Walk.{entries}
-use Rattle.slip.specs.declared.reach.Called.TheVariants.{Line}
+use Rattle.std.specs.Prelude.{Some}
 use Rattle.slip.specs.Slip.{called}
 use Rattle.slip.proofs.reach.called_for.Goals as goal
 
 some_left : (sec : Section) (left : ℕ) (ks : List Kind) → (left ≡ 0 → ⊥)
-    → Line (Entry sec) ≡ called (entries sec left ++ ks)
+    → Some (Entry sec) ≡ called (entries sec left ++ ks)
 some_left sec zero ks h = absurd (h refl)
 some_left sec (suc n) ks h = refl
 
@@ -34,7 +34,7 @@ returns-then-begun-section_count c =
       c.if-begun-section_count.true,
     ) in
     rw (c.if-left-ne0.false, drop-cons (sections a.heights) a.begun «V» few)
-    (ap (λ (s : Section). Line (Count s)) c.section_at.ensures)
+    (ap (λ (s : Section). Some (Count s)) c.section_at.ensures)
 
 pub returns : goal.returns
 returns c =

@@ -1,5 +1,5 @@
 -- `reach::reach`: line by line, what is called for behind them.
-use Prim.Native.Nat.{◌-◌, ◌<◌}
+use Prim.Native.Nat.{◌<◌}
 use mathlib.Core.Path.{ap, ◌∙◌}
 use native.Mathlib.Omega.{arith}
 use Rattle.entry.specs.Says.{size}
