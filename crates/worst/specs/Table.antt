@@ -1,13 +1,15 @@
 -- The engine's table of outside coefficients: a place for each direction and zone, filled when a face first asks.
 -- Only contracts of private functions cite it.
-use Rattle.std.specs.Prelude.{◌≡◌, Bool, true, false, List, length, get_or}
+use Rattle.std.specs.Prelude.{◌≡◌, Option, None, Some, List, length, get_or}
 use Rattle.std.specs.Prelude.{ℕ, ℤ, pos, nat_abs, ◌+◌, ◌-◌, ◌*◌, ◌/◌, ◌%◌, ◌≤◌}
 use Rattle.building.specs.declared.Building.{Building}
 use Rattle.building.specs.Year.{last_year}
 use Rattle.building.specs.Places.{A, E, H}
+use Rattle.book.specs.declared.Ends.{Ends}
 use Rattle.book.specs.Answer.{values_of}
 use Rattle.book.specs.Question.{outside_of}
 use Rattle.worst.specs.declared.outside.Outside.{Outside}
+use Rattle.worst.specs.declared.outside.Table.{Table}
 
 -- the first and the last of a zone's outside coefficients, which are one where it has one
 abbrev pub first_and_last : List ℤ → Outside
@@ -38,18 +40,18 @@ direction_at k = pos (k / 8 * 45)
 abbrev pub zone_at : ℕ → ℕ
 zone_at k = A + k % 8
 
--- what stands at a place, and that it is right
-abbrev pub standing : List ℤ → List ℤ → ℕ → Outside
-standing first last k = record { first = get_or first k (pos 0); last = get_or last k (pos 0) }
+-- what a zone has, as the table keeps it
+abbrev pub ends_kept : Ends → Outside
+ends_kept o = record { first = o.first; last = o.last }
 
-abbrev pub Stands : Building → List ℤ → List ℤ → ℕ → Type 0
-Stands b first last k = standing first last k ≡ outside_at b (direction_at k) (zone_at k)
+-- at a place stands what it is for
+abbrev pub Stands : Building → Table → ℕ → Type 0
+Stands b t k = get_or t.place k None ≡ Some (outside_at b (direction_at k) (zone_at k))
 
--- at the places stands what was asked for
-pub record Filled (b : Building) (asked : List Bool) (first last : List ℤ) : Type 0 where
-  pub firsts : length first ≡ places
-  pub lasts : length last ≡ places
-  pub stand : (k : ℕ) → get_or asked k false ≡ true → Stands b first last k
+-- what stands in the table is right
+pub record Filled (b : Building) (t : Table) : Type 0 where
+  pub all : length t.place ≡ places
+  pub right : (k : ℕ) (o : Outside) → get_or t.place k None ≡ Some o → Stands b t k
 
 -- the four zones of a half are looked up at once: those of the walls begin at A, and those of the roof at E
 pub data Begins (zone : ℕ) : Type 0 where

@@ -14,7 +14,7 @@ ghost use Rattle.worst.specs.Table.{Filled};
 ghost use Rattle.worst.specs.Factors.{profile_of, Fraction, FactorsStand, Fractions};
 
 use crate::faces::{face_in, zone_in};
-use crate::outside::{Outside, takes_part};
+use crate::outside::{Outside, Table, takes_part};
 use crate::speeds::{Factor, factor_in};
 use crate::sums::pressure_of;
 use crate::tops::{Ends, Top, falls_short};
@@ -198,15 +198,13 @@ pub(crate) fn shown(
     ends: Ends,
     parts: &[i64],
     wholes: &[i64],
-    asked: &mut [bool; 40],
-    first: &mut [i64; 40],
-    last: &mut [i64; 40],
+    table: &mut Table,
 ) -> Six
     requires { Lent faces flat.now parts.now wholes.now × Ready (job_by s faces flat.now)
         × Fractions (faces_by faces flat.now) parts.now wholes.now
         × FactorsStand (profile_of (job_by s faces flat.now)) (faces_by faces flat.now) parts.now wholes.now
         × ((axis : Axis) (side : Side) → OnJob (job_by s faces flat.now) (top_at axis side ends))
-        × Filled s.building asked.old first.old last.old }
+        × Filled s.building table.old }
     ensures { result ≡ six_of (job_by s faces flat.now) ends }
 {
     let count = faces as usize;
@@ -215,7 +213,7 @@ pub(crate) fn shown(
         let all = firsts(count);
         return six_cases(ends, faces, all, all, all, all, all, all);
     }
-    let under = six_winds(s.building, s.winds, ends, asked, first, last);
+    let under = six_winds(s.building, s.winds, ends, table);
     let mut x_high = [0u8; 240];
     let mut x_low = [0u8; 240];
     let mut y_high = [0u8; 240];

@@ -21,6 +21,7 @@ use crate::few::few_added;
 use crate::few_tops::{no_few_ends, settled_ends, with_few_sums};
 use crate::furthest::{over_internals, over_winds};
 use crate::inside::insides_of;
+use crate::outside::Table;
 use crate::speeds::fill;
 use crate::sums::added;
 use crate::tops::{Ends, no_ends};
@@ -34,13 +35,11 @@ fn all_cells(
     flat: &[i64],
     parts: &[i64],
     wholes: &[i64],
-    asked: &mut [bool; 40],
-    first: &mut [i64; 40],
-    last: &mut [i64; 40],
+    table: &mut Table,
 ) -> Stored
     requires { Lent faces flat.now parts.now wholes.now × InOrder (carried (job_by s faces flat.now))
         × FactorsStand (profile_of (job_by s faces flat.now)) (faces_by faces flat.now) parts.now wholes.now
-        × Filled s.building asked.old first.old last.old }
+        × Filled s.building table.old }
     ensures { result ≡ stored_of (carried (job_by s faces flat.now)) }
 {
     let b = s.building;
@@ -51,7 +50,7 @@ fn all_cells(
     let mut w = 0;
     while w < count {
         let wind = winds.entry[w];
-        let sums = added(b, faces, flat, parts, wholes, wind, asked, first, last);
+        let sums = added(b, faces, flat, parts, wholes, wind, table);
         let four = of_wind(sums, internals);
         let one = four.cell[0];
         let two = four.cell[1];
@@ -74,17 +73,15 @@ fn best_cells(
     flat: &[i64],
     parts: &[i64],
     wholes: &[i64],
-    asked: &mut [bool; 40],
-    first: &mut [i64; 40],
-    last: &mut [i64; 40],
+    table: &mut Table,
 ) -> Ends
     requires { Lent faces flat.now parts.now wholes.now × InOrder (carried (job_by s faces flat.now))
         × FactorsStand (profile_of (job_by s faces flat.now)) (faces_by faces flat.now) parts.now wholes.now
-        × Filled s.building asked.old first.old last.old }
+        × Filled s.building table.old }
     ensures { ((axis : Axis) (side : Side) → top_of (top_at axis side result)
         ≡ best_up_to axis side (stored_of (carried (job_by s faces flat.now))) s.internals.count
         s.winds.count)
-        × ProperEnds result × Filled s.building asked.new first.new last.new }
+        × ProperEnds result × Filled s.building table.new }
 {
     let b = s.building;
     let winds = s.winds;
@@ -94,7 +91,7 @@ fn best_cells(
     let mut w: u32 = 0;
     while w < count {
         let wind = winds.entry[w as usize];
-        let sums = added(b, faces, flat, parts, wholes, wind, asked, first, last);
+        let sums = added(b, faces, flat, parts, wholes, wind, table);
         let four = of_wind(sums, internals);
         w += 1;
         ends = over_internals(ends, four, internals.count as usize, w);
@@ -109,18 +106,16 @@ fn few_best(
     flat: &[i64],
     parts: &[i64],
     wholes: &[i64],
-    asked: &mut [bool; 40],
-    first: &mut [i64; 40],
-    last: &mut [i64; 40],
+    table: &mut Table,
 ) -> Ends
     requires { (faces ≤ 24) × Lent faces flat.now parts.now wholes.now
         × InOrder (carried (job_by s faces flat.now))
         × FactorsStand (profile_of (job_by s faces flat.now)) (faces_by faces flat.now) parts.now wholes.now
-        × Filled s.building asked.old first.old last.old }
+        × Filled s.building table.old }
     ensures { ((axis : Axis) (side : Side) → top_of (top_at axis side result)
         ≡ best_up_to axis side (stored_of (carried (job_by s faces flat.now))) s.internals.count
         s.winds.count)
-        × ProperEnds result × Filled s.building asked.new first.new last.new }
+        × ProperEnds result × Filled s.building table.new }
 {
     let b = s.building;
     let winds = s.winds;
@@ -131,7 +126,7 @@ fn few_best(
     let mut w: u32 = 0;
     while w < count {
         let wind = winds.entry[w as usize];
-        let few = few_added(b, flat, parts, wholes, 0, to, wind, asked, first, last);
+        let few = few_added(b, flat, parts, wholes, 0, to, wind, table);
         w += 1;
         ends = with_few_sums(ends, few, insides, w);
     }
@@ -145,22 +140,20 @@ fn best(
     flat: &[i64],
     parts: &[i64],
     wholes: &[i64],
-    asked: &mut [bool; 40],
-    first: &mut [i64; 40],
-    last: &mut [i64; 40],
+    table: &mut Table,
 ) -> Ends
     requires { Lent faces flat.now parts.now wholes.now × InOrder (carried (job_by s faces flat.now))
         × FactorsStand (profile_of (job_by s faces flat.now)) (faces_by faces flat.now) parts.now wholes.now
-        × Filled s.building asked.old first.old last.old }
+        × Filled s.building table.old }
     ensures { ((axis : Axis) (side : Side) → top_of (top_at axis side result)
         ≡ best_up_to axis side (stored_of (carried (job_by s faces flat.now))) s.internals.count
         s.winds.count)
-        × ProperEnds result × Filled s.building asked.new first.new last.new }
+        × ProperEnds result × Filled s.building table.new }
 {
     if faces <= 24 {
-        return few_best(s, faces, flat, parts, wholes, asked, first, last);
+        return few_best(s, faces, flat, parts, wholes, table);
     }
-    best_cells(s, faces, flat, parts, wholes, asked, first, last)
+    best_cells(s, faces, flat, parts, wholes, table)
 }
 
 // The sums of a job that is in order.
@@ -171,12 +164,8 @@ pub(crate) fn sums_of(s: Setting, faces: u32, flat: &[i64]) -> Stored
     let mut parts = [1i64; 240];
     let mut wholes = [1i64; 240];
     fill(s, faces, flat, &mut parts, &mut wholes);
-    let mut asked = [false; 40];
-    let mut first = [0i64; 40];
-    let mut last = [0i64; 40];
-    all_cells(
-        s, faces, flat, &parts, &wholes, &mut asked, &mut first, &mut last,
-    )
+    let mut table = Table::new();
+    all_cells(s, faces, flat, &parts, &wholes, &mut table)
 }
 
 // The six extremes that stored sums tell of such a job.
@@ -188,12 +177,8 @@ pub(crate) fn six_by(s: Setting, faces: u32, flat: &[i64], stored: Stored) -> Si
     let mut parts = [1i64; 240];
     let mut wholes = [1i64; 240];
     fill(s, faces, flat, &mut parts, &mut wholes);
-    let mut asked = [false; 40];
-    let mut first = [0i64; 40];
-    let mut last = [0i64; 40];
-    shown(
-        s, faces, flat, ends, &parts, &wholes, &mut asked, &mut first, &mut last,
-    )
+    let mut table = Table::new();
+    shown(s, faces, flat, ends, &parts, &wholes, &mut table)
 }
 
 // And its own, with two lists that hold 1 / 1 throughout.
@@ -203,15 +188,9 @@ fn own_six(s: Setting, faces: u32, flat: &[i64], parts: &mut [i64], wholes: &mut
     ensures { result ≡ six_extremes (carried (job_by s faces flat.now)) }
 {
     fill(s, faces, flat, parts, wholes);
-    let mut asked = [false; 40];
-    let mut first = [0i64; 40];
-    let mut last = [0i64; 40];
-    let ends = best(
-        s, faces, flat, parts, wholes, &mut asked, &mut first, &mut last,
-    );
-    shown(
-        s, faces, flat, ends, parts, wholes, &mut asked, &mut first, &mut last,
-    )
+    let mut table = Table::new();
+    let ends = best(s, faces, flat, parts, wholes, &mut table);
+    shown(s, faces, flat, ends, parts, wholes, &mut table)
 }
 
 // Few faces need less room, and take less: this is the way of nearly every report, by itself so that no record is
@@ -223,15 +202,9 @@ pub(crate) fn few_six(s: Setting, faces: u32, flat: &[i64]) -> Six
     let mut parts = [1i64; 24];
     let mut wholes = [1i64; 24];
     fill(s, faces, flat, &mut parts, &mut wholes);
-    let mut asked = [false; 40];
-    let mut first = [0i64; 40];
-    let mut last = [0i64; 40];
-    let ends = few_best(
-        s, faces, flat, &parts, &wholes, &mut asked, &mut first, &mut last,
-    );
-    shown(
-        s, faces, flat, ends, &parts, &wholes, &mut asked, &mut first, &mut last,
-    )
+    let mut table = Table::new();
+    let ends = few_best(s, faces, flat, &parts, &wholes, &mut table);
+    shown(s, faces, flat, ends, &parts, &wholes, &mut table)
 }
 
 pub(crate) fn six_of(s: Setting, faces: u32, flat: &[i64]) -> Six

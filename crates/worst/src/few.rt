@@ -16,7 +16,7 @@ ghost use Rattle.worst.specs.Factors.{Fraction, FactorsStand, Fractions};
 
 use crate::Side;
 use crate::faces::face_in;
-use crate::outside::{Outside, found, takes_part};
+use crate::outside::{Outside, Table, takes_part};
 use crate::speeds::{Factor, factor_in};
 use crate::sums::pressure_of;
 use crate::tops::falls_short;
@@ -86,17 +86,15 @@ fn with_face(
     w: Wind,
     factor: Factor,
     f: Face,
-    asked: &mut [bool; 40],
-    first: &mut [i64; 40],
-    last: &mut [i64; 40],
+    table: &mut Table,
 ) -> FewSums
-    requires { FewSmall 23 sums × Met b w f × Fraction factor × Filled b asked.old first.old last.old }
+    requires { FewSmall 23 sums × Met b w f × Fraction factor × Filled b table.old }
     ensures { (few_axes result ≡ with_face b w factor f (few_axes sums))
         × ((n : ℕ) → FewSmall n sums → FewSmall (n + 1) result)
-        × Filled b asked.new first.new last.new }
+        × Filled b table.new }
 {
     if takes_part(f, w) {
-        let o = found(b, w, f.zone, asked, first, last);
+        let o = table.found(b, w, f.zone);
         let p = pressure_of(b, w, factor);
         return with_pressure(sums, f, o, p);
     }
@@ -128,26 +126,24 @@ pub(crate) fn few_added(
     from: usize,
     to: usize,
     w: Wind,
-    asked: &mut [bool; 40],
-    first: &mut [i64; 40],
-    last: &mut [i64; 40],
+    table: &mut Table,
 ) -> FewSums
     requires { Lent to flat.now parts.now wholes.now × (from ≤ to) × (to ≤ from + 24)
         × AllMet b (faces_by to flat.now) w × Fractions (faces_by to flat.now) parts.now wholes.now
-        × Filled b asked.old first.old last.old }
+        × Filled b table.old }
     ensures { FewSmall (to - from) result
         × ((profile : List Step)
         → FactorsStand profile (faces_by to flat.now) parts.now wholes.now
         → plus_axes (axes_of b profile w (first_of no_face from (faces_in to flat.now))) (few_axes result)
         ≡ axes_of b profile w (faces_of (faces_by to flat.now)))
-        × Filled b asked.new first.new last.new }
+        × Filled b table.new }
 {
     let mut sums = none();
     let mut i = from;
     while i < to {
         let f = face_in(flat, i);
         let factor = factor_in(parts, wholes, i);
-        sums = with_face(sums, b, w, factor, f, asked, first, last);
+        sums = with_face(sums, b, w, factor, f, table);
         i += 1;
     }
     sums

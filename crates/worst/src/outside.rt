@@ -1,10 +1,11 @@
 // The outside coefficients. Those of a direction and the zones of the walls, or of the roof, are looked up when a face
-// first asks for one of them, and then stand in a table: the first and the last, at the place of the direction and the
-// zone.
-ghost use Rattle.std.specs.Prelude.{◌≡◌, true, ℕ, ◌+◌, ◌<◌, pos, set};
+// first asks for one of them, and then stand in a table, at the place of the direction and the zone.
+ghost use Rattle.std.specs.Prelude.{◌≡◌, ℕ, Some, ◌+◌, ◌<◌, ◌≤◌, pos, set};
+ghost use Rattle.building.specs.declared.Building.{Building};
+ghost use Rattle.building.specs.Places.{A, H};
 ghost use Rattle.building.specs.Year.{last_year};
 ghost use Rattle.book.specs.Zones.{four_from};
-ghost use Rattle.worst.specs.Table.{outside_at, places, place_of, Placed, Stands, Filled, Begins};
+ghost use Rattle.worst.specs.Table.{outside_at, places, place_of, Placed, ends_kept, Stands, Filled, Begins};
 ghost use Rattle.worst.specs.Forces.{acts};
 
 use book::{Ends, Four};
@@ -17,6 +18,12 @@ use entry::{BOTH, Face, Wind};
 pub struct Outside {
     pub first: i64,
     pub last: i64,
+}
+
+// Those of one building that were asked for, each at its place.
+#[derive(Clone, Copy)]
+pub(crate) struct Table {
+    place: [Option<Outside>; 40],
 }
 
 // Whether a face takes part under a wind.
@@ -49,74 +56,65 @@ fn looked_up(d: Dated, direction: i64, from: u8) -> Four
     book::roof_zones(d, direction)
 }
 
-fn keep(o: Ends, k: usize, asked: &mut [bool; 40], first: &mut [i64; 40], last: &mut [i64; 40])
-    requires { k < places }
-    ensures { (asked.new ≡ set asked.old k true)
-        × (first.new ≡ set first.old k o.first)
-        × (last.new ≡ set last.old k o.last) }
+// Where the four zones begin, of the walls or of the roof, of which a zone is one.
+fn half_of(zone: u8) -> u8
+    requires { (A ≤ zone) × (zone ≤ H) }
+    ensures { Begins result × (A ≤ result) × (result ≤ zone) × (zone < result + 4) }
 {
-    let v = o.first as i64;
-    let u = o.last as i64;
-    asked[k] = true;
-    first[k] = v;
-    last[k] = u;
-}
-
-// The four zones of the walls or of the roof, which stand in the table from then on.
-fn fill(
-    d: Dated,
-    direction: i64,
-    from: u8,
-    asked: &mut [bool; 40],
-    first: &mut [i64; 40],
-    last: &mut [i64; 40],
-)
-    requires { (d.year ≡ pos last_year) × Begins from × Placed direction from
-        × Filled d.building asked.old first.old last.old }
-    ensures { Filled d.building asked.new first.new last.new
-        × ((j : ℕ) → j < 4 → Stands d.building first.new last.new
-        (place_of direction from + j)) }
-{
-    let four = looked_up(d, direction, from);
-    let k = place_of(direction, from);
-    keep(four.first, k, asked, first, last);
-    keep(four.second, k + 1, asked, first, last);
-    keep(four.third, k + 2, asked, first, last);
-    keep(four.fourth, k + 3, asked, first, last);
-}
-
-// The coefficients of a zone under a wind, which stand in the table from then on.
-pub(crate) fn found(
-    b: Building,
-    w: Wind,
-    zone: u8,
-    asked: &mut [bool; 40],
-    first: &mut [i64; 40],
-    last: &mut [i64; 40],
-) -> Outside
-    requires { Placed w.direction zone × Filled b asked.old first.old last.old }
-    ensures { (result ≡ outside_at b w.direction zone)
-        × Filled b asked.new first.new last.new }
-{
-    let k = place_of(w.direction, zone);
-    if asked[k] {
-        let v = first[k];
-        let u = last[k];
-        return Outside { first: v, last: u };
-    }
-    // The year does not change what a building in order has: each is asked for by the last year's reading.
-    let d = Dated {
-        year: LAST_YEAR,
-        building: b,
-    };
     if zone <= b'D' {
-        fill(d, w.direction, b'A', asked, first, last);
-        let v = first[k];
-        let u = last[k];
-        return Outside { first: v, last: u };
+        return b'A';
     }
-    fill(d, w.direction, b'E', asked, first, last);
-    let v = first[k];
-    let u = last[k];
-    Outside { first: v, last: u }
+    b'E'
+}
+
+impl Table {
+    // One in which nothing stands yet.
+    pub(crate) fn new() -> Table
+        ensures { (b : Building) → Filled b result }
+    {
+        Table { place: [None; 40] }
+    }
+
+    fn keep(&mut self, o: Ends, k: usize)
+        requires { k < places }
+        ensures { self.new.place ≡ set self.old.place k (Some (ends_kept o)) }
+    {
+        let kept = Outside {
+            first: o.first as i64,
+            last: o.last as i64,
+        };
+        self.place[k] = Some(kept);
+    }
+
+    // The four zones of the walls or of the roof, which stand in the table from then on.
+    fn fill(&mut self, d: Dated, direction: i64, from: u8)
+        requires { (d.year ≡ pos last_year) × Begins from × Placed direction from × Filled d.building self.old }
+        ensures { Filled d.building self.new
+            × ((j : ℕ) → j < 4 → Stands d.building self.new (place_of direction from + j)) }
+    {
+        let four = looked_up(d, direction, from);
+        let k = place_of(direction, from);
+        self.keep(four.first, k);
+        self.keep(four.second, k + 1);
+        self.keep(four.third, k + 2);
+        self.keep(four.fourth, k + 3);
+    }
+
+    // The coefficients of a zone under a wind, which stand in the table from then on.
+    pub(crate) fn found(&mut self, b: Building, w: Wind, zone: u8) -> Outside
+        requires { Placed w.direction zone × Filled b self.old }
+        ensures { (result ≡ outside_at b w.direction zone) × Filled b self.new }
+    {
+        let k = place_of(w.direction, zone);
+        if let Some(o) = self.place[k] {
+            return o;
+        }
+        // The year does not change what a building in order has: each is asked for by the last year's reading.
+        let d = Dated {
+            year: LAST_YEAR,
+            building: b,
+        };
+        self.fill(d, w.direction, half_of(zone));
+        self.place[k].unwrap()
+    }
 }

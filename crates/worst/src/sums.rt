@@ -14,6 +14,7 @@ ghost use Rattle.worst.specs.Factors.{Fraction, FactorsStand, Fractions};
 
 use crate::amounts::{Amount, plus};
 use crate::few::{FewAxis, FewSums, few_added};
+use crate::outside::Table;
 use crate::speeds::{Factor, speed_at};
 use building::Building;
 use entry::Wind;
@@ -106,25 +107,23 @@ pub(crate) fn added(
     parts: &[i64],
     wholes: &[i64],
     w: Wind,
-    asked: &mut [bool; 40],
-    first: &mut [i64; 40],
-    last: &mut [i64; 40],
+    table: &mut Table,
 ) -> AllSums
     requires { Lent faces flat.now parts.now wholes.now × AllMet b (faces_by faces flat.now) w
         × Fractions (faces_by faces flat.now) parts.now wholes.now
-        × Filled b asked.old first.old last.old }
+        × Filled b table.old }
     ensures { AllSumsSmall 240 result
         × ((profile : List Step)
         → FactorsStand profile (faces_by faces flat.now) parts.now wholes.now
         → axes_in result ≡ axes_of b profile w (faces_of (faces_by faces flat.now)))
-        × Filled b asked.new first.new last.new }
+        × Filled b table.new }
 {
     let count = faces as usize;
     let mut sums = nothing();
     let mut i = 0;
     while i < count {
         let to = end_of_few(i, count);
-        let few = few_added(b, flat, parts, wholes, i, to, w, asked, first, last);
+        let few = few_added(b, flat, parts, wholes, i, to, w, table);
         sums = with_all_few(sums, few);
         i = to;
     }

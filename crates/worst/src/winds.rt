@@ -7,7 +7,7 @@ ghost use Rattle.worst.specs.Engine.{top_at, case_wind, six_winds};
 ghost use Rattle.worst.specs.Small.{Reached};
 ghost use Rattle.worst.specs.Table.{Placed, Filled};
 
-use crate::outside::{Outside, found};
+use crate::outside::{Outside, Table};
 use crate::tops::Ends;
 use building::Building;
 use entry::Wind;
@@ -33,48 +33,28 @@ pub struct SixWinds {
     pub z: CaseWinds,
 }
 
-fn case_wind(
-    b: Building,
-    wind: Wind,
-    asked: &mut [bool; 40],
-    first: &mut [i64; 40],
-    last: &mut [i64; 40],
-) -> CaseWind
-    requires { Placed wind.direction F × Filled b asked.old first.old last.old }
-    ensures { (result ≡ case_wind b wind) × Filled b asked.new first.new last.new }
+fn case_wind(b: Building, wind: Wind, table: &mut Table) -> CaseWind
+    requires { Placed wind.direction F × Filled b table.old }
+    ensures { (result ≡ case_wind b wind) × Filled b table.new }
 {
-    let outside = found(b, wind, b'F', asked, first, last);
+    let outside = table.found(b, wind, b'F');
     CaseWind { wind, outside }
 }
 
-fn case_winds(
-    b: Building,
-    up: Wind,
-    down: Wind,
-    asked: &mut [bool; 40],
-    first: &mut [i64; 40],
-    last: &mut [i64; 40],
-) -> CaseWinds
+fn case_winds(b: Building, up: Wind, down: Wind, table: &mut Table) -> CaseWinds
     requires { Placed up.direction F × Placed down.direction F
-        × Filled b asked.old first.old last.old }
+        × Filled b table.old }
     ensures { (result ≡ record { greatest = case_wind b up; least = case_wind b down })
-        × Filled b asked.new first.new last.new }
+        × Filled b table.new }
 {
-    let greatest = case_wind(b, up, asked, first, last);
-    let least = case_wind(b, down, asked, first, last);
+    let greatest = case_wind(b, up, table);
+    let least = case_wind(b, down, table);
     CaseWinds { greatest, least }
 }
 
-pub(crate) fn six_winds(
-    b: Building,
-    winds: Winds,
-    ends: Ends,
-    asked: &mut [bool; 40],
-    first: &mut [i64; 40],
-    last: &mut [i64; 40],
-) -> SixWinds
+pub(crate) fn six_winds(b: Building, winds: Winds, ends: Ends, table: &mut Table) -> SixWinds
     requires { ((axis : Axis) (s : Side) → Reached winds (top_at axis s ends))
-        × Filled b asked.old first.old last.old }
+        × Filled b table.old }
     ensures { result ≡ six_winds b winds ends }
 {
     let x_up = winds.entry[(ends.x.greatest.wind - 1) as usize];
@@ -83,8 +63,8 @@ pub(crate) fn six_winds(
     let y_down = winds.entry[(ends.y.least.wind - 1) as usize];
     let z_up = winds.entry[(ends.z.greatest.wind - 1) as usize];
     let z_down = winds.entry[(ends.z.least.wind - 1) as usize];
-    let x = case_winds(b, x_up, x_down, asked, first, last);
-    let y = case_winds(b, y_up, y_down, asked, first, last);
-    let z = case_winds(b, z_up, z_down, asked, first, last);
+    let x = case_winds(b, x_up, x_down, table);
+    let y = case_winds(b, y_up, y_down, table);
+    let z = case_winds(b, z_up, z_down, table);
     SixWinds { x, y, z }
 }

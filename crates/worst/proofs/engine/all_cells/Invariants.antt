@@ -13,7 +13,7 @@ use Rattle.worst.proofs.engine.all_cells.Given as goal
 
 abbrev pub invariant-loop-w : goal.invariant-loop-w
 invariant-loop-w l =
-    (l.w ≤ l.count) × Filled l.b l.asked l.first l.last
+    (l.w ≤ l.count) × Filled l.b l.table
     × ((profile : List Step) → FactorsStand profile (faces_by l.faces l.flat) l.parts l.wholes → (h : ℕ → StoredCell)
     → CellsReckoned l.b profile l.winds l.internals (faces_by l.faces l.flat) h
     → UpTo stored_cells h (4 * l.w) l.stored.cell)

@@ -17,7 +17,7 @@ use Rattle.worst.proofs.engine.best_cells.Given as goal
 
 abbrev pub invariant-loop-w : goal.invariant-loop-w
 invariant-loop-w l =
-    (l.w ≤ l.count) × Filled l.b l.asked l.first l.last × ProperEnds l.ends
+    (l.w ≤ l.count) × Filled l.b l.table × ProperEnds l.ends
     × ((profile : List Step) → FactorsStand profile (faces_by l.faces l.flat) l.parts l.wholes → (h : ℕ → StoredCell)
     → CellsReckoned l.b profile l.winds l.internals (faces_by l.faces l.flat) h → (axis : Axis) (side : Side)
     → top_of (top_at axis side l.ends) ≡ best_up_to axis side (cells_of h) l.internals.count l.w)

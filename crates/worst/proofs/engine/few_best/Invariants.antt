@@ -20,7 +20,7 @@ use Rattle.worst.proofs.engine.few_best.Given as goal
 
 abbrev pub invariant-loop-w : goal.invariant-loop-w
 invariant-loop-w l =
-    (l.w ≤ l.count) × Filled l.b l.asked l.first l.last
+    (l.w ≤ l.count) × Filled l.b l.table
     × ((profile : List Step) → FactorsStand profile (faces_by l.faces l.flat) l.parts l.wholes → (is : Internals)
     → is.count ≤ 4 → Furthest is is.count l.insides → (h : ℕ → StoredCell)
     → CellsReckoned l.b profile l.winds is (faces_by l.faces l.flat) h → (axis : Axis) (side : Side)

@@ -15,7 +15,6 @@ use Rattle.worst.proofs.Found.{IsTop, is-top}
 use Rattle.worst.proofs.AllCells.{six-are}
 use Rattle.worst.proofs.Accepted.{job-ready, given-sound, last-reading}
 use Rattle.worst.proofs.JobSums.{own-six}
-use Rattle.worst.proofs.Table.{nothing-filled}
 use Rattle.worst.proofs.engine.few_six.Goals.{After-few_best-ends, After-fill, Start}
 use Rattle.worst.proofs.engine.few_six.Goals as goal
 
@@ -67,7 +66,7 @@ fill-requires c =
 pub few_best-ends-requires : goal.few_best-ends-requires
 few_best-ends-requires c =
     let at_fill = (goal.at.few_best-ends-requires c).After-fill in
-    (c.requires.0, lent at_fill, c.requires.2, c.fill.ensures, nothing-filled _)
+    (c.requires.0, lent at_fill, c.requires.2, c.fill.ensures, c.new-table.ensures _)
 
 pub shown-requires : goal.shown-requires
 shown-requires c =

@@ -14,7 +14,6 @@ use Rattle.worst.proofs.Found.{IsTop, is-top}
 use Rattle.worst.proofs.AllCells.{six-are}
 use Rattle.worst.proofs.Accepted.{job-ready, given-sound, last-reading}
 use Rattle.worst.proofs.JobSums.{own-six}
-use Rattle.worst.proofs.Table.{nothing-filled}
 use Rattle.worst.proofs.engine.own_six.Goals.{After-best-ends, After-fill, Start}
 use Rattle.worst.proofs.engine.own_six.Goals as goal
 
@@ -52,7 +51,7 @@ best-ends-requires c =
       },
       c.requires.2,
       c.fill.ensures,
-      nothing-filled _,
+      c.new-table.ensures _,
     )
 
 pub shown-requires : goal.shown-requires

@@ -12,7 +12,6 @@ use Rattle.worst.specs.Small.{Ready}
 use Rattle.worst.proofs.Found.{IsTop, is-top}
 use Rattle.worst.proofs.AllCells.{six-are}
 use Rattle.worst.proofs.Accepted.{job-ready, given-sound, last-reading}
-use Rattle.worst.proofs.Table.{nothing-filled}
 use Rattle.worst.proofs.engine.six_by.Goals.{After-over_winds-ends, Start}
 use Rattle.worst.proofs.engine.six_by.Goals as goal
 
@@ -55,7 +54,7 @@ shown-requires c =
       λ i t. subst Fraction (sym (c.fill.ensures i t)) ((ready at_start).factors i t),
       c.fill.ensures,
       λ axis s. (top (goal.at.shown-requires c).After-over_winds-ends axis s).on_job,
-      nothing-filled _,
+      c.new-table.ensures _,
     )
 
 pub returns : goal.returns

@@ -3,7 +3,6 @@ use mathlib.Core.Path.{refl}
 use native.Mathlib.Omega.{arith}
 use Rattle.worst.specs.Lent.{job_by}
 use Rattle.worst.proofs.Accepted.{job-ready}
-use Rattle.worst.proofs.Table.{nothing-filled}
 use Rattle.worst.proofs.engine.sums_of.Goals as goal
 
 pub fill-requires : goal.fill-requires
@@ -25,7 +24,7 @@ all_cells-requires c =
       },
       c.requires.1,
       c.fill.ensures,
-      nothing-filled _,
+      c.new-table.ensures _,
     )
 
 pub returns : goal.returns

@@ -21,7 +21,7 @@ invariant-loop-i l =
     × ((profile : List Step) → FactorsStand profile (faces_by l.to l.flat) l.parts l.wholes
     → plus_axes (axes_of l.b profile l.w (first_of no_face l.from (faces_in l.to l.flat))) (few_axes l.sums)
     ≡ axes_of l.b profile l.w (first_of no_face l.i (faces_in l.to l.flat)))
-    × Filled l.b l.asked l.first l.last
+    × Filled l.b l.table
 
 abbrev pub decreases-loop-i : goal.decreases-loop-i
 decreases-loop-i l = l.to - l.i

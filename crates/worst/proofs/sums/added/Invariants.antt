@@ -18,7 +18,7 @@ invariant-loop-i l =
     (l.i ≤ l.count) × AllSumsSmall l.i l.sums
     × ((profile : List Step) → FactorsStand profile (faces_by l.faces l.flat) l.parts l.wholes
     → axes_in l.sums ≡ axes_of l.b profile l.w (first_of no_face l.i (faces_in l.faces l.flat)))
-    × Filled l.b l.asked l.first l.last
+    × Filled l.b l.table
 
 abbrev pub decreases-loop-i : goal.decreases-loop-i
 decreases-loop-i l = l.count - l.i
