@@ -78,12 +78,9 @@ pub(crate) fn of_wind(sums: AllSums, internals: Internals) -> WindCells
     let empty = no_cell();
     let cell = [empty; 4];
     let mut four = WindCells { cell };
-    let mut i = 0;
-    while i < count {
+    for i in 0..count {
         let internal = internals.entry[i];
-        let cell = cell_of(sums, internal);
-        four.cell[i] = cell;
-        i += 1;
+        four.cell[i] = cell_of(sums, internal);
     }
     four
 }

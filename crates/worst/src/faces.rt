@@ -66,10 +66,7 @@ pub(crate) fn lay(faces: Faces, flat: &mut [i64; 1440])
         × ((i : ℕ) → i < faces.count → face_in flat.new i ≡ get_or faces.entry i no_face) }
 {
     let count = faces.count as usize;
-    let mut i = 0;
-    while i < count {
-        let f = faces.entry[i];
-        put(flat, i, f);
-        i += 1;
+    for (i, f) in faces.entry[..count].iter().enumerate() {
+        put(flat, i, *f);
     }
 }

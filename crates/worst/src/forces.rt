@@ -178,10 +178,7 @@ fn cell_at(job: Job, wind: u32, internal: u32) -> CellForces
 pub(crate) fn is_numbered(count: u32, number: u32) -> bool
     ensures { result ≡ (leb 1 number && leb number count) }
 {
-    if number < 1 {
-        return false;
-    }
-    number <= count
+    1 <= number && number <= count
 }
 
 pub(crate) fn forces_by(job: Job, wind: u32, internal: u32, v: Verdict) -> CellForces

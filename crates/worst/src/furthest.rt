@@ -29,11 +29,8 @@ pub(crate) fn over_internals(ends: Ends, four: WindCells, count: usize, wind: u3
         ≡ better s (top_of (top_at axis s ends)) (four_best axis s four.cell count wind)) × ProperEnds result }
 {
     let mut best = ends;
-    let mut i = 0;
-    while i < count {
-        let cell = four.cell[i];
-        i += 1;
-        let number = i as u32;
+    for (i, cell) in four.cell[..count].iter().enumerate() {
+        let number = (i + 1) as u32;
         let x = with_cell(best.x, cell.x, wind, number);
         let y = with_cell(best.y, cell.y, wind, number);
         let z = with_cell(best.z, cell.z, wind, number);
@@ -50,9 +47,7 @@ pub(crate) fn over_winds(stored: Stored, winds: u32, internals: u32) -> Ends
 {
     let count = internals as usize;
     let mut ends = no_ends();
-    let mut w = 0;
-    while w < winds {
-        w += 1;
+    for w in 1..=winds {
         let four = stored_cells(stored, w);
         ends = over_internals(ends, four, count, w);
     }

@@ -67,12 +67,10 @@ pub(crate) fn insides_of(internals: Internals) -> Insides
     let first = inside_at(internals, 0);
     let mut low = first;
     let mut high = first;
-    let mut i = 1;
-    while i < count {
+    for i in 1..count {
         let next = inside_at(internals, i);
         low = lower(low, next);
         high = higher(high, next);
-        i += 1;
     }
     Insides { first, low, high }
 }

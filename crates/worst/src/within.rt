@@ -12,22 +12,13 @@ const FACE_MOST: u64 = 16_500_000;
 fn span_within(n: u64, p: Span) -> bool
     ensures { result ≡ span_within n p }
 {
-    if !pair::is_within(n, p.greatest) {
-        return false;
-    }
-    pair::is_within(n, p.least)
+    pair::is_within(n, p.greatest) && pair::is_within(n, p.least)
 }
 
 fn cell_within(n: u64, t: StoredCell) -> bool
     ensures { result ≡ cell_within n t }
 {
-    if !span_within(n, t.x) {
-        return false;
-    }
-    if !span_within(n, t.y) {
-        return false;
-    }
-    span_within(n, t.z)
+    span_within(n, t.x) && span_within(n, t.y) && span_within(n, t.z)
 }
 
 // All of them, in a job of this year.
@@ -35,13 +26,5 @@ pub fn all_within(t: Stored, year: i64) -> bool
     ensures { result ≡ within.all_within (most_newtons year) t.cell }
 {
     let n = FACE_MOST * (face_limit(year) as u64);
-    let mut i = 0;
-    while i < 32 {
-        let cell = t.cell[i];
-        if !cell_within(n, cell) {
-            return false;
-        }
-        i += 1;
-    }
-    true
+    t.cell.iter().all(|cell| cell_within(n, *cell))
 }
