@@ -1,13 +1,12 @@
 -- `newtons` meets its contract: a division rounds towards zero, so that below zero it is one less than that of one
 -- more.
 use mathlib.Core.Path.{◌∙◌}
-use lib.Dec.{lit<}
 use lib.IntN.{pos}
 use lib.Signed.{◌<ℤ◌}
 use mir.Syntax.{w64}
 use Rattle.whole.specs.Newton.{newton}
 use Rattle.whole.proofs.Rounding.{down-below, down-above}
-use Rattle.whole.proofs.Size.{Num, num, rise-small, param, back, tight, over, fit, lt_yes, lt_no, ◌⊕◌, ◌⊖◌}
+use Rattle.whole.proofs.Size.{Num, num, rise-small, param, back, tight, over, lt_yes, lt_no, ◌⊕◌, ◌⊖◌}
 use Rattle.whole.proofs.newtons.Goals.{Else-total-lt0, Then-total-lt0}
 use Rattle.whole.proofs.newtons.Goals as goal
 
@@ -28,18 +27,6 @@ less c = back w64 (quotient c) tt ⊖ num (pos 1)
 
 abbrev above : (c : Else-total-lt0) → Num
 above c = over (param c.ranges.total) newton
-
-pub overflow_add-result : goal.overflow_add-result
-overflow_add-result c = fit (more c) tt
-
-pub nonzero_div-result : goal.nonzero_div-result
-nonzero_div-result c = (lit< tt, fit (quotient c) tt)
-
-pub overflow_sub-result : goal.overflow_sub-result
-overflow_sub-result c = fit (less c) tt
-
-pub nonzero_div-result-else-total-lt0 : goal.nonzero_div-result-else-total-lt0
-nonzero_div-result-else-total-lt0 c = (lit< tt, fit (above c) tt)
 
 pub returns-then-total-lt0 : goal.returns-then-total-lt0
 returns-then-total-lt0 c = (back w64 (less c) tt).same ∙ down-below c.args.total newton (below c)

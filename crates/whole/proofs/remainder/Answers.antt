@@ -1,11 +1,9 @@
 -- `remainder` meets its contract: below zero what is left goes the other way, from one less than the size.
 use mathlib.Core.Path.{◌≡◌, ap, ◌∙◌}
 use Prim.Native.Nat.{ℕ, ◌-◌, ◌%◌}
-use native.Mathlib.Omega.{arith}
 use lib.IntN.{pos, nat_abs}
 use lib.Signed.{◌<ℤ◌}
 use Rattle.whole.specs.Newton.{newton}
-use Rattle.whole.proofs.Parts.{order, nat_abs-is}
 use Rattle.whole.proofs.Rounding.{left_below, left-above}
 use Rattle.whole.proofs.Size.{num, param, size, lt_yes, lt_no}
 use Rattle.whole.proofs.remainder.Goals.{After-magnitude-size, Then-total-lt0}
@@ -16,11 +14,6 @@ sized c = c.magnitude-size.ensures ∙ size (param c.ranges.total)
 
 below : (c : Then-total-lt0) → c.args.total <ℤ pos 0
 below c = lt_yes (param c.ranges.total) (num (pos 0)) c.if-total-lt0.true
-
-pub overflow_sub-result : goal.overflow_sub-result
-overflow_sub-result c =
-    let at_magnitude_size = (goal.at.overflow_sub-result c).After-magnitude-size in
-    omega (arith, order, sized at_magnitude_size, nat_abs-is c.args.total, below c)
 
 pub returns-then-total-lt0 : goal.returns-then-total-lt0
 returns-then-total-lt0 c =
