@@ -21,17 +21,11 @@ fn digits_of(s: &[u8]) -> Field
     ensures { result ≡ cond (all_digits s.now) (Field.Plus (value s.now)) Field.Bad }
 {
     let mut v: u32 = 0;
-    let mut i = 0;
-    while i < s.len() {
-        let d = s[i];
-        if d < 48 {
-            return Field::Bad;
-        }
-        if 57 < d {
+    for &d in s {
+        if d < 48 || 57 < d {
             return Field::Bad;
         }
         v = v * 10 + ((d - 48) as u32);
-        i += 1;
     }
     Field::Plus(v)
 }

@@ -49,14 +49,12 @@ fn ends(b: u8) -> bool
 fn end_of(s: &[u8], at: usize) -> usize
     ensures { (result ≡ at + field_length (drop at s.now)) × (at ≤ result) }
 {
-    let mut i = at;
-    while i < s.len() {
+    for i in at..s.len() {
         if ends(s[i]) {
             return i;
         }
-        i += 1;
     }
-    i
+    s.len().max(at)
 }
 
 fn slot_of(l: &[u8], at: usize, e: usize) -> Slot
@@ -73,20 +71,18 @@ pub fn line_at(s: &[u8], at: usize) -> Line
 {
     let bad = Slot { field: Field::Bad };
     let mut fields = [bad; 6];
-    let mut k: usize = 0;
     let mut next = at;
-    while k < 6 {
+    for k in 0..6 {
         let e = end_of(s, next);
         if s.len() <= e {
             return no_line();
         }
         let f = slot_of(s, next, e);
         fields[k] = f;
-        k += 1;
         next = e + 1;
         if s[e] == 10 {
             return Line {
-                count: k,
+                count: k + 1,
                 next: next,
                 fields: fields,
             };

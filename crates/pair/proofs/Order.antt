@@ -40,15 +40,15 @@ as_many m n r s e =
 
 -- the order by its two tests
 module _ (p q : Pair) where
-  pub by-fewer : lt_z p.newtons q.newtons ≡ true → true ≡ lesser p q
+  by-fewer : lt_z p.newtons q.newtons ≡ true → true ≡ lesser p q
   unfolding lesser
   by-fewer e = rw e
 
-  pub by-more : lt_z p.newtons q.newtons ≡ false → lt_z q.newtons p.newtons ≡ true → false ≡ lesser p q
+  by-more : lt_z p.newtons q.newtons ≡ false → lt_z q.newtons p.newtons ≡ true → false ≡ lesser p q
   unfolding lesser
   by-more e f = rw (e, f)
 
-  pub by-remainder : lt_z p.newtons q.newtons ≡ false → lt_z q.newtons p.newtons ≡ false
+  by-remainder : lt_z p.newtons q.newtons ≡ false → lt_z q.newtons p.newtons ≡ false
       → ltb p.remainder q.remainder ≡ lesser p q
   unfolding lesser
   by-remainder e f = rw (e, f)

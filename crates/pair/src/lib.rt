@@ -2,13 +2,12 @@
 // into one, added, taken away and compared. Where a total of units fits 64 bits no longer, its pair does.
 #![tactic(auto)]
 
-ghost use Rattle.std.specs.Prelude.{◌≡◌, ◌&&◌, ◌*◌, ◌≤◌, ◌<◌, ltb, pos, nat_abs, ◌+ℤ◌, ◌*ℤ◌};
-ghost use Rattle.std.specs.Int.Signed.{lt_z};
+ghost use Rattle.std.specs.Prelude.{◌≡◌, ◌&&◌, ◌*◌, ◌≤◌, ◌<◌, pos, nat_abs, ◌+ℤ◌, ◌*ℤ◌};
 ghost use Rattle.whole.specs.Newton.{newton};
 ghost use Rattle.pair.specs.Total.{pair_of, within_newtons, lesser, addable, pair_sum, pair_difference, as_units};
 
 #[repr(C)]
-#[derive(Clone, Copy)]
+#[derive(Clone, Copy, PartialEq, Eq, PartialOrd, Ord)]
 pub struct Pair {
     pub newtons: i64,
     pub remainder: u64,
@@ -40,10 +39,7 @@ pub fn is_within(n: u64, p: Pair) -> bool
     if p.remainder >= NEWTON {
         return false;
     }
-    if p.newtons < 0 {
-        return size <= n;
-    }
-    if p.remainder == 0 {
+    if p.newtons < 0 || p.remainder == 0 {
         return size <= n;
     }
     size < n
@@ -52,10 +48,7 @@ pub fn is_within(n: u64, p: Pair) -> bool
 fn both_addable(p: Pair, q: Pair) -> bool
     ensures { result ≡ (addable p && addable q) }
 {
-    if is_within(MOST_ADDED, p) {
-        return is_within(MOST_ADDED, q);
-    }
-    false
+    is_within(MOST_ADDED, p) && is_within(MOST_ADDED, q)
 }
 
 // So many newtons and the rest in units: where that is 1 N or more, one newton is carried.
@@ -97,31 +90,11 @@ pub fn difference(p: Pair, q: Pair) -> Pair
     of_units(0)
 }
 
-// Whether p has fewer newtons.
-fn fewer_newtons(p: Pair, q: Pair) -> bool
-    ensures { result ≡ lt_z p.newtons q.newtons }
-{
-    p.newtons < q.newtons
-}
-
-// Whether it has less beside them.
-fn smaller_remainder(p: Pair, q: Pair) -> bool
-    ensures { result ≡ ltb p.remainder q.remainder }
-{
-    p.remainder < q.remainder
-}
-
-// Whether p is the lesser.
+// Whether p is the lesser: it has fewer newtons, or as many and less beside them.
 pub fn less(p: Pair, q: Pair) -> bool
     ensures { result ≡ lesser p q }
 {
-    if fewer_newtons(p, q) {
-        return true;
-    }
-    if fewer_newtons(q, p) {
-        return false;
-    }
-    smaller_remainder(p, q)
+    p < q
 }
 
 // The total in units, where it has so few newtons that they fit 64 bits; else 0.

@@ -3,13 +3,14 @@
 use mathlib.Core.Path.{◌≡◌, refl, sym, ◌∙◌, ap}
 use mathlib.Core.Logic.{◌⊎◌, inl, inr}
 use Prim.Native.Nat.{ℕ, zero, suc, ◌+◌, ◌-◌, ◌*◌, ◌/◌, ◌%◌, ◌≤◌, ◌<◌}
-use native.Mathlib.Nat.{div-eq_of_lt-le, div-le_of_le-mul, mul-le-mul_right, div-add-mod', mod-lt, zero-mul, zero-div}
+use native.Mathlib.Nat.{div-eq_of_lt-le, div-le_of_le-mul, mul-le-mul_right, div-add-mod', mod-lt, zero-mul}
 use native.Mathlib.Omega.{arith}
 use lib.IntN.{ℤ, pos, negsuc, neg_ℤ, nat_abs, ◌+ℤ◌, ◌-ℤ◌, ◌*ℤ◌, +ℤ_idl}
-use lib.Signed.{quot_z, ◌≤ℤ◌, ◌<ℤ◌}
+use lib.Signed.{◌≤ℤ◌, ◌<ℤ◌}
+use Rattle.std.specs.Int.{int_div_euclid, int_rem_euclid}
 use Rattle.whole.specs.Round.{half_up, round_away, round_down, left_over}
 use Rattle.whole.proofs.Parts.{order, add-law, up_neg, down-neg, up-scale, down-scale, le-by, lt_at, eq-by}
-use Rattle.whole.proofs.Parts.{eq-at, sub-lawℤ}
+use Rattle.whole.proofs.Parts.{eq-at}
 use Rattle.whole.proofs.Order.{≤ℤ-or-<ℤ, ≤ℤ-antisym}
 use Rattle.whole.proofs.Size.{div_mono}
 
@@ -91,35 +92,16 @@ down-and-left (negsuc n) d h =
       mod-lt n h,
     ))
 
-quot-neg : (n d : ℕ) → quot_z (neg_ℤ (pos n)) (pos d) -ℤ pos 1 ≡ negsuc (n / d)
-quot-neg zero d = ap (λ (m : ℕ). pos m -ℤ pos 1) (zero-div d) ∙ sym (ap negsuc (zero-div d))
-quot-neg (suc n) d =
-    let m = suc n / d in
-    eq-by _ _ (omega (arith, sub-lawℤ (neg_ℤ (pos m)) (pos 1), up_neg (pos m), down-neg (pos m)))
-
--- the two branches of code that rounds down, and takes what is left: `quot_z` rounds towards zero
-pub down-below : (z : ℤ) (d : ℕ) → z <ℤ pos 0 → quot_z (z +ℤ pos 1) (pos d) -ℤ pos 1 ≡ round_down z d
+-- the library's names for both
+pub down_euclid : (z : ℤ) (d : ℕ) → int_div_euclid z (pos d) ≡ round_down z d
 unfolding round_down
-down-below (pos n) d h = absurd (omega (arith, order))
-down-below (negsuc n) d h =
-    let e : negsuc n +ℤ pos 1 ≡ neg_ℤ (pos n) =
-    eq-by _ _ (omega (arith, add-law (negsuc n) (pos 1), up_neg (pos n), down-neg (pos n))) in
-    ap (λ (x : ℤ). quot_z x (pos d) -ℤ pos 1) e ∙ quot-neg n d
+down_euclid (pos n) d = refl
+down_euclid (negsuc n) d = refl
 
-pub down-above : (z : ℤ) (d : ℕ) → pos 0 ≤ℤ z → quot_z z (pos d) ≡ round_down z d
-unfolding round_down
-down-above (pos n) d h = refl
-down-above (negsuc n) d h = absurd (omega (arith, order))
-
-pub left_below : (z : ℤ) (d : ℕ) → z <ℤ pos 0 → d - 1 - (nat_abs z - 1) % d ≡ left_over z d
+pub left_euclid : (z : ℤ) (d : ℕ) → int_rem_euclid z (pos d) ≡ pos (left_over z d)
 unfolding left_over
-left_below (pos n) d h = absurd (omega (arith, order))
-left_below (negsuc n) d h = let e : suc n - 1 ≡ n = omega arith in ap (λ (m : ℕ). d - 1 - m % d) e
-
-pub left-above : (z : ℤ) (d : ℕ) → pos 0 ≤ℤ z → nat_abs z % d ≡ left_over z d
-unfolding left_over
-left-above (pos n) d h = refl
-left-above (negsuc n) d h = absurd (omega (arith, order))
+left_euclid (pos n) d = refl
+left_euclid (negsuc n) d = refl
 
 -- no other quotient leaves less than the divisor
 quotient_le : (x y : ℤ) (r s d : ℕ) → s < d → x *ℤ pos d +ℤ pos r ≡ y *ℤ pos d +ℤ pos s → x ≤ℤ y

@@ -10,11 +10,7 @@ ghost use Rattle.whole.specs.Newton.{newtons, remainder};
 pub fn magnitude(z: i64) -> u64
     ensures { result ≡ nat_abs z }
 {
-    if z < 0 {
-        ((-1 - z) as u64) + 1
-    } else {
-        z as u64
-    }
+    z.unsigned_abs()
 }
 
 // The greatest number that divides both, by Euclid's algorithm; where one is 0, the other.
@@ -31,25 +27,20 @@ pub fn common_divisor(x: u64, y: u64) -> u64
     a
 }
 
+const NEWTON: i64 = 20_000_000_000;
+
 // The whole newtons of a total, rounded down.
+#[tactic(auto, using(crate::proofs::Rounding::down_euclid))]
 pub fn newtons(total: i64) -> i64
     ensures { result ≡ newtons total }
 {
-    if total < 0 {
-        (total + 1) / 20_000_000_000 - 1
-    } else {
-        total / 20_000_000_000
-    }
+    total.div_euclid(NEWTON)
 }
 
 // The units that then remain, less than 1 N.
+#[tactic(auto, using(crate::proofs::Rounding::left_euclid))]
 pub fn remainder(total: i64) -> u64
     ensures { result ≡ remainder total }
 {
-    let size = magnitude(total);
-    if total < 0 {
-        19_999_999_999 - (size - 1) % 20_000_000_000
-    } else {
-        size % 20_000_000_000
-    }
+    total.rem_euclid(NEWTON) as u64
 }

@@ -6,7 +6,4 @@ use Rattle.lines.specs.Held.{field_length}
 use Rattle.lines.proofs.end_of.Given as goal
 
 abbrev pub invariant-loop-i : goal.invariant-loop-i
-invariant-loop-i l = (l.at ≤ l.i) × (l.at + field_length (drop l.at l.s) ≡ l.i + field_length (drop l.i l.s))
-
-abbrev pub decreases-loop-i : goal.decreases-loop-i
-decreases-loop-i l = length l.s - l.i
+invariant-loop-i l = l.at + field_length (drop l.at l.s) ≡ l.i + field_length (drop l.i l.s)

@@ -9,6 +9,3 @@ use Rattle.lines.proofs.line_at.Given as goal
 
 abbrev pub invariant-loop-k : goal.invariant-loop-k
 invariant-loop-k l = line_at l.s l.at ≡ line_on l.k l.fields l.next (split 10 (drop l.next l.s))
-
-abbrev pub decreases-loop-k : goal.decreases-loop-k
-decreases-loop-k l = 6 - l.k

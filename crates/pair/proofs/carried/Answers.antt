@@ -5,7 +5,7 @@ use native.Mathlib.Omega.{arith}
 use lib.IntN.{ℤ, pos, ◌+ℤ◌}
 use mir.Syntax.{w64}
 use Rattle.whole.specs.Newton.{newton}
-use Rattle.whole.proofs.Size.{Num, num, param≤, fit, back, ◌⊕◌}
+use Rattle.whole.proofs.Size.{Num, num, param≤, back, ◌⊕◌}
 use Rattle.pair.specs.Total.{pair_of}
 use Rattle.pair.proofs.Units.{pair, pair_is}
 use Rattle.pair.proofs.Sums.{one-carried}
@@ -22,9 +22,6 @@ pub returns-then-rest-lt-NEWTON : goal.returns-then-rest-lt-NEWTON
 returns-then-rest-lt-NEWTON c =
     let at_start = (goal.at.returns-then-rest-lt-NEWTON c).Start in
     ap (λ (n : ℤ). pair n c.args.rest) (given at_start).same ∙ pair_is c.args.newtons c.args.rest (omega arith)
-
-pub overflow_add-result : goal.overflow_add-result
-overflow_add-result c = fit (more (goal.at.overflow_add-result c).Start) tt
 
 pub returns : goal.returns
 returns c =

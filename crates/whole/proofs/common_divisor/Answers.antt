@@ -1,15 +1,8 @@
 -- `common_divisor`: each turn leaves the divisors that both have as they are.
 use mathlib.Core.Path.{◌≡◌, subst}
-use native.Mathlib.Nat.{mod-lt}
 use native.Mathlib.Omega.{arith}
-use Rattle.whole.proofs.Lowest.{Shared, shared-first, shared-next, shared_last}
+use Rattle.whole.proofs.Lowest.{Shared, shared-next, shared_last}
 use Rattle.whole.proofs.common_divisor.Goals as goal
-
-pub loop-b-init : goal.loop-b-init
-loop-b-init c = shared-first c.args.x c.args.y
-
-pub loop-b-smaller : goal.loop-b-smaller
-loop-b-smaller c = mod-lt c.loop-b.a (omega arith)
 
 pub loop-b-preserved : goal.loop-b-preserved
 loop-b-preserved c = shared-next c.loop-b.invariant
