@@ -1,5 +1,5 @@
 -- `in_form` meets its contract: what is left is in form exactly if the whole line is.
-use Prim.Native.Nat.{◌≤◌, ◌-◌}
+use Prim.Native.Nat.{◌≤◌}
 use mathlib.Core.Path.{◌≡◌}
 use lib.ListN.{drop}
 use Rattle.lines.specs.Held.{held}
@@ -11,5 +11,3 @@ abbrev pub invariant-loop-i : goal.invariant-loop-i
 invariant-loop-i l = (l.i ≤ l.n) × (in_form (drop l.i (forms l.heights l.k)) (drop l.i (held l.x)) ≡ in_form
     (forms l.heights l.k) (held l.x))
 
-abbrev pub decreases-loop-i : goal.decreases-loop-i
-decreases-loop-i l = l.n - l.i
