@@ -8,6 +8,5 @@ use Rattle.rules.specs.Sections.{forms}
 use Rattle.rules.proofs.form_of.in_form.Given as goal
 
 abbrev pub invariant-loop-i : goal.invariant-loop-i
-invariant-loop-i l = (l.i ≤ l.n) × (in_form (drop l.i (forms l.heights l.k)) (drop l.i (held l.x)) ≡ in_form
-    (forms l.heights l.k) (held l.x))
-
+invariant-loop-i l =
+    in_form (drop l.i (forms l.heights l.k)) (drop l.i (held l.x)) ≡ in_form (forms l.heights l.k) (held l.x)
