@@ -14,10 +14,8 @@ pub fn number_of(f: Field) -> i64
 {
     match f {
         Field::Plus(m) => m as i64,
-        Field::Minus(m) => 0 - (m as i64),
-        Field::Letter(_) => 0,
-        Field::Dash => 0,
-        Field::Bad => 0,
+        Field::Minus(m) => -(m as i64),
+        _ => 0,
     }
 }
 
@@ -26,11 +24,8 @@ pub fn size_of(f: Field) -> u32
     ensures { result ≡ size f }
 {
     match f {
-        Field::Plus(n) => n,
-        Field::Minus(n) => n,
-        Field::Letter(_) => 0,
-        Field::Dash => 0,
-        Field::Bad => 0,
+        Field::Plus(n) | Field::Minus(n) => n,
+        _ => 0,
     }
 }
 
@@ -39,23 +34,14 @@ pub fn letter_of(f: Field) -> u8
 {
     match f {
         Field::Letter(b) => b,
-        Field::Plus(_) => 0,
-        Field::Minus(_) => 0,
-        Field::Dash => 0,
-        Field::Bad => 0,
+        _ => 0,
     }
 }
 
 pub fn is_dash(f: Field) -> bool
     ensures { result ≡ is_dash f }
 {
-    match f {
-        Field::Dash => true,
-        Field::Plus(_) => false,
-        Field::Minus(_) => false,
-        Field::Letter(_) => false,
-        Field::Bad => false,
-    }
+    matches!(f, Field::Dash)
 }
 
 pub(crate) fn mark_of(f: Field) -> i64
@@ -133,23 +119,14 @@ pub fn step_of(x: Line) -> Step
 pub fn face_of(heights: bool, x: Line) -> Face
     ensures { result ≡ face_of heights (held x) }
 {
-    if heights {
-        return Face {
-            zone: letter_at(x, 0),
-            mark: mark_at(x, 1),
-            height: number_at(x, 2),
-            x: number_at(x, 3),
-            y: number_at(x, 4),
-            z: number_at(x, 5),
-        };
-    }
+    let areas = if heights { 3 } else { 2 };
     Face {
         zone: letter_at(x, 0),
         mark: mark_at(x, 1),
-        height: 0,
-        x: number_at(x, 2),
-        y: number_at(x, 3),
-        z: number_at(x, 4),
+        height: if heights { number_at(x, 2) } else { 0 },
+        x: number_at(x, areas),
+        y: number_at(x, areas + 1),
+        z: number_at(x, areas + 2),
     }
 }
 
@@ -157,9 +134,6 @@ pub fn face_of(heights: bool, x: Line) -> Face
 pub fn carried_face(heights: bool, f: Face) -> Face
     ensures { result ≡ carried_face heights f }
 {
-    let mut g = f;
-    if !heights {
-        g.height = 0;
-    }
-    g
+    let height = if heights { f.height } else { 0 };
+    Face { height, ..f }
 }

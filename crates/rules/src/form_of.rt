@@ -13,13 +13,7 @@ use lines::{Line, field_at, held_count};
 fn is_letter(f: Field) -> bool
     ensures { result ≡ is_letter f }
 {
-    match f {
-        Field::Letter(_) => true,
-        Field::Plus(_) => false,
-        Field::Minus(_) => false,
-        Field::Dash => false,
-        Field::Bad => false,
-    }
+    matches!(f, Field::Letter(_))
 }
 
 // -0 is no number.
@@ -29,30 +23,24 @@ fn is_number(f: Field) -> bool
     match f {
         Field::Plus(_) => true,
         Field::Minus(m) => m != 0,
-        Field::Letter(_) => false,
-        Field::Dash => false,
-        Field::Bad => false,
+        _ => false,
     }
 }
 
 fn is_short(f: Field) -> bool
     ensures { result ≡ is_short f }
 {
-    if is_number(f) {
-        return !too_long(number_of(f));
-    }
-    false
+    is_number(f) && !too_long(number_of(f))
 }
 
+#[tactic(auto, unfolding(crate::specs::Form::has_form))]
 fn is_mark(f: Field) -> bool
     ensures { result ≡ has_form FieldForm.Mark f }
 {
-    if is_dash(f) {
-        return true;
-    }
-    is_short(f)
+    is_dash(f) || is_short(f)
 }
 
+#[tactic(auto, unfolding(crate::specs::Form::has_form))]
 fn has_form(w: FieldForm, f: Field) -> bool
     ensures { result ≡ has_form w f }
 {
@@ -70,19 +58,16 @@ pub fn count_of(heights: bool, k: Kind) -> usize
 {
     match k {
         Kind::Count(_) => 2,
-        Kind::Entry(s) => match s {
-            Section::V => 1,
-            Section::B => 6,
-            Section::W => 2,
-            Section::I => 1,
-            Section::P => 2,
-            Section::F => {
-                if heights {
-                    return 6;
-                }
+        Kind::Entry(Section::V | Section::I) => 1,
+        Kind::Entry(Section::W | Section::P) => 2,
+        Kind::Entry(Section::B) => 6,
+        Kind::Entry(Section::F) => {
+            if heights {
+                6
+            } else {
                 5
             }
-        },
+        }
     }
 }
 
@@ -90,32 +75,11 @@ pub fn count_of(heights: bool, k: Kind) -> usize
 fn form_at(k: Kind, i: usize) -> FieldForm
     ensures { (heights : Bool) → result ≡ get_or (forms heights k) i FieldForm.Number }
 {
-    match k {
-        Kind::Count(_) => {
-            if i == 0 {
-                return FieldForm::Capital;
-            }
-            if i == 1 {
-                return FieldForm::Count;
-            }
-            FieldForm::Number
-        }
-        Kind::Entry(s) => match s {
-            Section::V => FieldForm::Number,
-            Section::B => FieldForm::Number,
-            Section::W => FieldForm::Number,
-            Section::I => FieldForm::Number,
-            Section::P => FieldForm::Number,
-            Section::F => {
-                if i == 0 {
-                    return FieldForm::Capital;
-                }
-                if i == 1 {
-                    return FieldForm::Mark;
-                }
-                FieldForm::Number
-            }
-        },
+    match (k, i) {
+        (Kind::Count(_) | Kind::Entry(Section::F), 0) => FieldForm::Capital,
+        (Kind::Count(_), 1) => FieldForm::Count,
+        (Kind::Entry(Section::F), 1) => FieldForm::Mark,
+        _ => FieldForm::Number,
     }
 }
 
@@ -134,12 +98,10 @@ pub fn in_form(heights: bool, k: Kind, x: Line) -> bool
     if held_count(x) != n {
         return false;
     }
-    let mut i: usize = 0;
-    while i < n {
+    for i in 0..n {
         if !has_form(form_at(k, i), field_at(x, i)) {
             return false;
         }
-        i += 1;
     }
     true
 }

@@ -20,26 +20,25 @@ const TALL: [Section; 6] = [
     Section::F,
 ];
 
+// In order.
+fn sections(heights: bool) -> &'static [Section]
+    ensures { result.now ≡ sections heights }
+{
+    if heights { &TALL } else { &PLAIN }
+}
+
 pub fn section_count(heights: bool) -> usize
     ensures { result ≡ length (sections heights) }
 {
-    if heights {
-        return TALL.len();
-    }
-    PLAIN.len()
+    sections(heights).len()
 }
 
 // The section behind the first i.
 pub fn section_at(heights: bool, i: usize) -> Section
     ensures { result ≡ section_at heights i }
 {
-    if i >= section_count(heights) {
-        return Section::V;
-    }
-    if heights {
-        return TALL[i];
-    }
-    PLAIN[i]
+    let all = sections(heights);
+    if i < all.len() { all[i] } else { Section::V }
 }
 
 pub fn section_letter(s: Section) -> u8

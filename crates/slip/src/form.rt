@@ -15,17 +15,15 @@ pub(crate) fn first_out(l: &[u8], heights: bool, k: Kind) -> u32
 {
     let n = count_of(heights, k);
     let mut next: usize = 0;
-    let mut i: usize = 0;
-    while i < n {
+    for i in 0..n {
         let e = until(l, next, 32);
         if !formed_at(k, i, field_of(&l[next..e])) {
             return (i + 1) as u32;
         }
-        i += 1;
         if e == l.len() {
-            return (i + 1) as u32;
+            return (i + 2) as u32;
         }
         next = e + 1;
     }
-    (i + 1) as u32
+    (n + 1) as u32
 }

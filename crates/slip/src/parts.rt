@@ -15,14 +15,12 @@ pub(crate) fn until(s: &[u8], at: usize, b: u8) -> usize
     requires { at ≤ length s.now }
     ensures { (result ≡ at + held.until b (drop at s.now)) × (result ≤ length s.now) }
 {
-    let mut i = at;
-    while i < s.len() {
+    for i in at..s.len() {
         if s[i] == b {
             return i;
         }
-        i += 1;
     }
-    i
+    s.len()
 }
 
 // Part n, from 0, of a text with b between its parts; at its end where there is no such part.
@@ -31,14 +29,12 @@ pub(crate) fn part_of(s: &[u8], b: u8, n: u32) -> Part
         × (result.to ≡ result.from + held.until b (drop result.from s.now)) × (result.to ≤ length s.now) }
 {
     let mut from: usize = 0;
-    let mut i: u32 = 0;
-    while i < n {
+    for _i in 0..n {
         let e = until(s, from, b);
         if e == s.len() {
             return Part { from: e, to: e };
         }
         from = e + 1;
-        i += 1;
     }
     Part {
         from,

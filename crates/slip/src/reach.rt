@@ -131,11 +131,9 @@ pub(crate) fn reach(s: &[u8], n: u32) -> Reached
     let mut read: u32 = 0;
     let mut risen = false;
     let mut next: usize = 0;
-    let mut i: u32 = 0;
-    while i < n {
+    for _i in 0..n {
         let x = line_at(s, next);
         next = x.next;
-        i += 1;
         if left == 0 {
             read = 0;
             sec = section_at(heights, begun);

@@ -41,12 +41,9 @@ module _ (c : After-has_form) where
       → in_form (forms args.args.heights args.args.k) (held args.args.x) ≡ t && rest
   on t e =
       let a = args.args in
-      sym loop.loop-i.invariant.1
-      ∙ form-on (forms a.heights a.k) (held a.x) loop.loop-i.i (omega (
-        arith,
-        forms-there
-            (goal.at.At-loop-i loop).Else-held_count-n,
-      ))
+      sym loop.loop-i.invariant
+      ∙ form-on (forms a.heights a.k) (held a.x) loop.loop-i.i
+      (omega (arith, forms-there (goal.at.At-loop-i loop).Else-held_count-n))
       (omega (arith, fields-there (goal.at.At-loop-i loop).Else-held_count-n))
       ∙ ap (λ (t : Bool). t && rest)
       (sym (c.has_form.ensures
@@ -63,15 +60,9 @@ pub returns-then-not-has_form : goal.returns-then-not-has_form
 returns-then-not-has_form c = sym (on (goal.at.returns-then-not-has_form c).After-has_form false
     (c.if-not-has_form.true))
 
-pub loop-i-smaller : goal.loop-i-smaller
-loop-i-smaller c = omega arith
-
 pub loop-i-preserved : goal.loop-i-preserved
-loop-i-preserved c = (
-  omega arith,
-  rw add-one (sym (on (goal.at.loop-i-preserved c).After-has_form true
-      (c.if-not-has_form.false))),
-)
+loop-i-preserved c =
+    rw add-one (sym (on (goal.at.loop-i-preserved c).After-has_form true c.if-not-has_form.false))
 
 pub returns : goal.returns
 unfolding in_form
@@ -81,4 +72,4 @@ returns c =
     let i = c.loop-i.i in
     let no-form = drop_of_length-le (forms a.heights a.k) {i = i} (omega (arith, forms-there at_held_count_n)) in
     let no_field = drop_of_length-le (held a.x) {i = i} (omega (arith, fields-there at_held_count_n)) in
-    sym (sym c.loop-i.invariant.1 ∙ rw (no-form, no_field))
+    sym (sym c.loop-i.invariant ∙ rw (no-form, no_field))

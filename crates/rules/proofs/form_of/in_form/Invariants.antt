@@ -1,5 +1,5 @@
 -- `in_form` meets its contract: what is left is in form exactly if the whole line is.
-use Prim.Native.Nat.{◌≤◌, ◌-◌}
+use Prim.Native.Nat.{◌≤◌}
 use mathlib.Core.Path.{◌≡◌}
 use lib.ListN.{drop}
 use Rattle.lines.specs.Held.{held}
@@ -8,8 +8,5 @@ use Rattle.rules.specs.Sections.{forms}
 use Rattle.rules.proofs.form_of.in_form.Given as goal
 
 abbrev pub invariant-loop-i : goal.invariant-loop-i
-invariant-loop-i l = (l.i ≤ l.n) × (in_form (drop l.i (forms l.heights l.k)) (drop l.i (held l.x)) ≡ in_form
-    (forms l.heights l.k) (held l.x))
-
-abbrev pub decreases-loop-i : goal.decreases-loop-i
-decreases-loop-i l = l.n - l.i
+invariant-loop-i l =
+    in_form (drop l.i (forms l.heights l.k)) (drop l.i (held l.x)) ≡ in_form (forms l.heights l.k) (held l.x)

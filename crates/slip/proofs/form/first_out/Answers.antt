@@ -28,7 +28,7 @@ module _ (c : At-loop-i) where
   count = c.count_of-n.ensures
 
   few : c.loop-i.i ≤ 6
-  few = omega (arith, count, c.loop-i.invariant.0, (fields start.args.heights start.args.k).1)
+  few = omega (arith, count, (fields start.args.heights start.args.k).1)
 
 module _ (c : After-formed_at) where
   abbrev at-until : After-until-e
@@ -63,10 +63,10 @@ low c = few (goal.at.After-formed_at c).At-loop-i
 pub loop-i-init : goal.loop-i-init
 loop-i-init c =
     let a = c.args in
-    (omega arith, formed-none (forms a.heights a.k) a.l.now)
+    formed-none (forms a.heights a.k) a.l.now
 
 pub until-e-requires : goal.until-e-requires
-until-e-requires c = c.loop-i.invariant.1.within
+until-e-requires c = c.loop-i.invariant.within
 
 pub slice_bounds-field_of-count : goal.slice_bounds-field_of-count
 slice_bounds-field_of-count c = omega (arith, c.until-e.ensures.0)
@@ -87,11 +87,8 @@ pub returns-then-not-formed_at : goal.returns-then-not-formed_at
 returns-then-not-formed_at c =
     let at_loop_i = (goal.at.returns-then-not-formed_at c).At-loop-i in
     let at_formed_at = (goal.at.returns-then-not-formed_at c).After-formed_at in
-    sym (out-here (called at_loop_i) (line at_formed_at) c.loop-i.invariant.1 (more at_formed_at)
+    sym (out-here (called at_loop_i) (line at_formed_at) c.loop-i.invariant (more at_formed_at)
     (field at_formed_at _ (c.if-not-formed_at.true)))
-
-pub overflow_add-i : goal.overflow_add-i
-overflow_add-i c = omega (arith, low (goal.at.overflow_add-i c).After-formed_at)
 
 pub overflow_add-result-then-e-l : goal.overflow_add-result-then-e-l
 overflow_add-result-then-e-l c = omega (arith, low (goal.at.overflow_add-result-then-e-l c).After-formed_at)
@@ -103,9 +100,11 @@ pub returns-then-e-l : goal.returns-then-e-l
 returns-then-e-l c =
     let at_loop_i = (goal.at.returns-then-e-l c).At-loop-i in
     let at_formed_at = (goal.at.returns-then-e-l c).After-formed_at in
-    sym (out-last (called at_loop_i) (line at_formed_at) c.loop-i.invariant.1 (more at_formed_at)
-    (field at_formed_at _ (c.if-not-formed_at.false))
-    (omega (arith, end at_formed_at, c.if-e-l.true)))
+    omega (
+      arith,
+      out-last (called at_loop_i) (line at_formed_at) c.loop-i.invariant (more at_formed_at)
+          (field at_formed_at _ (c.if-not-formed_at.false)) (omega (arith, end at_formed_at, c.if-e-l.true)),
+    )
 
 pub overflow_add-next : goal.overflow_add-next
 overflow_add-next c = omega (arith, c.until-e.ensures.1, c.if-e-l.false)
@@ -113,13 +112,11 @@ overflow_add-next c = omega (arith, c.until-e.ensures.1, c.if-e-l.false)
 pub loop-i-preserved : goal.loop-i-preserved
 loop-i-preserved c =
     let at_loop_i = (goal.at.loop-i-preserved c).At-loop-i in
-    let at_formed_at = (goal.at.loop-i-preserved c).After-formed_at in (
-      omega (arith, c.loop-i-test.true),
-      rw (end at_formed_at)
-          (out-next (called at_loop_i) (line at_formed_at) c.loop-i.invariant.1 (more at_formed_at)
-          (field at_formed_at _ (c.if-not-formed_at.false))
-          (omega (arith, end at_formed_at, c.until-e.ensures.1, c.if-e-l.false))),
-    )
+    let at_formed_at = (goal.at.loop-i-preserved c).After-formed_at in
+    rw (end at_formed_at)
+    (out-next (called at_loop_i) (line at_formed_at) c.loop-i.invariant (more at_formed_at)
+    (field at_formed_at _ (c.if-not-formed_at.false))
+    (omega (arith, end at_formed_at, c.until-e.ensures.1, c.if-e-l.false)))
 
 pub overflow_add-result-2 : goal.overflow_add-result-2
 overflow_add-result-2 c = omega (arith, few (goal.at.overflow_add-result-2 c).At-loop-i)
@@ -130,5 +127,6 @@ overflow_cast-result-2 c = omega (arith, few (goal.at.overflow_cast-result-2 c).
 pub returns : goal.returns
 returns c =
     let at_loop_i = (goal.at.returns c).At-loop-i in
-    sym (formed-all (called at_loop_i) c.args.l.now c.loop-i.invariant.1 (omega
-    (arith, count at_loop_i, c.loop-i-test.false)))
+    let all = formed-all (called at_loop_i) c.args.l.now c.loop-i.invariant
+    (omega (arith, count at_loop_i, c.loop-i-test.false)) in
+    omega (arith, all)

@@ -1,11 +1,7 @@
 -- `parts::until`: the first b from `at` on is the first from i on.
-use mathlib.Core.Path.{refl}
 use native.Mathlib.Omega.{arith}
 use Rattle.lines.proofs.Lines.{until-here, until-on, until_end}
 use Rattle.slip.proofs.parts.until.Goals as goal
-
-pub loop-i-init : goal.loop-i-init
-loop-i-init c = (c.requires, refl)
 
 pub returns-then-s-i : goal.returns-then-s-i
 returns-then-s-i c =
@@ -15,7 +11,7 @@ returns-then-s-i c =
 pub loop-i-preserved : goal.loop-i-preserved
 loop-i-preserved c =
     let a = c.args in
-    (omega arith, omega (arith, until-on a.b a.s.now c.loop-i.i (omega arith) c.if-s-i.false))
+    omega (arith, until-on a.b a.s.now c.loop-i.i (omega arith) c.if-s-i.false)
 
 pub returns : goal.returns
 returns c =

@@ -1,12 +1,9 @@
 -- `parts::until`: the first b from `at` on is the first from i on.
-use Prim.Native.Nat.{◌≤◌, ◌+◌, ◌-◌}
+use Prim.Native.Nat.{◌+◌}
 use mathlib.Core.Path.{◌≡◌}
-use lib.ListN.{length, drop}
+use lib.ListN.{drop}
 use Rattle.lines.specs.Held.{until}
 use Rattle.slip.proofs.parts.until.Given as goal
 
 abbrev pub invariant-loop-i : goal.invariant-loop-i
-invariant-loop-i l = (l.i ≤ length l.s) × (l.at + until l.b (drop l.at l.s) ≡ l.i + until l.b (drop l.i l.s))
-
-abbrev pub decreases-loop-i : goal.decreases-loop-i
-decreases-loop-i l = length l.s - l.i
+invariant-loop-i l = l.at + until l.b (drop l.at l.s) ≡ l.i + until l.b (drop l.i l.s)
