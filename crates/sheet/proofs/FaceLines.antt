@@ -1,12 +1,11 @@
 -- Laws of face lines read one after another: the first so many, one more, and what was then read of the text.
 use Prim.Native.Nat.{ℕ, zero, suc, ◌+◌, ◌-◌, ◌*◌, ◌≤◌, ◌<◌}
-use mathlib.Core.Path.{◌≡◌, refl, ap, sym, subst, ◌∙◌}
+use mathlib.Core.Path.{◌≡◌, refl, sym, subst}
 use mathlib.Core.Bool.{Bool}
 use mathlib.Core.List.{List}
 use native.Mathlib.Omega.{arith}
 use lib.IntN.{ℤ}
 use lib.Seq.{sets}
-use Rattle.lines.specs.declared.Line.{Line}
 use Rattle.lines.specs.Held.{held, line_at}
 use Rattle.building.specs.Year.{has_heights}
 use Rattle.entry.specs.Says.{face_of}
@@ -16,13 +15,11 @@ use Rattle.rules.specs.declared.Section.{Section}
 use Rattle.rules.specs.declared.Section.TheVariants.{F}
 use Rattle.rules.specs.declared.Kind.TheVariants.{Entry}
 use Rattle.rules.specs.Sections.{section_at, line_fault}
-use Rattle.job.specs.declared.Setting.{Setting}
 use Rattle.job.specs.declared.Winds.{Winds}
 use Rattle.job.specs.declared.Internals.{Internals}
 use Rattle.job.specs.declared.Profile.{Profile}
 use Rattle.sheet.specs.Said.{FacesRead}
 use Rattle.sheet.specs.Parts.{setting_of}
-use Rattle.sheet.proofs.OneMore.{Kept}
 use Rattle.sheet.proofs.SoFar.{ReadSoFar, EntryLine, entry_read}
 
 -- ---- the first so many

@@ -15,5 +15,6 @@ pub mod OneMore
 pub mod SoFar
 pub mod FaceLines
 pub mod Plain
+pub mod Unless
 pub mod PlainLine
 pub mod Worked

@@ -1,10 +1,10 @@
 -- Laws of a plain line: fields in form that stand one after another up to LF are the line there, and what they say.
-use Prim.Native.Nat.{ℕ, suc, ◌+◌, ◌^◌, ◌≤◌, ◌<◌}
-use mathlib.Core.Path.{◌≡◌, refl, ap, ◌∙◌, sym, subst}
-use mathlib.Core.Bool.{Bool, true, false, cond, false≢true}
+use Prim.Native.Nat.{ℕ, suc, ◌+◌, ◌≤◌, ◌<◌}
+use mathlib.Core.Path.{◌≡◌, refl, ap, ◌∙◌, sym}
+use mathlib.Core.Bool.{Bool, true, false}
 use mathlib.Core.List.{List, [], ◌∷◌, ◌++◌, map, append_assoc}
 use native.Mathlib.Omega.{arith}
-use lib.Dec.{ltb, leb, eqb}
+use lib.Dec.{ltb}
 use lib.IntN.{ℤ, pos, negsuc, nat_abs}
 use lib.ListN.{length, get_or, take, drop, length-drop, length-append, length-map, get_or-eq_default}
 use lib.Seq.{length-take-le, get_or-take}
@@ -13,23 +13,20 @@ use Rattle.whole.specs.Lists.{Every}
 use Rattle.whole.proofs.Tests.{by-test}
 use Rattle.whole.proofs.Lists.{get_d_map, map-every, every-by}
 use Rattle.field.specs.declared.Field.{Field}
-use Rattle.field.specs.declared.Field.TheVariants.{Bad, Letter, Dash}
-use Rattle.lines.specs.declared.Line.{Line}
-use Rattle.lines.specs.Lines.{split, field_text, line_text, InForm}
-use Rattle.lines.specs.Held.{held, held_line, first_line, line_at}
+use Rattle.field.specs.declared.Field.TheVariants.{Bad, Letter}
+use Rattle.lines.specs.Lines.{field_text, line_text, InForm}
+use Rattle.lines.specs.Held.{held, first_line, line_at}
 use Rattle.lines.proofs.Lines.{split-until, split-seam}
 use Rattle.lines.proofs.Held.{held_all}
 use Rattle.lines.proofs.Round.{line-free, line-fields}
-use Rattle.entry.specs.Says.{number, size, mark, letter, at, face_of}
-use Rattle.entry.specs.Flat.{numbers_of}
+use Rattle.entry.specs.Says.{number, size, mark, letter, at}
 use Rattle.building.specs.Test.{too_long}
 use Rattle.rules.specs.declared.FieldForm.TheVariants as form
 use Rattle.building.specs.Fault.{first}
 use Rattle.building.specs.Year.{has_heights}
 use Rattle.rules.specs.declared.Before.{Before}
 use Rattle.rules.specs.declared.Section.{Section}
-use Rattle.rules.specs.declared.Section.TheVariants.{F}
-use Rattle.rules.specs.declared.Kind.TheVariants.{Count, Entry}
+use Rattle.rules.specs.declared.Kind.TheVariants.{Count}
 use Rattle.rules.specs.Form.{has_form, in_form, number_forms}
 use Rattle.rules.specs.Sections.{forms, count_faults, line_fault}
 use Rattle.rules.proofs.Line.{fault-in}

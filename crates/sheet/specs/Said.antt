@@ -1,6 +1,6 @@
 -- What a line says as numbers, and how a plain one stands in a text. Only contracts of private functions cite it.
 use Rattle.std.specs.Prelude.{ℕ, zero, suc, ◌+◌, ◌-◌, ◌*◌, ◌^◌, ◌≤◌, ◌<◌, ◌≡◌, Bool, true, false, List, [], ◌∷◌, ◌++◌}
-use Rattle.std.specs.Prelude.{map, ℤ, pos, negsuc, nat_abs, length, get_or, drop}
+use Rattle.std.specs.Prelude.{map, ℤ, pos, negsuc, nat_abs, length, get_or, drop, Result, Ok, Err}
 use Rattle.std.proofs.lemmas.List.Edits.{sets}
 use Rattle.whole.specs.Lists.{Every}
 use Rattle.whole.specs.Digits.{digits, decimal}
@@ -18,14 +18,12 @@ use Rattle.entry.specs.Flat.{per_face, numbers_of}
 use Rattle.rules.specs.declared.Before.{Before}
 use Rattle.rules.specs.declared.Section.{Section}
 use Rattle.rules.specs.declared.Section.TheVariants.{«V», B, W, I, P, F}
-use Rattle.rules.specs.declared.Kind.{Kind}
 use Rattle.rules.specs.declared.Kind.TheVariants.{Count, Entry}
 use Rattle.rules.specs.declared.FieldForm.TheVariants.{Mark}
 use Rattle.rules.specs.Form.{has_form, in_form}
 use Rattle.rules.specs.Sections.{forms, line_fault}
 use Rattle.sheet.specs.declared.plainly.Numbers.{Numbers}
 use Rattle.sheet.specs.declared.plainly.FaceLine.{FaceLine}
-use Rattle.sheet.specs.declared.said.Said.{Said}
 use Rattle.sheet.specs.declared.said.Counted.{Counted}
 
 -- the numbers of a line's six fields, 0 for one that it has not
@@ -66,18 +64,20 @@ wind_in v = record { direction = get_or v 0 (pos 0); speed = get_or v 1 (pos 0) 
 abbrev pub step_in : List ℤ → Step
 step_in v = record { height = get_or v 0 (pos 0); factor = get_or v 1 (pos 0) }
 
--- what a line says as an entry of a section, and as its count line
-abbrev pub entry_said : Section → Before → Line → Said
-entry_said t b x =
-    record {
-      fault = line_fault (Entry t) b (held x);
-      next = x.next;
-      number = says_of t (has_heights b.year) (held x);
-    }
+-- what is said where no fault is, and the fault where one is
+abbrev pub unless : {A : Type 0} → ℕ → A → Result A ℕ
+unless zero x = Ok x
+unless (suc fault) x = Err (suc fault)
 
-abbrev pub count_said : Section → Before → Line → Counted
+-- what a line says as an entry of a section, and as its count line
+abbrev pub entry_said : Section → Before → Line → Result Numbers ℕ
+entry_said t b x =
+    unless (line_fault (Entry t) b (held x))
+    (record { next = x.next; number = says_of t (has_heights b.year) (held x) })
+
+abbrev pub count_said : Section → Before → Line → Result Counted ℕ
 count_said t b x =
-    record { fault = line_fault (Count t) b (held x); next = x.next; count = size (at (held x) 1) }
+    unless (line_fault (Count t) b (held x)) (record { next = x.next; count = size (at (held x) 1) })
 
 -- ---- a plain line in a text
 
@@ -132,10 +132,6 @@ PlainLine t heights s from w =
     × (in_form (forms heights (Entry t)) (held (line_at s from)) ≡ true)
     × (w.number ≡ says_of t heights (held (line_at s from)))
     × (letter (at (held (line_at s from)) 0) ≤ 90)
-
-abbrev pub face_line : ℕ → ℤ → ℤ → ℤ → ℤ → ℤ → ℕ → FaceLine
-face_line zone mark height x y z next =
-    record { next = next; face = record { zone = zone; mark = mark; height = height; x = x; y = y; z = z } }
 
 -- a face line in form that begins at a place
 abbrev pub PlainFace : Bool → List ℕ → ℕ → FaceLine → Type 0

@@ -16,19 +16,6 @@ pub(crate) struct Rest {
     pub(crate) next: usize,
 }
 
-fn has_faces(sec: Section) -> bool
-    ensures { result ≡ true → sec ≡ Section.F }
-{
-    match sec {
-        Section::V => false,
-        Section::B => false,
-        Section::W => false,
-        Section::I => false,
-        Section::P => false,
-        Section::F => true,
-    }
-}
-
 // At most `count` entries of a section from a place on, put into the list behind so many faces.
 pub(crate) fn faces_from(
     sec: Section,
@@ -44,28 +31,20 @@ pub(crate) fn faces_from(
     ensures { (result.done ≤ count) × (0 < result.done → sec ≡ Section.F)
         × FacesRead s.now b result.done at faces flat.old result.next flat.new }
 {
-    if !ended {
-        return Rest { done: 0, next: at };
-    }
-    if !has_faces(sec) {
-        return Rest { done: 0, next: at };
+    let mut next = at;
+    if !ended || !matches!(sec, Section::F) {
+        return Rest { done: 0, next };
     }
     let heights = has_heights(b.year);
-    let mut done: u32 = 0;
-    let mut next = at;
-    while done < count {
-        let x = face_at(s, next, heights);
-        let to = x.next;
-        if to == 0 {
+    for done in 0..count {
+        let Some(x) = face_at(s, next, heights) else {
+            return Rest { done, next };
+        };
+        if face_fault(b, x.face) != 0 {
             return Rest { done, next };
         }
-        let face = x.face;
-        if face_fault(b, face) != 0 {
-            return Rest { done, next };
-        }
-        put_face(flat, faces + done, face);
-        done += 1;
-        next = to;
+        put_face(flat, faces + done, x.face);
+        next = x.next;
     }
-    Rest { done, next }
+    Rest { done: count, next }
 }

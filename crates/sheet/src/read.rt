@@ -116,11 +116,10 @@ pub fn read_into(s: &[u8], flat: &mut [i64]) -> Head
     for i in 0..section_count(heights) {
         // the count of the section, and as many entries
         let sec = section_at(heights, i);
-        let x = count_said(sec, s, next, b, ended);
-        let n = x.fault;
-        if n != 0 {
-            return refused(Verdict { number: n, line }, flat);
-        }
+        let x = match count_said(sec, s, next, b, ended) {
+            Ok(x) => x,
+            Err(number) => return refused(Verdict { number, line }, flat),
+        };
         line += 1;
         let count = x.count;
         let plain = faces_from(sec, s, x.next, b, ended, flat, faces, count);
@@ -130,11 +129,10 @@ pub fn read_into(s: &[u8], flat: &mut [i64]) -> Head
         faces += done;
         let mut left = count - done;
         while left != 0 {
-            let x = entry_said(sec, s, next, b, ended);
-            let n = x.fault;
-            if n != 0 {
-                return refused(Verdict { number: n, line }, flat);
-            }
+            let x = match entry_said(sec, s, next, b, ended) {
+                Ok(x) => x,
+                Err(number) => return refused(Verdict { number, line }, flat),
+            };
             line += 1;
             next = x.next;
             left -= 1;

@@ -1,5 +1,5 @@
 // What a line says as numbers, its fault, and where the next one begins.
-ghost use Rattle.std.specs.Prelude.{◌≡◌, Bool, true, List, ℕ, ◌≤◌, nat_abs, pos, get_or};
+ghost use Rattle.std.specs.Prelude.{◌≡◌, Bool, true, List, ℕ, ◌≤◌, nat_abs, pos, get_or, IfSome};
 ghost use Rattle.field.specs.declared.Field.{Field};
 ghost use Rattle.lines.specs.Held.{held, line_at};
 ghost use Rattle.building.specs.Fault.{first};
@@ -10,7 +10,7 @@ ghost use Rattle.rules.specs.Sections.{faults_of};
 ghost use Rattle.sheet.specs.Said.{says_of, six_numbers, building_in, wind_in, step_in};
 ghost use Rattle.sheet.specs.Said.{Ended, entry_said, count_said, PlainLine};
 
-use crate::plainly::{Numbers, letter_at, none, number_at, numbers_at};
+use crate::plainly::{Numbers, letter_at, number_at, numbers_at};
 use building::year::has_heights;
 use building::{Building, Dated};
 use entry::says::{face_of, number_of, size_of};
@@ -19,16 +19,9 @@ use lines::{Line, field_at, line_at};
 use rules::faults::line_fault;
 use rules::{Before, Kind, Section, entries};
 
-#[derive(Clone, Copy)]
-pub(crate) struct Said {
-    pub(crate) fault: u32,
-    pub(crate) next: usize,
-    pub(crate) number: [i64; 6],
-}
-
+// What a count line says, and the place behind it.
 #[derive(Clone, Copy)]
 pub(crate) struct Counted {
-    pub(crate) fault: u32,
     pub(crate) next: usize,
     pub(crate) count: u32,
 }
@@ -125,95 +118,79 @@ fn numbers_by(sec: Section, heights: bool, x: Line) -> Numbers
     ensures { result ≡ record { next = x.next; number = says_of sec heights (held x) } }
 {
     match sec {
-        Section::V => numbers_in(x),
-        Section::B => numbers_in(x),
-        Section::W => numbers_in(x),
-        Section::I => numbers_in(x),
-        Section::P => numbers_in(x),
         Section::F => numbers_of(face_of(heights, x), x),
+        _ => numbers_in(x),
     }
 }
 
 // Of any line, field by field.
-fn by_fields(sec: Section, s: &[u8], at: usize, b: Before) -> Said
+fn by_fields(sec: Section, s: &[u8], at: usize, b: Before) -> Result<Numbers, u32>
     ensures { result ≡ entry_said sec b (line_at s.now at) }
 {
     let x = line_at(s, at);
-    let fault = line_fault(Kind::Entry(sec), b, x);
-    let w = numbers_by(sec, has_heights(b.year), x);
-    let number = w.number;
-    Said {
-        fault,
-        next: w.next,
-        number,
+    match line_fault(Kind::Entry(sec), b, x) {
+        0 => Ok(numbers_by(sec, has_heights(b.year), x)),
+        fault => Err(fault),
     }
 }
 
 // Of a plain line in a text that ends in LF. Plain face lines are read in a loop of their own.
-fn entry_at(sec: Section, s: &[u8], at: usize, ended: bool) -> Numbers
+fn entry_at(sec: Section, s: &[u8], at: usize, ended: bool) -> Option<Numbers>
     requires { ended ≡ true → Ended s.now }
-    ensures { (result.next ≡ 0 → ⊥) → (heights : Bool) → PlainLine sec heights s.now at result }
+    ensures { IfSome result (λ w. (heights : Bool) → PlainLine sec heights s.now at w) }
 {
     if !ended {
-        return none();
+        return None;
     }
     match sec {
-        Section::V => numbers_at(s, at, 1),
+        Section::V | Section::I => numbers_at(s, at, 1),
+        Section::W | Section::P => numbers_at(s, at, 2),
         Section::B => numbers_at(s, at, 6),
-        Section::W => numbers_at(s, at, 2),
-        Section::I => numbers_at(s, at, 1),
-        Section::P => numbers_at(s, at, 2),
-        Section::F => none(),
+        Section::F => None,
     }
 }
 
-pub(crate) fn entry_said(sec: Section, s: &[u8], at: usize, b: Before, ended: bool) -> Said
+pub(crate) fn entry_said(sec: Section, s: &[u8], at: usize, b: Before, ended: bool) -> Result<Numbers, u32>
     requires { ended ≡ true → Ended s.now }
     ensures { result ≡ entry_said sec b (line_at s.now at) }
 {
-    let w = entry_at(sec, s, at, ended);
-    if w.next == 0 {
+    let Some(w) = entry_at(sec, s, at, ended) else {
         return by_fields(sec, s, at, b);
-    }
-    let number = w.number;
-    let fault = fault_of(sec, b, number);
-    Said {
-        fault,
-        next: w.next,
-        number,
+    };
+    match fault_of(sec, b, w.number) {
+        0 => Ok(w),
+        fault => Err(fault),
     }
 }
 
-fn count_by_fields(sec: Section, s: &[u8], at: usize, b: Before) -> Counted
+fn count_by_fields(sec: Section, s: &[u8], at: usize, b: Before) -> Result<Counted, u32>
     ensures { result ≡ count_said sec b (line_at s.now at) }
 {
     let x = line_at(s, at);
-    Counted {
-        fault: line_fault(Kind::Count(sec), b, x),
-        next: x.next,
-        count: size_of(field_at(x, 1)),
+    match line_fault(Kind::Count(sec), b, x) {
+        0 => Ok(Counted {
+            next: x.next,
+            count: size_of(field_at(x, 1)),
+        }),
+        fault => Err(fault),
     }
 }
 
-pub(crate) fn count_said(sec: Section, s: &[u8], at: usize, b: Before, ended: bool) -> Counted
+pub(crate) fn count_said(sec: Section, s: &[u8], at: usize, b: Before, ended: bool) -> Result<Counted, u32>
     requires { ended ≡ true → Ended s.now }
     ensures { result ≡ count_said sec b (line_at s.now at) }
 {
-    if !ended {
-        return count_by_fields(sec, s, at, b);
+    if ended
+        && let Some(letter) = letter_at(s, at)
+        && let Some(w) = number_at(s, at + 2, 10)
+    {
+        return match entries::count_fault(b.year, sec, letter, w.z) {
+            0 => Ok(Counted {
+                next: w.end,
+                count: whole::magnitude(w.z) as u32,
+            }),
+            fault => Err(fault),
+        };
     }
-    let letter = letter_at(s, at);
-    if letter == 0 {
-        return count_by_fields(sec, s, at, b);
-    }
-    let w = number_at(s, at + 2, 10);
-    if w.end == 0 {
-        return count_by_fields(sec, s, at, b);
-    }
-    let z = w.z;
-    Counted {
-        fault: entries::count_fault(b.year, sec, letter, z),
-        next: w.end,
-        count: whole::magnitude(z) as u32,
-    }
+    count_by_fields(sec, s, at, b)
 }

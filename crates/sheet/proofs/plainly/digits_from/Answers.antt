@@ -1,26 +1,8 @@
 -- `digits_from` meets its contract: the digits passed are those of a number, which has at most seven.
-use mathlib.Core.Path.{refl, ◌∙◌}
+use mathlib.Core.Path.{◌∙◌}
 use native.Mathlib.Omega.{arith}
 use Rattle.sheet.proofs.Plain.{digit-on, on}
 use Rattle.sheet.proofs.plainly.digits_from.Goals as goal
-
-pub loop-n-init : goal.loop-n-init
-loop-n-init c = (c.requires.1, c.requires.2, omega arith, refl)
-
-pub returns-then-b-lt48 : goal.returns-then-b-lt48
-returns-then-b-lt48 c = let v = c.loop-n.invariant in (v.0, v.2, v.3)
-
-pub returns-then-b-gt57 : goal.returns-then-b-gt57
-returns-then-b-gt57 c = let v = c.loop-n.invariant in (v.0, v.2, v.3)
-
-pub overflow_mul-n : goal.overflow_mul-n
-overflow_mul-n c = omega arith
-
-pub overflow_add-n : goal.overflow_add-n
-overflow_add-n c = omega arith
-
-pub loop-n-smaller : goal.loop-n-smaller
-loop-n-smaller c = omega arith
 
 pub loop-n-preserved : goal.loop-n-preserved
 loop-n-preserved c =
@@ -36,6 +18,3 @@ loop-n-preserved c =
           ∙ digit-on s i v.0 (omega (arith, b, c.if-b-lt48.false)) (omega (arith, b, c.if-b-gt57.false)) c.loop-n.n
           v.1),
     )
-
-pub returns : goal.returns
-returns c = let v = c.loop-n.invariant in (v.0, v.2, v.3)

@@ -1,6 +1,6 @@
 -- `numbers_at` meets its contract: the text passed is that of the numbers read, with a space between two and LF behind
 -- the last.
-use Prim.Native.Nat.{ℕ, ◌-◌, ◌≤◌, ◌<◌}
+use Prim.Native.Nat.{ℕ, ◌≤◌, ◌<◌}
 use mathlib.Core.Path.{◌≡◌}
 use mathlib.Core.Bool.{cond}
 use mathlib.Core.List.{◌++◌}
@@ -14,9 +14,7 @@ use Rattle.sheet.proofs.plainly.numbers_at.Given as goal
 
 abbrev pub invariant-loop-k : goal.invariant-loop-k
 invariant-loop-k l =
-    (l.k ≤ l.count) × (length l.number ≡ 6) × (l.next ≤ length l.s) × (l.k < l.count → l.next < length l.s)
+    (length l.number ≡ 6) × (l.next ≤ length l.s) × (l.k < l.count → l.next < length l.s)
     × ((i : ℕ) → l.k ≤ i → i < 6 → get_or l.number i (pos 0) ≡ pos 0) × Every Short (take l.k l.number)
     × (drop l.at l.s ≡ passed (cond (eqb l.k l.count) 10 32) (take l.k l.number) ++ drop l.next l.s)
 
-abbrev pub decreases-loop-k : goal.decreases-loop-k
-decreases-loop-k l = l.count - l.k
