@@ -9,7 +9,6 @@ use Rattle.book.specs.declared.Ends.{Ends}
 use Rattle.book.specs.Answer.{values_of}
 use Rattle.book.specs.Question.{outside_of}
 use Rattle.worst.specs.declared.outside.Outside.{Outside}
-use Rattle.worst.specs.declared.outside.Table.{Table}
 
 -- the first and the last of a zone's outside coefficients, which are one where it has one
 abbrev pub first_and_last : List ℤ → Outside
@@ -45,13 +44,13 @@ abbrev pub ends_kept : Ends → Outside
 ends_kept o = record { first = o.first; last = o.last }
 
 -- at a place stands what it is for
-abbrev pub Stands : Building → Table → ℕ → Type 0
-Stands b t k = get_or t.place k None ≡ Some (outside_at b (direction_at k) (zone_at k))
+abbrev pub Stands : Building → List (Option Outside) → ℕ → Type 0
+Stands b place k = get_or place k None ≡ Some (outside_at b (direction_at k) (zone_at k))
 
--- what stands in the table is right
-pub record Filled (b : Building) (t : Table) : Type 0 where
-  pub all : length t.place ≡ places
-  pub right : (k : ℕ) (o : Outside) → get_or t.place k None ≡ Some o → Stands b t k
+-- whatever stands there is right
+pub record Filled (b : Building) (place : List (Option Outside)) : Type 0 where
+  pub all : length place ≡ places
+  pub right : (k : ℕ) (o : Outside) → get_or place k None ≡ Some o → o ≡ outside_at b (direction_at k) (zone_at k)
 
 -- the four zones of a half are looked up at once: those of the walls begin at A, and those of the roof at E
 pub data Begins (zone : ℕ) : Type 0 where

@@ -10,7 +10,6 @@ ghost use Rattle.worst.specs.Shown.{padded};
 ghost use Rattle.worst.specs.Engine.{pick, pick_of, top_at, extreme_with, six_with, case_wind, six_winds, six_of};
 ghost use Rattle.worst.specs.Small.{OutsideSmall, Weight, Met, Ready, OnJob};
 ghost use Rattle.worst.specs.Lent.{faces_by, job_by, Numbered, Lent, Blank};
-ghost use Rattle.worst.specs.Table.{Filled};
 ghost use Rattle.worst.specs.Factors.{profile_of, Fraction, FactorsStand, Fractions};
 
 use crate::faces::{face_in, zone_in};
@@ -204,7 +203,7 @@ pub(crate) fn shown(
         × Fractions (faces_by faces flat.now) parts.now wholes.now
         × FactorsStand (profile_of (job_by s faces flat.now)) (faces_by faces flat.now) parts.now wholes.now
         × ((axis : Axis) (side : Side) → OnJob (job_by s faces flat.now) (top_at axis side ends))
-        × Filled s.building table.old }
+        × (table.old.building ≡ s.building) }
     ensures { result ≡ six_of (job_by s faces flat.now) ends }
 {
     let count = faces as usize;
@@ -213,7 +212,7 @@ pub(crate) fn shown(
         let all = firsts(count);
         return six_cases(ends, faces, all, all, all, all, all, all);
     }
-    let under = six_winds(s.building, s.winds, ends, table);
+    let under = six_winds(table, s.winds, ends);
     let mut x_high = [0u8; 240];
     let mut x_low = [0u8; 240];
     let mut y_high = [0u8; 240];

@@ -9,7 +9,6 @@ ghost use Rattle.worst.specs.declared.Axis.{Axis};
 ghost use Rattle.worst.specs.declared.Side.{Side};
 ghost use Rattle.worst.specs.Worst.{six_extremes};
 ghost use Rattle.worst.specs.Stored.{stored_of, six_by};
-ghost use Rattle.worst.specs.Table.{Filled};
 ghost use Rattle.worst.specs.Lent.{faces_by, job_by, Numbered, Lent};
 ghost use Rattle.worst.specs.Factors.{AllOne, profile_of, FactorsStand};
 ghost use Rattle.worst.specs.Engine.{top_of, top_at, best_up_to};
@@ -39,7 +38,7 @@ fn all_cells(
 ) -> Stored
     requires { Lent faces flat.now parts.now wholes.now × InOrder (carried (job_by s faces flat.now))
         × FactorsStand (profile_of (job_by s faces flat.now)) (faces_by faces flat.now) parts.now wholes.now
-        × Filled s.building table.old }
+        × (table.old.building ≡ s.building) }
     ensures { result ≡ stored_of (carried (job_by s faces flat.now)) }
 {
     let b = s.building;
@@ -77,11 +76,11 @@ fn best_cells(
 ) -> Ends
     requires { Lent faces flat.now parts.now wholes.now × InOrder (carried (job_by s faces flat.now))
         × FactorsStand (profile_of (job_by s faces flat.now)) (faces_by faces flat.now) parts.now wholes.now
-        × Filled s.building table.old }
+        × (table.old.building ≡ s.building) }
     ensures { ((axis : Axis) (side : Side) → top_of (top_at axis side result)
         ≡ best_up_to axis side (stored_of (carried (job_by s faces flat.now))) s.internals.count
         s.winds.count)
-        × ProperEnds result × Filled s.building table.new }
+        × ProperEnds result × (table.new.building ≡ s.building) }
 {
     let b = s.building;
     let winds = s.winds;
@@ -111,11 +110,11 @@ fn few_best(
     requires { (faces ≤ 24) × Lent faces flat.now parts.now wholes.now
         × InOrder (carried (job_by s faces flat.now))
         × FactorsStand (profile_of (job_by s faces flat.now)) (faces_by faces flat.now) parts.now wholes.now
-        × Filled s.building table.old }
+        × (table.old.building ≡ s.building) }
     ensures { ((axis : Axis) (side : Side) → top_of (top_at axis side result)
         ≡ best_up_to axis side (stored_of (carried (job_by s faces flat.now))) s.internals.count
         s.winds.count)
-        × ProperEnds result × Filled s.building table.new }
+        × ProperEnds result × (table.new.building ≡ s.building) }
 {
     let b = s.building;
     let winds = s.winds;
@@ -144,11 +143,11 @@ fn best(
 ) -> Ends
     requires { Lent faces flat.now parts.now wholes.now × InOrder (carried (job_by s faces flat.now))
         × FactorsStand (profile_of (job_by s faces flat.now)) (faces_by faces flat.now) parts.now wholes.now
-        × Filled s.building table.old }
+        × (table.old.building ≡ s.building) }
     ensures { ((axis : Axis) (side : Side) → top_of (top_at axis side result)
         ≡ best_up_to axis side (stored_of (carried (job_by s faces flat.now))) s.internals.count
         s.winds.count)
-        × ProperEnds result × Filled s.building table.new }
+        × ProperEnds result × (table.new.building ≡ s.building) }
 {
     if faces <= 24 {
         return few_best(s, faces, flat, parts, wholes, table);
@@ -164,7 +163,7 @@ pub(crate) fn sums_of(s: Setting, faces: u32, flat: &[i64]) -> Stored
     let mut parts = [1i64; 240];
     let mut wholes = [1i64; 240];
     fill(s, faces, flat, &mut parts, &mut wholes);
-    let mut table = Table::new();
+    let mut table = Table::new(s.building);
     all_cells(s, faces, flat, &parts, &wholes, &mut table)
 }
 
@@ -177,7 +176,7 @@ pub(crate) fn six_by(s: Setting, faces: u32, flat: &[i64], stored: Stored) -> Si
     let mut parts = [1i64; 240];
     let mut wholes = [1i64; 240];
     fill(s, faces, flat, &mut parts, &mut wholes);
-    let mut table = Table::new();
+    let mut table = Table::new(s.building);
     shown(s, faces, flat, ends, &parts, &wholes, &mut table)
 }
 
@@ -188,7 +187,7 @@ fn own_six(s: Setting, faces: u32, flat: &[i64], parts: &mut [i64], wholes: &mut
     ensures { result ≡ six_extremes (carried (job_by s faces flat.now)) }
 {
     fill(s, faces, flat, parts, wholes);
-    let mut table = Table::new();
+    let mut table = Table::new(s.building);
     let ends = best(s, faces, flat, parts, wholes, &mut table);
     shown(s, faces, flat, ends, parts, wholes, &mut table)
 }
@@ -202,7 +201,7 @@ pub(crate) fn few_six(s: Setting, faces: u32, flat: &[i64]) -> Six
     let mut parts = [1i64; 24];
     let mut wholes = [1i64; 24];
     fill(s, faces, flat, &mut parts, &mut wholes);
-    let mut table = Table::new();
+    let mut table = Table::new(s.building);
     let ends = few_best(s, faces, flat, &parts, &wholes, &mut table);
     shown(s, faces, flat, ends, &parts, &wholes, &mut table)
 }

@@ -6,7 +6,6 @@ ghost use Rattle.whole.specs.Lists.{first_of};
 ghost use Rattle.entry.specs.declared.Step.{Step};
 ghost use Rattle.entry.specs.Flat.{faces_in};
 ghost use Rattle.job.specs.Carried.{no_face};
-ghost use Rattle.worst.specs.Table.{Filled};
 ghost use Rattle.worst.specs.Sums.{no_axes, plus_axes};
 ghost use Rattle.worst.specs.Few.{few_in, few_axes, FewAxisSmall, FewSmall};
 ghost use Rattle.worst.specs.Lent.{faces_by, Lent};
@@ -88,13 +87,13 @@ fn with_face(
     f: Face,
     table: &mut Table,
 ) -> FewSums
-    requires { FewSmall 23 sums × Met b w f × Fraction factor × Filled b table.old }
+    requires { FewSmall 23 sums × Met b w f × Fraction factor × (table.old.building ≡ b) }
     ensures { (few_axes result ≡ with_face b w factor f (few_axes sums))
         × ((n : ℕ) → FewSmall n sums → FewSmall (n + 1) result)
-        × Filled b table.new }
+        × (table.new.building ≡ b) }
 {
     if takes_part(f, w) {
-        let o = table.found(b, w, f.zone);
+        let o = table.found(w, f.zone);
         let p = pressure_of(b, w, factor);
         return with_pressure(sums, f, o, p);
     }
@@ -130,13 +129,13 @@ pub(crate) fn few_added(
 ) -> FewSums
     requires { Lent to flat.now parts.now wholes.now × (from ≤ to) × (to ≤ from + 24)
         × AllMet b (faces_by to flat.now) w × Fractions (faces_by to flat.now) parts.now wholes.now
-        × Filled b table.old }
+        × (table.old.building ≡ b) }
     ensures { FewSmall (to - from) result
         × ((profile : List Step)
         → FactorsStand profile (faces_by to flat.now) parts.now wholes.now
         → plus_axes (axes_of b profile w (first_of no_face from (faces_in to flat.now))) (few_axes result)
         ≡ axes_of b profile w (faces_of (faces_by to flat.now)))
-        × Filled b table.new }
+        × (table.new.building ≡ b) }
 {
     let mut sums = none();
     let mut i = from;

@@ -1,9 +1,7 @@
 // The outside coefficients. Those of a direction and the zones of the walls, or of the roof, are looked up when a face
 // first asks for one of them, and then stand in a table, at the place of the direction and the zone.
-ghost use Rattle.std.specs.Prelude.{◌≡◌, ℕ, Some, ◌+◌, ◌<◌, ◌≤◌, pos, set};
-ghost use Rattle.building.specs.declared.Building.{Building};
+ghost use Rattle.std.specs.Prelude.{◌≡◌, ℕ, Some, ◌+◌, ◌<◌, ◌≤◌, set};
 ghost use Rattle.building.specs.Places.{A, H};
-ghost use Rattle.building.specs.Year.{last_year};
 ghost use Rattle.book.specs.Zones.{four_from};
 ghost use Rattle.worst.specs.Table.{outside_at, places, place_of, Placed, ends_kept, Stands, Filled, Begins};
 ghost use Rattle.worst.specs.Forces.{acts};
@@ -20,10 +18,12 @@ pub struct Outside {
     pub last: i64,
 }
 
-// Those of one building that were asked for, each at its place.
-#[derive(Clone, Copy)]
+// Those of a building that were asked for, each at its place.
+#[derive(Drop)]
 pub(crate) struct Table {
+    pub building: Building,
     place: [Option<Outside>; 40],
+    ghost filled: { Filled building place },
 }
 
 // Whether a face takes part under a wind.
@@ -67,54 +67,58 @@ fn half_of(zone: u8) -> u8
     b'E'
 }
 
+fn keep(place: &mut [Option<Outside>; 40], k: usize, o: Ends)
+    requires { k < places }
+    ensures { place.new ≡ set place.old k (Some (ends_kept o)) }
+{
+    let kept = Outside {
+        first: o.first as i64,
+        last: o.last as i64,
+    };
+    place[k] = Some(kept);
+}
+
 impl Table {
     // One in which nothing stands yet.
-    pub(crate) fn new() -> Table
-        ensures { (b : Building) → Filled b result }
+    pub(crate) fn new(building: Building) -> Table
+        ensures { result.building ≡ building }
     {
-        Table { place: [None; 40] }
-    }
-
-    fn keep(&mut self, o: Ends, k: usize)
-        requires { k < places }
-        ensures { self.new.place ≡ set self.old.place k (Some (ends_kept o)) }
-    {
-        let kept = Outside {
-            first: o.first as i64,
-            last: o.last as i64,
-        };
-        self.place[k] = Some(kept);
+        Table {
+            building,
+            place: [None; 40],
+        }
     }
 
     // The four zones of the walls or of the roof, which stand in the table from then on.
-    fn fill(&mut self, d: Dated, direction: i64, from: u8)
-        requires { (d.year ≡ pos last_year) × Begins from × Placed direction from × Filled d.building self.old }
-        ensures { Filled d.building self.new
-            × ((j : ℕ) → j < 4 → Stands d.building self.new (place_of direction from + j)) }
+    fn fill(&mut self, direction: i64, from: u8)
+        requires { Begins from × Placed direction from }
+        ensures { (self.new.building ≡ self.old.building)
+            × ((j : ℕ) → j < 4 → Stands self.old.building self.new.place (place_of direction from + j)) }
     {
+        // The year does not change what a building in order has: each is asked for by the last year's reading.
+        let d = Dated {
+            year: LAST_YEAR,
+            building: self.building,
+        };
         let four = looked_up(d, direction, from);
         let k = place_of(direction, from);
-        self.keep(four.first, k);
-        self.keep(four.second, k + 1);
-        self.keep(four.third, k + 2);
-        self.keep(four.fourth, k + 3);
+        keep(&mut self.place, k, four.first);
+        keep(&mut self.place, k + 1, four.second);
+        keep(&mut self.place, k + 2, four.third);
+        keep(&mut self.place, k + 3, four.fourth);
     }
 
     // The coefficients of a zone under a wind, which stand in the table from then on.
-    pub(crate) fn found(&mut self, b: Building, w: Wind, zone: u8) -> Outside
-        requires { Placed w.direction zone × Filled b self.old }
-        ensures { (result ≡ outside_at b w.direction zone) × Filled b self.new }
+    pub(crate) fn found(&mut self, w: Wind, zone: u8) -> Outside
+        requires { Placed w.direction zone }
+        ensures { (result ≡ outside_at self.old.building w.direction zone)
+            × (self.new.building ≡ self.old.building) }
     {
         let k = place_of(w.direction, zone);
         if let Some(o) = self.place[k] {
             return o;
         }
-        // The year does not change what a building in order has: each is asked for by the last year's reading.
-        let d = Dated {
-            year: LAST_YEAR,
-            building: b,
-        };
-        self.fill(d, w.direction, half_of(zone));
+        self.fill(w.direction, half_of(zone));
         self.place[k].unwrap()
     }
 }

@@ -3,7 +3,6 @@ ghost use Rattle.std.specs.Prelude.{◌≡◌, List, ℕ, ◌+◌, ◌≤◌, �
 ghost use Rattle.entry.specs.declared.Step.{Step};
 ghost use Rattle.worst.specs.Speed.{speed_at};
 ghost use Rattle.worst.specs.Forces.{pressure};
-ghost use Rattle.worst.specs.Table.{Filled};
 ghost use Rattle.worst.specs.Sums.{no_axes, plus_sums, plus_axes};
 ghost use Rattle.worst.specs.Few.{few_in, few_axes, FewAxisSmall, FewSmall};
 ghost use Rattle.worst.specs.Amounts.{sums_in, axes_in, AxisSumsSmall, AllSumsSmall};
@@ -111,12 +110,12 @@ pub(crate) fn added(
 ) -> AllSums
     requires { Lent faces flat.now parts.now wholes.now × AllMet b (faces_by faces flat.now) w
         × Fractions (faces_by faces flat.now) parts.now wholes.now
-        × Filled b table.old }
+        × (table.old.building ≡ b) }
     ensures { AllSumsSmall 240 result
         × ((profile : List Step)
         → FactorsStand profile (faces_by faces flat.now) parts.now wholes.now
         → axes_in result ≡ axes_of b profile w (faces_of (faces_by faces flat.now)))
-        × Filled b table.new }
+        × (table.new.building ≡ b) }
 {
     let count = faces as usize;
     let mut sums = nothing();

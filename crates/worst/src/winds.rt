@@ -5,11 +5,10 @@ ghost use Rattle.worst.specs.declared.Axis.{Axis};
 ghost use Rattle.worst.specs.declared.Side.{Side};
 ghost use Rattle.worst.specs.Engine.{top_at, case_wind, six_winds};
 ghost use Rattle.worst.specs.Small.{Reached};
-ghost use Rattle.worst.specs.Table.{Placed, Filled};
+ghost use Rattle.worst.specs.Table.{Placed};
 
 use crate::outside::{Outside, Table};
 use crate::tops::Ends;
-use building::Building;
 use entry::Wind;
 use job::Winds;
 
@@ -33,29 +32,28 @@ pub struct SixWinds {
     pub z: CaseWinds,
 }
 
-fn case_wind(b: Building, wind: Wind, table: &mut Table) -> CaseWind
-    requires { Placed wind.direction F × Filled b table.old }
-    ensures { (result ≡ case_wind b wind) × Filled b table.new }
+fn case_wind(table: &mut Table, wind: Wind) -> CaseWind
+    requires { Placed wind.direction F }
+    ensures { (result ≡ case_wind table.old.building wind) × (table.new.building ≡ table.old.building) }
 {
-    let outside = table.found(b, wind, b'F');
+    let outside = table.found(wind, b'F');
     CaseWind { wind, outside }
 }
 
-fn case_winds(b: Building, up: Wind, down: Wind, table: &mut Table) -> CaseWinds
-    requires { Placed up.direction F × Placed down.direction F
-        × Filled b table.old }
-    ensures { (result ≡ record { greatest = case_wind b up; least = case_wind b down })
-        × Filled b table.new }
+fn case_winds(table: &mut Table, up: Wind, down: Wind) -> CaseWinds
+    requires { Placed up.direction F × Placed down.direction F }
+    ensures { (result
+        ≡ record { greatest = case_wind table.old.building up; least = case_wind table.old.building down })
+        × (table.new.building ≡ table.old.building) }
 {
-    let greatest = case_wind(b, up, table);
-    let least = case_wind(b, down, table);
+    let greatest = case_wind(table, up);
+    let least = case_wind(table, down);
     CaseWinds { greatest, least }
 }
 
-pub(crate) fn six_winds(b: Building, winds: Winds, ends: Ends, table: &mut Table) -> SixWinds
-    requires { ((axis : Axis) (s : Side) → Reached winds (top_at axis s ends))
-        × Filled b table.old }
-    ensures { result ≡ six_winds b winds ends }
+pub(crate) fn six_winds(table: &mut Table, winds: Winds, ends: Ends) -> SixWinds
+    requires { (axis : Axis) (s : Side) → Reached winds (top_at axis s ends) }
+    ensures { result ≡ six_winds table.old.building winds ends }
 {
     let x_up = winds.entry[(ends.x.greatest.wind - 1) as usize];
     let x_down = winds.entry[(ends.x.least.wind - 1) as usize];
@@ -63,8 +61,8 @@ pub(crate) fn six_winds(b: Building, winds: Winds, ends: Ends, table: &mut Table
     let y_down = winds.entry[(ends.y.least.wind - 1) as usize];
     let z_up = winds.entry[(ends.z.greatest.wind - 1) as usize];
     let z_down = winds.entry[(ends.z.least.wind - 1) as usize];
-    let x = case_winds(b, x_up, x_down, table);
-    let y = case_winds(b, y_up, y_down, table);
-    let z = case_winds(b, z_up, z_down, table);
+    let x = case_winds(table, x_up, x_down);
+    let y = case_winds(table, y_up, y_down);
+    let z = case_winds(table, z_up, z_down);
     SixWinds { x, y, z }
 }

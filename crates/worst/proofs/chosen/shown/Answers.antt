@@ -19,7 +19,7 @@ use Rattle.worst.specs.declared.Side.TheVariants.{Greatest, Least}
 use Rattle.worst.specs.declared.speeds.Factor.{Factor}
 use Rattle.worst.specs.Shown.{padded}
 use Rattle.worst.specs.Forces.{factor_of}
-use Rattle.worst.specs.Engine.{pick_of, top_at, wind_numbered, alternatives_at, six_with}
+use Rattle.worst.specs.Engine.{pick_of, top_at, wind_numbered, alternatives_at, six_winds, six_with}
 use Rattle.worst.specs.Factors.{profile_of}
 use Rattle.worst.specs.Small.{Met, Reached}
 use Rattle.worst.specs.Table.{Placed}
@@ -96,7 +96,7 @@ six_winds-under-requires c =
     let t = c.if-before-count.false in
     let told = c.before_f-before.ensures in
     let some : c.before_f-before.result < c.args.faces = omega (arith, told.0) in
-    ((λ axis s. reached at_start axis s c.before_f-before.result some (told.2 some)), c.requires.5)
+    λ axis s. reached at_start axis s c.before_f-before.result some (told.2 some)
 
 pub all_chosen-requires : goal.all_chosen-requires
 all_chosen-requires c =
@@ -106,7 +106,7 @@ all_chosen-requires c =
       p.2,
       p.3,
       p.4,
-      c.six_winds-under.ensures,
+      c.six_winds-under.ensures ∙ ap (λ b. six_winds b c.args.s.winds c.args.ends) p.5,
       record { x-high = refl; x-low = refl; y-high = refl; y-low = refl; z-high = refl; z-low = refl },
     )
 

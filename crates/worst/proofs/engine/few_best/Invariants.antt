@@ -8,7 +8,6 @@ use Rattle.job.specs.declared.Internals.{Internals}
 use Rattle.worst.specs.declared.Axis.{Axis}
 use Rattle.worst.specs.declared.Side.{Side}
 use Rattle.worst.specs.declared.StoredCell.{StoredCell}
-use Rattle.worst.specs.Table.{Filled}
 use Rattle.worst.specs.FewTops.{few_top_of, few_top_at}
 use Rattle.worst.specs.Inside.{Furthest}
 use Rattle.worst.specs.Stored.{cells_of}
@@ -20,7 +19,7 @@ use Rattle.worst.proofs.engine.few_best.Given as goal
 
 abbrev pub invariant-loop-w : goal.invariant-loop-w
 invariant-loop-w l =
-    (l.w ≤ l.count) × Filled l.b l.table
+    (l.w ≤ l.count) × (l.table.building ≡ l.b)
     × ((profile : List Step) → FactorsStand profile (faces_by l.faces l.flat) l.parts l.wholes → (is : Internals)
     → is.count ≤ 4 → Furthest is is.count l.insides → (h : ℕ → StoredCell)
     → CellsReckoned l.b profile l.winds is (faces_by l.faces l.flat) h → (axis : Axis) (side : Side)

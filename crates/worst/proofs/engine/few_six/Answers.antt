@@ -66,7 +66,7 @@ fill-requires c =
 pub few_best-ends-requires : goal.few_best-ends-requires
 few_best-ends-requires c =
     let at_fill = (goal.at.few_best-ends-requires c).After-fill in
-    (c.requires.0, lent at_fill, c.requires.2, c.fill.ensures, c.new-table.ensures _)
+    (c.requires.0, lent at_fill, c.requires.2, c.fill.ensures, c.new-table.ensures)
 
 pub shown-requires : goal.shown-requires
 shown-requires c =

@@ -51,7 +51,7 @@ best-ends-requires c =
       },
       c.requires.2,
       c.fill.ensures,
-      c.new-table.ensures _,
+      c.new-table.ensures,
     )
 
 pub shown-requires : goal.shown-requires

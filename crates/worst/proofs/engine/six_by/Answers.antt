@@ -54,7 +54,7 @@ shown-requires c =
       λ i t. subst Fraction (sym (c.fill.ensures i t)) ((ready at_start).factors i t),
       c.fill.ensures,
       λ axis s. (top (goal.at.shown-requires c).After-over_winds-ends axis s).on_job,
-      c.new-table.ensures _,
+      c.new-table.ensures,
     )
 
 pub returns : goal.returns

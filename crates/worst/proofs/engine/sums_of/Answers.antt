@@ -24,7 +24,7 @@ all_cells-requires c =
       },
       c.requires.1,
       c.fill.ensures,
-      c.new-table.ensures _,
+      c.new-table.ensures,
     )
 
 pub returns : goal.returns

@@ -8,7 +8,6 @@ use Rattle.entry.specs.declared.Step.{Step}
 use Rattle.entry.specs.Flat.{faces_in}
 use Rattle.job.specs.Carried.{no_face}
 use Rattle.worst.specs.Sums.{plus_axes}
-use Rattle.worst.specs.Table.{Filled}
 use Rattle.worst.specs.Few.{few_axes, FewSmall}
 use Rattle.worst.specs.Engine.{axes_of}
 use Rattle.worst.specs.Lent.{faces_by}
@@ -21,7 +20,7 @@ invariant-loop-i l =
     × ((profile : List Step) → FactorsStand profile (faces_by l.to l.flat) l.parts l.wholes
     → plus_axes (axes_of l.b profile l.w (first_of no_face l.from (faces_in l.to l.flat))) (few_axes l.sums)
     ≡ axes_of l.b profile l.w (first_of no_face l.i (faces_in l.to l.flat)))
-    × Filled l.b l.table
+    × (l.table.building ≡ l.b)
 
 abbrev pub decreases-loop-i : goal.decreases-loop-i
 decreases-loop-i l = l.to - l.i

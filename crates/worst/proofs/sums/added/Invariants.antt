@@ -6,7 +6,6 @@ use Rattle.whole.specs.Lists.{first_of}
 use Rattle.entry.specs.declared.Step.{Step}
 use Rattle.entry.specs.Flat.{faces_in}
 use Rattle.job.specs.Carried.{no_face}
-use Rattle.worst.specs.Table.{Filled}
 use Rattle.worst.specs.Amounts.{axes_in, AllSumsSmall}
 use Rattle.worst.specs.Engine.{axes_of}
 use Rattle.worst.specs.Lent.{faces_by}
@@ -18,7 +17,7 @@ invariant-loop-i l =
     (l.i ≤ l.count) × AllSumsSmall l.i l.sums
     × ((profile : List Step) → FactorsStand profile (faces_by l.faces l.flat) l.parts l.wholes
     → axes_in l.sums ≡ axes_of l.b profile l.w (first_of no_face l.i (faces_in l.faces l.flat)))
-    × Filled l.b l.table
+    × (l.table.building ≡ l.b)
 
 abbrev pub decreases-loop-i : goal.decreases-loop-i
 decreases-loop-i l = l.count - l.i

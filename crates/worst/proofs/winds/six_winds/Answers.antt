@@ -1,18 +1,19 @@
 -- `winds::six_winds` meets its contract: each case's wind has its number, and zone F a place under it.
+use mathlib.Core.Path.{ap, ◌∙◌}
 use Prim.Native.Nat.{◌<◌}
 use native.Mathlib.Omega.{arith}
 use Rattle.worst.specs.declared.Axis.{Axis}
 use Rattle.worst.specs.declared.Axis.TheVariants.{X, Y, Z}
 use Rattle.worst.specs.declared.Side.{Side}
 use Rattle.worst.specs.declared.Side.TheVariants.{Greatest, Least}
-use Rattle.worst.specs.Engine.{top_at}
+use Rattle.worst.specs.Engine.{top_at, case_winds}
 use Rattle.worst.proofs.winds.six_winds.Goals.{Start}
 use Rattle.worst.proofs.winds.six_winds.Goals as goal
 
 numbered : (a : Start) (axis : Axis) (s : Side)
     → let t = top_at axis s a.args.ends in
     (0 < t.wind) × (t.wind < 9)
-numbered a axis s = let on = a.requires.0 axis s in (on.some, on.few)
+numbered a axis s = let on = a.requires axis s in (on.some, on.few)
 
 pub overflow_sub-x_up : goal.overflow_sub-x_up
 overflow_sub-x_up c = let h = numbered (goal.at.overflow_sub-x_up c).Start X Greatest in omega arith
@@ -59,14 +60,22 @@ pub bounds-winds-ends-6 : goal.bounds-winds-ends-6
 bounds-winds-ends-6 c = let h = numbered (goal.at.bounds-winds-ends-6 c).Start Z Least in omega arith
 
 pub case_winds-x-requires : goal.case_winds-x-requires
-case_winds-x-requires c = let p = c.requires in ((p.0 X Greatest).placed, (p.0 X Least).placed, p.1)
+case_winds-x-requires c = let p = c.requires in ((p X Greatest).placed, (p X Least).placed)
 
 pub case_winds-y-requires : goal.case_winds-y-requires
-case_winds-y-requires c =
-    let p = c.requires in
-    ((p.0 Y Greatest).placed, (p.0 Y Least).placed, c.case_winds-x.ensures.1)
+case_winds-y-requires c = let p = c.requires in ((p Y Greatest).placed, (p Y Least).placed)
 
 pub case_winds-z-requires : goal.case_winds-z-requires
-case_winds-z-requires c =
-    let p = c.requires in
-    ((p.0 Z Greatest).placed, (p.0 Z Least).placed, c.case_winds-y.ensures.1)
+case_winds-z-requires c = let p = c.requires in ((p Z Greatest).placed, (p Z Least).placed)
+
+pub returns : goal.returns
+returns c =
+    let x = c.case_winds-x.ensures in
+    let y = c.case_winds-y.ensures in
+    let z = c.case_winds-z.ensures in
+    let a = c.args in
+    (λ j. record {
+      x = x.0 j;
+      y = (y.0 ∙ ap (λ b. case_winds b a.winds a.ends.y) x.1) j;
+      z = (z.0 ∙ ap (λ b. case_winds b a.winds a.ends.z) (y.1 ∙ x.1)) j;
+    })

@@ -1,42 +1,71 @@
 -- `Table::fill` meets its contract: the coefficients of four zones are kept one after another.
-use mathlib.Core.Path.{◌≡◌, sym, ap, ◌∙◌, subst}
+use mathlib.Core.Path.{◌≡◌, refl, ap, ◌∙◌, subst}
 use Prim.Native.Nat.{ℕ, ◌+◌}
 use lib.Dec.{lit<}
 use lib.IntN.{ℤ, pos}
 use Rattle.whole.proofs.Size.{said}
+use Rattle.building.specs.declared.Building.{Building}
 use Rattle.building.specs.Year.{last_year}
 use Rattle.book.specs.declared.Four.{Four}
 use Rattle.book.specs.Zones.{four_from}
 use Rattle.worst.specs.Table.{place_of, Stands}
 use Rattle.worst.proofs.Table.{Kept, kept, place-on, half-placed, four-stand}
+use Rattle.worst.proofs.outside.Table.fill.Goals.{After-keep-4}
 use Rattle.worst.proofs.outside.Table.fill.Goals as goal
 
+module _ (c : After-keep-4) where
+  abbrev b : Building
+  b = c.args.self.now.building
+
+  abbrev k : ℕ
+  k = c.place_of-k.result
+
+  -- what was looked up, and where the four places begin
+  four : c.looked_up-four.result ≡ four_from (pos last_year) b c.args.direction c.args.from
+  four =
+      said (λ (z : ℤ). four_from (pos last_year) b z c.args.from) c.args.direction c.looked_up-four.ensures
+      c.ranges.direction.sfits
+
+  place : k ≡ place_of c.args.direction c.args.from
+  place =
+      said (λ (z : ℤ). place_of z c.args.from) c.args.direction c.place_of-k.ensures.0 c.ranges.direction.sfits
+
+  next : (j : ℕ) → k + j ≡ place_of c.args.direction (c.args.from + j)
+  next j = ap (λ (n : ℕ). n + j) place ∙ place-on c.args.direction c.args.from j c.requires.1.from
+
+  -- each after the one before
+  kept₁ : Kept b c.args.self.now.place c.keep.new.place k
+  kept₁ =
+      kept b c.args.direction c.args.from c.requires.1 _ _ k _ c.args.self.now.filled place
+      (ap (λ (f : Four). f.first) four) c.keep.ensures
+
+  kept₂ : Kept b c.keep.new.place c.keep-2.new.place (k + 1)
+  kept₂ =
+      kept b c.args.direction (c.args.from + 1)
+      (half-placed c.args.direction c.args.from 1 c.requires.1 c.requires.0 (lit< tt)) _ _ (k + 1) _ kept₁.filled (next 1)
+      (ap (λ (f : Four). f.second) four) c.keep-2.ensures
+
+  kept₃ : Kept b c.keep-2.new.place c.keep-3.new.place (k + 2)
+  kept₃ =
+      kept b c.args.direction (c.args.from + 2)
+      (half-placed c.args.direction c.args.from 2 c.requires.1 c.requires.0 (lit< tt)) _ _ (k + 2) _ kept₂.filled (next 2)
+      (ap (λ (f : Four). f.third) four) c.keep-3.ensures
+
+  kept₄ : Kept b c.keep-3.new.place c.keep-4.new.place (k + 3)
+  kept₄ =
+      kept b c.args.direction (c.args.from + 3)
+      (half-placed c.args.direction c.args.from 3 c.requires.1 c.requires.0 (lit< tt)) _ _ (k + 3) _ kept₃.filled (next 3)
+      (ap (λ (f : Four). f.fourth) four) c.keep-4.ensures
+
+pub invariant_of-self : goal.invariant_of-self
+invariant_of-self c = record { filled = (kept₄ c).filled }
+
 pub returns : goal.returns
-returns c =
-    let a = c.args in
-    let b = a.d.building in
-    let k = c.place_of-k.result in
-    let fits = c.ranges.direction.sfits in
-    -- what was looked up, and where the four places begin
-    let four : c.looked_up-four.result ≡ four_from (pos last_year) b a.direction a.from =
-    said (λ (z : ℤ). four_from a.d.year b z a.from) a.direction c.looked_up-four.ensures fits
-    ∙ ap (λ (y : ℤ). four_from y b a.direction a.from) c.requires.0 in
-    let place : k ≡ place_of a.direction a.from =
-    said (λ (z : ℤ). place_of z a.from) a.direction c.place_of-k.ensures.0 fits in
-    let next : (j : ℕ) → k + j ≡ place_of a.direction (a.from + j) =
-    λ j. ap (λ (n : ℕ). n + j) place ∙ place-on a.direction a.from j c.requires.2.from in
-    let placed = half-placed a.direction a.from in
-    -- each after the one before
-    let k₁ = kept b a.direction a.from c.requires.2 _ _ k _ c.requires.3 place
-    (ap (λ (f : Four). f.first) four) c.keep.ensures in
-    let k₂ = kept b a.direction (a.from + 1) (placed 1 c.requires.2 c.requires.1 (lit< tt)) _ _ (k + 1) _ k₁.filled
-    (next 1) (ap (λ (f : Four). f.second) four) c.keep-2.ensures in
-    let k₃ = kept b a.direction (a.from + 2) (placed 2 c.requires.2 c.requires.1 (lit< tt)) _ _ (k + 2) _ k₂.filled
-    (next 2) (ap (λ (f : Four). f.third) four) c.keep-3.ensures in
-    let k₄ = kept b a.direction (a.from + 3) (placed 3 c.requires.2 c.requires.1 (lit< tt)) _ _ (k + 3) _ k₃.filled
-    (next 3) (ap (λ (f : Four). f.fourth) four) c.keep-4.ensures in (
-      k₄.filled,
-      λ j h.
-          subst (λ (n : ℕ). Stands b c.keep-4.new.self (n + j)) place
-          (four-stand b k _ _ _ _ k₁.here k₂.stay k₂.here k₃.stay k₃.here k₄.stay k₄.here j h),
-    )
+returns c = (
+  refl,
+  λ j h.
+      let a = (goal.at.returns c).After-keep-4 in
+      subst (λ (n : ℕ). Stands (b a) a.keep-4.new.place (n + j)) (place a)
+      (four-stand (b a) (k a) _ _ _ _ (kept₁ a).here (kept₂ a).stay (kept₂ a).here (kept₃ a).stay (kept₃ a).here
+      (kept₄ a).stay (kept₄ a).here j h),
+)

@@ -2,5 +2,5 @@
 use Rattle.worst.proofs.Table.{nothing-filled}
 use Rattle.worst.proofs.outside.Table.new.Goals as goal
 
-pub returns : goal.returns
-returns c = nothing-filled
+pub invariant_of-result : goal.invariant_of-result
+invariant_of-result c = record { filled = nothing-filled c.args.building }
