@@ -78,9 +78,8 @@ pub(crate) fn of_wind(sums: AllSums, internals: Internals) -> WindCells
     let empty = no_cell();
     let cell = [empty; 4];
     let mut four = WindCells { cell };
-    for i in 0..count {
-        let internal = internals.entry[i];
-        four.cell[i] = cell_of(sums, internal);
+    for (i, internal) in internals.entry[..count].iter().enumerate() {
+        four.cell[i] = cell_of(sums, *internal);
     }
     four
 }

@@ -47,9 +47,10 @@ pub(crate) fn over_winds(stored: Stored, winds: u32, internals: u32) -> Ends
 {
     let count = internals as usize;
     let mut ends = no_ends();
-    for w in 1..=winds {
-        let four = stored_cells(stored, w);
-        ends = over_internals(ends, four, count, w);
+    for w in 0..winds {
+        let number = w + 1;
+        let four = stored_cells(stored, number);
+        ends = over_internals(ends, four, count, number);
     }
     ends
 }

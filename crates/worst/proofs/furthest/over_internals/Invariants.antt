@@ -1,7 +1,6 @@
 -- `furthest::over_internals` meets its contract: after i of them each top is the best of what stood before and of the
 -- first i.
-use mathlib.Core.Path.{◌≡◌}
-use Prim.Native.Nat.{◌≤◌, ◌-◌}
+use Rattle.std.proofs.Common.{◌≡◌}
 use Rattle.worst.specs.declared.Axis.{Axis}
 use Rattle.worst.specs.declared.Side.{Side}
 use Rattle.worst.specs.Best.{better}
@@ -11,9 +10,6 @@ use Rattle.worst.proofs.furthest.over_internals.Given as goal
 
 abbrev pub invariant-loop-i : goal.invariant-loop-i
 invariant-loop-i l =
-    (l.i ≤ l.count) × ProperEnds l.best
+    ProperEnds l.best
     × ((axis : Axis) (s : Side) → top_of (top_at axis s l.best)
-    ≡ better s (top_of (top_at axis s l.initial.best)) (four_best axis s l.four.cell l.i l.wind))
-
-abbrev pub decreases-loop-i : goal.decreases-loop-i
-decreases-loop-i l = l.count - l.i
+    ≡ better s (top_of (top_at axis s l.initial.best)) (four_best axis s l.fn.four.cell l.i l.wind))

@@ -2,7 +2,6 @@
 use mathlib.Core.Path.{◌≡◌, sym, ap, ◌∙◌, subst}
 use Prim.Native.Nat.{ℕ, ◌+◌, ◌-◌, ◌*◌, ◌<◌}
 use native.Mathlib.Omega.{arith}
-use borrow.Author.Rules.{rules}
 use lib.ListN.{get_or}
 use Rattle.worst.specs.Best.{better}
 use Rattle.whole.specs.Lists.{numbers}
@@ -41,19 +40,13 @@ pub loop-w-init : goal.loop-w-init
 unfolding over numbers
 loop-w-init c =
     let e = c.no_ends-ends.ensures in (
-      search rules,
       subst ProperEnds (sym e) no-ends-proper,
       λ axis s. ap (λ e. top_of (top_at axis s e)) e ∙ no_top axis s,
     )
 
-pub stored_cells-four-requires : goal.stored_cells-four-requires
-stored_cells-four-requires c =
-    let t = c.loop-w-test.true in
-    (omega arith, omega (arith, c.requires.0))
-
 pub over_internals-ends-requires : goal.over_internals-ends-requires
 over_internals-ends-requires c =
-    (c.requires.1, omega arith, c.loop-w.invariant.1, proper c)
+    (c.requires.1, omega arith, c.loop-w.invariant.0, proper c)
 
 pub loop-w-preserved : goal.loop-w-preserved
 loop-w-preserved c =
@@ -61,10 +54,9 @@ loop-w-preserved c =
     let l = c.loop-w in
     let s = c.args in
     let t = counted at_stored_cells_four in (
-      omega arith,
       c.over_internals-ends.ensures.1,
       λ axis side. c.over_internals-ends.ensures.0 axis side
-          ∙ (λ i. better side (l.invariant.2 axis side i)
+          ∙ (λ i. better side (l.invariant.1 axis side i)
           (four-stored axis side s.stored c.stored_cells-four.result.cell s.internals (w at_stored_cells_four + 1)
           (λ k t. same at_stored_cells_four k (omega (arith, c.requires.1))) i))
           ∙ over-next side (wind_best axis side s.stored s.internals) l.w,
@@ -75,5 +67,5 @@ returns c =
     let l = c.loop-w in
     let s = c.args in
     let left = c.loop-w-test.false in
-    let all : l.w ≡ s.winds = omega (arith, l.invariant.0) in
-    (λ axis side. l.invariant.2 axis side ∙ ap (best_up_to axis side s.stored s.internals) all, l.invariant.1)
+    let all : l.w ≡ s.winds = omega arith in
+    (λ axis side. l.invariant.1 axis side ∙ ap (best_up_to axis side s.stored s.internals) all, l.invariant.0)

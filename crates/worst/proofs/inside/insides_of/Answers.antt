@@ -35,21 +35,12 @@ loop-i-init c =
     let is = c.args.internals in
     let e = c.inside_at-first.ensures in
     let one = small is c.requires.0 0 c.requires.1 in (
-      c.requires.1,
       subst (λ t. InsidesSmall (alike is t)) (sym e) (record { first = one; low = one; high = one }),
       subst (λ t. Furthest is 1 (alike is t)) (sym e) (furthest-one is),
     )
 
 pub inside_at-next-requires : goal.inside_at-next-requires
 inside_at-next-requires c = (c.requires.0, counted c)
-
-pub overflow_add-i : goal.overflow_add-i
-overflow_add-i c =
-    let t = counted (goal.at.overflow_add-i c).In-loop-i in
-    record { fits = omega (arith, c.requires.0.0) }
-
-pub loop-i-smaller : goal.loop-i-smaller
-loop-i-smaller c = let t = counted (goal.at.loop-i-smaller c).In-loop-i in omega arith
 
 pub loop-i-preserved : goal.loop-i-preserved
 loop-i-preserved c =
@@ -62,10 +53,9 @@ loop-i-preserved c =
     let same : made first c.lower-low.result c.higher-high.result ≡ with_inside old (inside_numbered is (loop.i + 1)) =
     (λ j. made first (c.lower-low.ensures j) (c.higher-high.ensures j))
     ∙ ap (with_inside old) c.inside_at-next.ensures in (
-      omega arith,
       subst InsidesSmall (sym same)
-          (with-small old (inside_numbered is (loop.i + 1)) loop.invariant.1 (small is c.requires.0 loop.i t)),
-      subst (Furthest is (loop.i + 1)) (sym same) (furthest-next is loop.i old loop.invariant.2),
+          (with-small old (inside_numbered is (loop.i + 1)) loop.invariant.0 (small is c.requires.0 loop.i t)),
+      subst (Furthest is (loop.i + 1)) (sym same) (furthest-next is loop.i old loop.invariant.1),
     )
 
 pub returns : goal.returns
@@ -73,6 +63,6 @@ returns c =
     let l = c.loop-i in
     let is = c.args.internals in
     let left = c.loop-i-test.false in
-    let all : l.i ≡ is.count = omega (arith, l.invariant.0) in
+    let all : l.i ≡ is.count = omega (arith, c.requires.1) in
     let t = made c.inside_at-first.result l.low l.high in
-    (l.invariant.1, subst (λ n. Furthest is n t) all l.invariant.2)
+    (l.invariant.0, subst (λ n. Furthest is n t) all l.invariant.1)

@@ -1,5 +1,4 @@
 -- `inside::insides_of` meets its contract: after i of them the furthest is that of the first i.
-use Prim.Native.Nat.{◌-◌, ◌≤◌}
 use Rattle.worst.specs.declared.inside.Inside.{Inside}
 use Rattle.worst.specs.declared.inside.Insides.{Insides}
 use Rattle.worst.specs.Inside.{Furthest, InsidesSmall}
@@ -10,7 +9,4 @@ made first low high = record { first = first; low = low; high = high }
 
 abbrev pub invariant-loop-i : goal.invariant-loop-i
 invariant-loop-i l =
-    (l.i ≤ l.count) × InsidesSmall (made l.first l.low l.high) × Furthest l.internals l.i (made l.first l.low l.high)
-
-abbrev pub decreases-loop-i : goal.decreases-loop-i
-decreases-loop-i l = l.count - l.i
+    InsidesSmall (made l.first l.low l.high) × Furthest l.internals l.i (made l.first l.low l.high)
