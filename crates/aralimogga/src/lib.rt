@@ -97,11 +97,10 @@ pub fn aral_mend(sheet: &[u8], out: &mut [u8], list: &mut [u64]) -> Mending
 pub fn aral_total(sheet: &[u8], line: i64) -> answers::Extreme
     ensures { result ≡ host_total (reading sheet.now) line }
 {
-    let w = worst::worst_in(sheet);
-    if w.verdict.number != 0 {
-        return answers::no_extreme(w.verdict);
+    match worst::worst_in(sheet) {
+        Ok(w) => answers::line_of(w.year, w.six, line),
+        Err(v) => answers::no_extreme(v),
     }
-    answers::line_of(w.year, w.six, line)
 }
 
 // The account of one face, from 1, in the case of such a line.

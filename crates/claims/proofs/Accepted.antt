@@ -3,6 +3,7 @@
 use mathlib.Core.Path.{◌≡◌, ap}
 use mathlib.Core.List.{List}
 use Prim.Native.Nat.{ℕ}
+use Rattle.std.specs.Prelude.{Ok}
 use Rattle.job.specs.declared.Job.{Job}
 use Rattle.job.specs.Carried.{Carried, carried}
 use Rattle.job.specs.Lines.{lines_of}
@@ -21,6 +22,7 @@ pub sheet-in-order : (s : List ℕ) (c : Carried) → reading s ≡ Accepted c �
 unfolding reading
 sheet-in-order s c a = accepted-in-order (lines_in s) c a
 
-pub six-is : (j : Job) (c : Carried) → judged j ≡ Accepted c → (worst_of j).six ≡ six_extremes c
+pub six-is : (j : Job) (c : Carried) → judged j ≡ Accepted c
+    → worst_of j ≡ Ok (record { year = c.year; six = six_extremes c })
 unfolding worst_of
-six-is j c a = ap (λ r. (reckoned r).six) a
+six-is j c a = ap reckoned a

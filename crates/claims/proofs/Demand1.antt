@@ -8,7 +8,8 @@ use Prim.Native.Nat.{ℕ, ◌≤◌}
 use lib.Dec.{eqb, lit≤}
 use lib.IntN.{ℤ, pos, negsuc}
 use borrow.Author.Tests.{ne_eqb}
-use Rattle.std.specs.Prelude.{Err}
+use Rattle.std.specs.Prelude.{Err, IsOk}
+use Rattle.std.specs.Result.{is_ok}
 use Rattle.verdict.specs.declared.Verdict.{Verdict}
 use Rattle.verdict.specs.Verdict.{accepted, refusal}
 use Rattle.field.specs.declared.Field.{Field}
@@ -20,7 +21,7 @@ use Rattle.job.specs.Lines.{lines_of}
 use Rattle.job.specs.Walk.{Accepted, verdict, judged}
 use Rattle.sheet.specs.Sheet.{reading, answer, sheet_text, job_writing}
 use Rattle.worst.specs.declared.Six.{Six}
-use Rattle.worst.specs.Worst.{no_six, six_extremes, reckoned, worst_of}
+use Rattle.worst.specs.Worst.{six_extremes, reckoned, worst_of}
 use Rattle.worst.specs.Stored.{reckoned_by}
 use Rattle.report.specs.Report.{refused_text, report_text, stored_text, totals_text}
 use Rattle.answers.specs.Answers.{no_host_text, no_host_extreme, host_text, report_line, host_line, host_total}
@@ -49,11 +50,11 @@ pub record BadGetsFirstFault : Type 0 where
   -- a job
   pub judge : GetsFault of.judge.Post (λ κ a. lines_of (carried a.0)) (λ κ a v. v)
   pub worst-cases : GetsFault of.worst-cases.Post (λ κ a. lines_of (carried a.0))
-      (λ κ a v. record { verdict = v; year = pos 0; six = no_six })
+      (λ κ a v. Err v)
   pub write-sheet : GetsFault of.write-sheet.Post (λ κ a. lines_of (carried a.0)) (λ κ a v. Err v)
   pub write-report : GetsFault of.write-report.Post (λ κ a. lines_of (carried a.0)) (λ κ a v. Err v)
   pub worst-stored : GetsFault of.worst-stored.Post (λ κ a. lines_of (carried a.0))
-      (λ κ a v. record { verdict = v; year = pos 0; six = no_six })
+      (λ κ a v. Err v)
   pub write-stored : GetsFault of.write-stored.Post (λ κ a. lines_of (carried a.0)) (λ κ a v. Err v)
 
 -- Where there is no fault, it is accepted: number 0, line 0. What is then written and shown is said by demands 2 and
@@ -63,7 +64,7 @@ pub record GoodIsAccepted : Type 0 where
   pub aral-read : GetsAccepted of.aral-read.Post (λ κ a. lines_in a.0.now) (λ κ r. r ≡ accepted)
   pub judge : GetsAccepted of.judge.Post (λ κ a. lines_of (carried a.0)) (λ κ r. r ≡ accepted)
   pub worst-cases : GetsAccepted of.worst-cases.Post (λ κ a. lines_of (carried a.0))
-      (λ κ r. r.verdict ≡ accepted)
+      (λ κ r. IsOk r)
 
 -- Lines of fields have no fault, or one first fault and no other.
 abbrev pub FaultsAreOne : Type 0
@@ -119,7 +120,7 @@ good-is-accepted =
           ap (λ x. x.verdict) (p ∙ ap answer (fault.sheet-faultless a.0.now f).1);
       aral-read = λ κ a r s p f. p ∙ ap verdict (fault.sheet-faultless a.0.now f).1;
       judge = λ κ a r s p f. p ∙ ap verdict (fault.job-faultless a.0 f);
-      worst-cases = λ κ a r s p f. ap (λ x. x.verdict) (p ∙ ap reckoned (fault.job-faultless a.0 f));
+      worst-cases = λ κ a r s p f. ap is_ok (p ∙ ap reckoned (fault.job-faultless a.0 f));
     }
 
 pub faults-are-one : FaultsAreOne

@@ -3,6 +3,8 @@
 use mathlib.Core.Path.{◌≡◌, refl, sym, ap, subst, ◌∙◌}
 use mathlib.Core.List.{Memᴰ}
 use lib.IntN.{pos}
+use Rattle.std.specs.Prelude.{Result, Ok, IfOk}
+use Rattle.verdict.specs.declared.Verdict.{Verdict}
 use Rattle.page.specs.Writing.{Writing}
 use Rattle.job.specs.declared.Job.{Job}
 use Rattle.job.specs.Carried.{Carried}
@@ -11,6 +13,7 @@ use Rattle.sheet.specs.Sheet.{reading, job_writing}
 use Rattle.worst.specs.declared.Side.{Side}
 use Rattle.worst.specs.declared.Axis.{Axis}
 use Rattle.worst.specs.declared.Extreme.{Extreme}
+use Rattle.worst.specs.declared.Six.{Six}
 use Rattle.worst.specs.declared.Reckoning.{Reckoning}
 use Rattle.worst.specs.Best.{NoFurther}
 use Rattle.worst.specs.Cases.{Permitted, Loads, Case, cases}
@@ -31,7 +34,8 @@ use Rattle.claims.proofs.Shown as shown
 -- "For an accepted job and each axis, the greatest and least shown are those over every permitted case .., each with
 -- the first case that reaches it."
 abbrev pub ShowsWorst : Type 0
-ShowsWorst = Always of.worst-cases.Post (λ κ a r s. (c : Carried) → judged a.0 ≡ Accepted c → ShowsSix c r.six)
+ShowsWorst = Always of.worst-cases.Post (λ κ a r s. (c : Carried) → judged a.0 ≡ Accepted c
+    → (six : Six) × (r ≡ Ok (record { year = c.year; six = six })) × ShowsSix c six)
 
 -- and so in the six lines, of a record or of a sheet, for the program `totals` and for a host in C
 pub record ReportsWorst : Type 0 where
@@ -62,8 +66,8 @@ CasesArePermitted = (W I F A : Type 0) (l : Loads W I F A) (c : Case W I A)
 abbrev pub MoreShowsNoLess : Type 0
 MoreShowsNoLess = Always of.worst-cases.Post (λ κ a r s. Always of.worst-cases.Post (λ κ' b q t.
     (c d : Carried) → judged a.0 ≡ Accepted c → judged b.0 ≡ Accepted d → More c d
-    → (axis : Axis) (side : Side)
-    → NoFurther side (total_in (shown_in r.six axis side)) (total_in (shown_in q.six axis side))))
+    → (axis : Axis) (side : Side) → IfOk r (λ x. IfOk q (λ y.
+    NoFurther side (total_in (shown_in x.six axis side)) (total_in (shown_in y.six axis side))))))
 
 -- "If only speeds change and none is lowered, a greatest that was zero or more does not fall, and a least that was
 -- zero or less does not rise." "From year 2 on .. only for jobs whose faces all stand at one height and whose face
@@ -71,23 +75,27 @@ MoreShowsNoLess = Always of.worst-cases.Post (λ κ a r s. Always of.worst-cases
 abbrev pub FasterShowsNoLess : Type 0
 FasterShowsNoLess = Always of.worst-cases.Post (λ κ a r s. Always of.worst-cases.Post (λ κ' b q t.
     (c d : Carried) → judged a.0 ≡ Accepted c → judged b.0 ≡ Accepted d → Faster c d → OneSpeed c
-    → (axis : Axis) (side : Side) → NoFurther side (pos 0) (total_in (shown_in r.six axis side))
-    → NoFurther side (total_in (shown_in r.six axis side)) (total_in (shown_in q.six axis side))))
+    → (axis : Axis) (side : Side)
+    → IfOk r (λ x. NoFurther side (pos 0) (total_in (shown_in x.six axis side)) → IfOk q (λ y.
+    NoFurther side (total_in (shown_in x.six axis side)) (total_in (shown_in y.six axis side))))))
 
 -- ---- the proofs
 
 -- what a result shows is the extreme of what its job carries
-module _ (j : Job) {r : Reckoning} (p : r ≡ worst_of j) (c : Carried) (a : judged j ≡ Accepted c) where
-  six-of : r.six ≡ six_extremes c
-  six-of = ap (λ (q : Reckoning). q.six) p ∙ six-is j c a
+module _ (j : Job) {r : Result Reckoning Verdict} (p : r ≡ worst_of j) (c : Carried) (a : judged j ≡ Accepted c) where
+  own : r ≡ Ok (record { year = c.year; six = six_extremes c })
+  own = p ∙ six-is j c a
 
-  total_of : (axis : Axis) (side : Side) → total_in (shown_in r.six axis side) ≡ total_in (extreme axis side c)
-  total_of axis side =
-      ap (λ six. total_in (shown_in six axis side)) six-of ∙ ap total_in (one-is c axis side)
+  -- what holds of them holds of it
+  of-own : (P : Reckoning → Type 0) → P (record { year = c.year; six = six_extremes c }) → IfOk r P
+  of-own P h = subst (λ (q : Result Reckoning Verdict). IfOk q P) (sym own) h
+
+total_of : (c : Carried) (axis : Axis) (side : Side)
+    → total_in (shown_in (six_extremes c) axis side) ≡ total_in (extreme axis side c)
+total_of c axis side = ap total_in (one-is c axis side)
 
 pub shows-worst : ShowsWorst
-shows-worst κ a r s p c e =
-    subst (ShowsSix c) (sym (six-of a.0 p c e)) (shown.six-shown c (job-in-order a.0 c e))
+shows-worst κ a r s p c e = (six_extremes c, own a.0 p c e, shown.six-shown c (job-in-order a.0 c e))
 
 pub reports-worst : ReportsWorst
 reports-worst =
@@ -116,11 +124,16 @@ cases-permitted W I F A l c = (case-permitted l c, permitted-case l c)
 
 pub more-shows-no-less : MoreShowsNoLess
 more-shows-no-less κ a r s p κ' b q t p' c d e f m axis side =
-    rw (total_of a.0 p c e axis side, total_of b.0 p' d f axis side)
-    (shown.more-no-less (job-in-order a.0 c e) (job-in-order b.0 d f) axis side m)
+    of-own a.0 p c e _
+    (of-own b.0 p' d f _
+    (rw (total_of c axis side, total_of d axis side)
+    (shown.more-no-less (job-in-order a.0 c e) (job-in-order b.0 d f) axis side m)))
 
 pub faster-shows-no-less : FasterShowsNoLess
-faster-shows-no-less κ a r s p κ' b q t p' c d e f m one axis side h =
-    rw (total_of a.0 p c e axis side, total_of b.0 p' d f axis side)
+faster-shows-no-less κ a r s p κ' b q t p' c d e f m one axis side =
+    of-own a.0 p c e _
+    (λ h.
+    of-own b.0 p' d f _
+    (rw (total_of c axis side, total_of d axis side)
     (shown.faster-no-less (job-in-order a.0 c e) (job-in-order b.0 d f) axis side m one
-    (rw (total_of a.0 p c e axis side) at h))
+    (rw (total_of c axis side) at h))))

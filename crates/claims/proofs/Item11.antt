@@ -1,7 +1,9 @@
 -- Item 11 of paper 02: which winds can be dropped.
 use mathlib.Core.Path.{◌≡◌, refl, sym, ap, subst, subst₂, ◌∙◌}
 use Prim.Native.Nat.{ℕ}
-use Rattle.verdict.specs.Verdict.{accepted}
+use Rattle.std.specs.Prelude.{Result, IsOk, IfOk}
+use Rattle.std.proofs.lemmas.Result.{IfOk-weaker}
+use Rattle.verdict.specs.declared.Verdict.{Verdict}
 use Rattle.job.specs.declared.Job.{Job}
 use Rattle.job.specs.Carried.{Carried, carried, with_winds}
 use Rattle.job.specs.InOrder.{InOrder}
@@ -9,9 +11,8 @@ use Rattle.job.specs.Lines.{lines_of}
 use Rattle.job.specs.Walk.{Accepted, read_lines, judged}
 use Rattle.job.proofs.InOrder.{in-order-accepted}
 use Rattle.whole.specs.Lists.{take_out}
-use Rattle.worst.specs.declared.Six.{Six}
 use Rattle.worst.specs.declared.Reckoning.{Reckoning}
-use Rattle.worst.specs.Worst.{shown_in, reckoned, worst_of}
+use Rattle.worst.specs.Worst.{shown_in, six_extremes, worst_of}
 use Rattle.worst.proofs.Dropped.{dropped-extreme, dropped-in-order}
 use Rattle.claims.specs.Contract.{Always}
 use Rattle.claims.specs.Dropped.{WindTakenOut, Unnamed, renumbered_extreme, SameButNumbers}
@@ -27,14 +28,14 @@ use Rattle.claims.proofs.Item8.{same-six-lines}
 -- without it is accepted
 abbrev pub UnnamedWindsDrop : Type 0
 UnnamedWindsDrop = Always of.worst-cases.Post (λ κ a r s. Always of.worst-cases.Post (λ κ' b q t.
-    (c : Carried) (k : ℕ) → judged a.0 ≡ Accepted c → WindTakenOut k c (carried b.0) → Unnamed k r.six
-    → (q.verdict ≡ accepted) × SameButNumbers k r.six q.six))
+    (c : Carried) (k : ℕ) → judged a.0 ≡ Accepted c → WindTakenOut k c (carried b.0)
+    → IfOk r (λ x. Unnamed k x.six → IsOk q × IfOk q (λ y. SameButNumbers k x.six y.six))))
 
 -- and so where the plain engine takes both jobs
 abbrev pub UnnamedWindsDropPlainly : Type 0
 UnnamedWindsDropPlainly = Always of.plain-cases.Post (λ κ a r s. Always of.plain-cases.Post (λ κ' b q t.
     (c : Carried) (k : ℕ) → judged a.0 ≡ Accepted c → WindTakenOut k c (carried b.0)
-    → r.verdict ≡ accepted → q.verdict ≡ accepted → Unnamed k r.six → SameButNumbers k r.six q.six))
+    → IsOk r → IsOk q → IfOk r (λ x. Unnamed k x.six → IfOk q (λ y. SameButNumbers k x.six y.six))))
 
 -- ---- the proofs
 
@@ -51,27 +52,24 @@ module _ (j i : Job) (c : Carried) (k : ℕ) (a : judged j ≡ Accepted c) (t : 
       ap (λ d. read_lines (lines_of d)) t.same
       ∙ in-order-accepted fewer (dropped-in-order c k t.first t.last t.two o)
 
-  verdict-accepted : (worst_of i).verdict ≡ accepted
-  unfolding worst_of
-  verdict-accepted = ap (λ r. (reckoned r).verdict) fewer-accepted
-
-  six-kept : Unnamed k (worst_of j).six → SameButNumbers k (worst_of j).six (worst_of i).six
+  six-kept : Unnamed k (six_extremes c) → SameButNumbers k (six_extremes c) (six_extremes fewer)
   six-kept n axis side =
-      let old = ap (λ (x : Six). shown_in x axis side) (six-is j c a) ∙ one-is c axis side in
-      let new = ap (λ (x : Six). shown_in x axis side) (six-is i fewer fewer-accepted) ∙ one-is fewer axis side in
-      new
+      let old = one-is c axis side in
+      one-is fewer axis side
       ∙ dropped-extreme c k t.first t.last axis side o (λ e. n axis side (ap (λ x. x.wind) old ∙ e))
       ∙ ap (renumbered_extreme k) (sym old)
 
 pub unnamed-winds-drop : UnnamedWindsDrop
-unnamed-winds-drop κ a r s p κ' b q t h c k judged-a out n = (
-  ap (λ (x : Reckoning). x.verdict) h ∙ verdict-accepted a.0 b.0 c k judged-a out,
-  subst₂ (λ (x y : Reckoning). SameButNumbers k x.six y.six) (sym p) (sym h)
-      (six-kept a.0 b.0 c k judged-a out (subst (λ (x : Reckoning). Unnamed k x.six) p n)),
-)
+unnamed-winds-drop κ a r s p κ' b q t h c k judged-a out =
+    let fewer-are = h ∙ six-is b.0 _ (fewer-accepted a.0 b.0 c k judged-a out) in
+    subst (λ (z : Result Reckoning Verdict). IfOk z (λ x.
+    Unnamed k x.six → IsOk q × IfOk q (λ y. SameButNumbers k x.six y.six))) (sym (p ∙ six-is a.0 c judged-a))
+    (λ n.
+    subst (λ (z : Result Reckoning Verdict). IsOk z × IfOk z (λ y. SameButNumbers k (six_extremes c) y.six))
+    (sym fewer-are) (refl, six-kept a.0 b.0 c k judged-a out n))
 
 pub unnamed-winds-drop-plainly : UnnamedWindsDropPlainly
-unnamed-winds-drop-plainly κ a r s p κ' b q t h c k judged-a out v w n =
+unnamed-winds-drop-plainly κ a r s p κ' b q t h c k judged-a out v w =
     let first = same-six-lines κ a (worst_of a.0) s refl κ a r s p refl v in
     let second = same-six-lines κ' b (worst_of b.0) t refl κ' b q t h refl w in
-    (unnamed-winds-drop κ a r s first κ' b q t second c k judged-a out n).1
+    IfOk-weaker r _ _ (λ x d n. (d n).1) (unnamed-winds-drop κ a r s first κ' b q t second c k judged-a out)

@@ -10,6 +10,8 @@ use borrow.Author.Tests.{eq-eqb, eqb-true, le-leb, lt-leb}
 use lib.Dec.{leb}
 use lib.ListN.{length}
 use lib.IntN.{pos}
+use Rattle.std.specs.Prelude.{Err, IsOk}
+use Rattle.std.specs.Result.{is_ok}
 use Rattle.whole.proofs.Tests.{or-true}
 use Rattle.verdict.specs.declared.Verdict.{Verdict}
 use Rattle.verdict.specs.Verdict.{accepted, refusal}
@@ -20,9 +22,8 @@ use Rattle.job.specs.Carried.{carried}
 use Rattle.job.specs.Lines.{lines_of}
 use Rattle.job.specs.Walk.{Reading, Accepted, Refused, judged}
 use Rattle.sheet.specs.Sheet.{reading, job_writing, job_buffer}
-use Rattle.worst.specs.declared.Reckoning.{Reckoning}
 use Rattle.worst.specs.Forces.{Given, alternatives}
-use Rattle.worst.specs.Worst.{given, no_six, reckoned, worst_of}
+use Rattle.worst.specs.Worst.{given, reckoned, worst_of}
 use Rattle.report.specs.Report.{report_text}
 use Rattle.answers.specs.declared.Text.{Text}
 use Rattle.answers.specs.Answers.{host_text}
@@ -37,7 +38,7 @@ use Rattle.claims.proofs.Fault as fault
 -- "must give the same six lines as the first engine on every job it takes"
 abbrev pub SameSixLines : Type 0
 SameSixLines = Always of.worst-cases.Post (λ κ a r s. Always of.plain-cases.Post (λ κ' b q t.
-    a.0 ≡ b.0 → q.verdict ≡ accepted → q ≡ r))
+    a.0 ≡ b.0 → IsOk q → q ≡ r))
 
 -- and so for a host in C: on every sheet that is not refused with 10 both answer the same, with the same bytes
 abbrev pub SameText : Type 0
@@ -52,12 +53,12 @@ with_two j = faces_with_two (given (carried j))
 pub record TakesFew : Type 0 where
   -- a job in order with at most 8 is taken
   pub few : Always of.plain-cases.Post (λ κ a r s. Faultless (lines_of (carried a.0)) → with_two a.0 ≤ 8
-      → r.verdict ≡ accepted)
+      → IsOk r)
   -- "Refusals: more such faces 10, line 0, after the job's own": and there is no other result then
   pub own : GetsFault of.plain-cases.Post (λ κ a. lines_of (carried a.0))
-      (λ κ a v. record { verdict = v; year = pos 0; six = no_six })
+      (λ κ a v. Err v)
   pub more : Always of.plain-cases.Post (λ κ a r s. Faultless (lines_of (carried a.0)) → 8 < with_two a.0
-      → r ≡ record { verdict = refusal 10 0; year = pos 0; six = no_six })
+      → r ≡ Err (refusal 10 0))
 
 -- a face is counted exactly if it "has two alternatives under at least one of" the winds
 pub record CountsTwo : Type 0 where
@@ -69,23 +70,23 @@ pub record CountsTwo : Type 0 where
 -- ---- the proofs
 
 -- what is accepted is reckoned as it is
-taken : (r : Reading) → (reckoned (plainly r)).verdict ≡ accepted → reckoned (plainly r) ≡ reckoned r
+taken : (r : Reading) → IsOk (reckoned (plainly r)) → reckoned (plainly r) ≡ reckoned r
 taken (Refused v) e = refl
 taken (Accepted c) e = go (leb (faces_with_two (given c)) 8) e
   where
-    go : (t : Bool) → (reckoned (cond t (Accepted c) (Refused (refusal 10 0)))).verdict ≡ accepted
+    go : (t : Bool) → IsOk (reckoned (cond t (Accepted c) (Refused (refusal 10 0))))
         → reckoned (cond t (Accepted c) (Refused (refusal 10 0))) ≡ reckoned (Accepted c)
     go true h = refl
-    go false h = absurd (omega (arith, ap (λ (v : Verdict). v.number) h))
+    go false h = absurd (true≢false (sym h))
 
-same : (j : Job) → (plain_of j).verdict ≡ accepted → plain_of j ≡ worst_of j
+same : (j : Job) → IsOk (plain_of j) → plain_of j ≡ worst_of j
 unfolding plain_of worst_of
 same j = taken (judged j)
 
 pub same-six-lines : SameSixLines
 same-six-lines κ a r s p κ' b q t h e v =
     let plain = h ∙ ap plain_of (sym e) in
-    plain ∙ same a.0 (sym (ap (λ (x : Reckoning). x.verdict) plain) ∙ v) ∙ sym p
+    plain ∙ same a.0 (sym (ap is_ok plain) ∙ v) ∙ sym p
 
 -- what is not refused with 10 is read as it is
 read-plainly : (x : Reading) (buf : List ℕ)
@@ -125,7 +126,7 @@ pub takes-few : TakesFew
 takes-few =
     record {
       few = λ κ a r s p f h.
-          ap (λ (x : Reckoning). x.verdict) (p ∙ in_order a.0 true f (le-leb (with_two a.0) 8 h));
+          ap is_ok (p ∙ in_order a.0 true f (le-leb (with_two a.0) 8 h));
       own = λ κ a r s p v f. p ∙ judged-plain a.0 (Refused v) (fault.job-faulty a.0 f);
       more = λ κ a r s p f h. p ∙ in_order a.0 false f (lt-leb (with_two a.0) 8 h);
     }

@@ -24,9 +24,8 @@ pub fn on_axis(line: i64, x: i64, y: i64, z: i64) -> i64
 pub fn shown_of(job: Job, line: i64) -> Extreme
     ensures { result ≡ host_total (judged job) line }
 {
-    let w = worst::worst_cases(job);
-    if w.verdict.number != 0 {
-        return answers::no_extreme(w.verdict);
+    match worst::worst_cases(job) {
+        Ok(w) => answers::line_of(w.year, w.six, line),
+        Err(v) => answers::no_extreme(v),
     }
-    answers::line_of(w.year, w.six, line)
 }

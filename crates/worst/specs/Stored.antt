@@ -1,7 +1,8 @@
 -- Sums that are stored: for each wind, internal coefficient and axis the greatest and the least sum over the faces. And
 -- the six extremes that stored sums tell, whatever they are.
 use Rattle.std.specs.Prelude.{Bool, cond, ◌&&◌, List, [], map, ℕ, ◌+◌, ◌-◌, ◌*◌, ◌/◌, ◌%◌, ltb, ℤ, pos, length, get_or}
-use Rattle.verdict.specs.Verdict.{accepted}
+use Rattle.std.specs.Prelude.{Result, Ok, Err}
+use Rattle.verdict.specs.declared.Verdict.{Verdict}
 use Rattle.job.specs.Carried.{Carried}
 use Rattle.job.specs.Walk.{Reading, Accepted, Refused}
 use Rattle.worst.specs.declared.Side.{Side}
@@ -22,7 +23,7 @@ use Rattle.worst.specs.Forces.{Given, loads}
 use Rattle.pair.specs.Total.{pair_of, units, no_pair}
 use Rattle.worst.specs.Shown.{shown}
 use Rattle.worst.specs.Within.{most_newtons, all_within}
-use Rattle.worst.specs.Worst.{given, no_six}
+use Rattle.worst.specs.Worst.{given}
 
 -- ---- a cell: one wind and one internal coefficient
 
@@ -122,6 +123,6 @@ six_by t c = record { x = extremes_by X t c; y = extremes_by Y t c; z = extremes
 abbrev pub telling : Stored → Carried → Stored
 telling t c = cond (all_within (most_newtons c.year) t.cell) t (stored_of c)
 
-abbrev pub reckoned_by : Stored → Reading → Reckoning
-reckoned_by t (Accepted c) = record { verdict = accepted; year = c.year; six = six_by (telling t c) c }
-reckoned_by t (Refused v) = record { verdict = v; year = pos 0; six = no_six }
+abbrev pub reckoned_by : Stored → Reading → Result Reckoning Verdict
+reckoned_by t (Accepted c) = Ok (record { year = c.year; six = six_by (telling t c) c })
+reckoned_by t (Refused v) = Err v

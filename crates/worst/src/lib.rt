@@ -97,10 +97,9 @@ pub struct Stored {
     pub cell: [StoredCell; 32],
 }
 
-// A job's refusal, with zeros for all else; or the year of one that is accepted, and its six extremes.
+// The year of a job that is accepted, and its six extremes.
 #[derive(Clone, Copy)]
 pub struct Reckoning {
-    pub verdict: Verdict,
     pub year: i64,
     pub six: Six,
 }
@@ -136,7 +135,7 @@ pub struct UnderWind {
 }
 
 // A sheet's refusal, or its six extremes. No record is made of it.
-pub fn worst_in(s: &[u8]) -> Reckoning
+pub fn worst_in(s: &[u8]) -> Result<Reckoning, Verdict>
     ensures { result ≡ reckoned (reading s.now) }
 {
     if s.len() > read::LONGEST_SHORT {
@@ -146,7 +145,7 @@ pub fn worst_in(s: &[u8]) -> Reckoning
 }
 
 // A job's own refusal, or its six extremes.
-pub fn worst_cases(job: Job) -> Reckoning
+pub fn worst_cases(job: Job) -> Result<Reckoning, Verdict>
     ensures { result ≡ worst_of job }
 {
     let v = job::judge::judge(job);
@@ -162,7 +161,7 @@ pub fn sums_of(job: Job) -> Stored
 }
 
 // A job's own refusal, or the six extremes that stored sums tell: its own sums, where no job of its year has those.
-pub fn worst_stored(job: Job, stored: Stored) -> Reckoning
+pub fn worst_stored(job: Job, stored: Stored) -> Result<Reckoning, Verdict>
     ensures { result ≡ reckoned_by stored (judged job) }
 {
     let v = job::judge::judge(job);

@@ -1,11 +1,10 @@
 // A job's own refusal, or its six extremes: of a record that was judged.
 ghost use Rattle.std.specs.Prelude.{◌≡◌};
-ghost use Rattle.verdict.specs.Verdict.{accepted};
 ghost use Rattle.job.specs.Carried.{carried};
 ghost use Rattle.job.specs.InOrder.{InOrder};
 ghost use Rattle.job.specs.Setting.{setting_in};
-ghost use Rattle.job.specs.Walk.{Reading, verdict, judged};
-ghost use Rattle.worst.specs.Worst.{no_extreme, six_extremes, reckoned, worst_of};
+ghost use Rattle.job.specs.Walk.{verdict, judged};
+ghost use Rattle.worst.specs.Worst.{six_extremes, worst_of};
 ghost use Rattle.worst.specs.Stored.{stored_of, stored_in, six_by, reckoned_by};
 ghost use Rattle.worst.specs.Proper.{ProperStored};
 
@@ -13,57 +12,9 @@ use crate::cells::none_stored;
 use crate::engine::{six_by, six_of, sums_of};
 use crate::faces::lay;
 use crate::within::all_within;
-use crate::{Extreme, Extremes, Reckoning, Six, Stored};
+use crate::{Reckoning, Six, Stored};
 use job::{Job, Setting};
-use pair::Pair;
 use verdict::Verdict;
-
-fn no_extreme() -> Extreme
-    ensures { result ≡ no_extreme }
-{
-    let alternative = [0u8; 240];
-    let total = Pair {
-        newtons: 0,
-        remainder: 0,
-    };
-    Extreme {
-        total,
-        wind: 0,
-        internal: 0,
-        faces: 0,
-        alternative,
-    }
-}
-
-pub(crate) fn refused(v: Verdict) -> Reckoning
-    ensures { result ≡ reckoned (Reading.Refused v) }
-{
-    let none = no_extreme();
-    let both = Extremes {
-        greatest: none,
-        least: none,
-    };
-    let six = Six {
-        x: both,
-        y: both,
-        z: both,
-    };
-    Reckoning {
-        verdict: v,
-        year: 0,
-        six,
-    }
-}
-
-pub(crate) fn accepted(year: i64, six: Six) -> Reckoning
-    ensures { result ≡ record { verdict = accepted; year = year; six = six } }
-{
-    Reckoning {
-        verdict: Verdict { number: 0, line: 0 },
-        year,
-        six,
-    }
-}
 
 // All of it but its faces.
 pub(crate) fn setting_of(job: Job) -> Setting
@@ -110,14 +61,17 @@ fn six_stored(job: Job, stored: Stored) -> Six
     six_by(setting_of(job), job.faces.count, &flat, stored)
 }
 
-pub(crate) fn reckon_by(job: Job, v: Verdict) -> Reckoning
+pub(crate) fn reckon_by(job: Job, v: Verdict) -> Result<Reckoning, Verdict>
     requires { v ≡ verdict (judged job) }
     ensures { result ≡ worst_of job }
 {
     if v.number != 0 {
-        return refused(v);
+        return Err(v);
     }
-    accepted(job.year, own_six(job))
+    Ok(Reckoning {
+        year: job.year,
+        six: own_six(job),
+    })
 }
 
 // The same with sums in place of extremes, zeros where there is a refusal.
@@ -132,15 +86,21 @@ pub(crate) fn sums_by(job: Job, v: Verdict) -> Stored
 }
 
 // And with the extremes that stored sums tell, or its own where no job of its year has such sums.
-pub(crate) fn stored_by(job: Job, stored: Stored, v: Verdict) -> Reckoning
+pub(crate) fn stored_by(job: Job, stored: Stored, v: Verdict) -> Result<Reckoning, Verdict>
     requires { v ≡ verdict (judged job) }
     ensures { result ≡ reckoned_by stored (judged job) }
 {
     if v.number != 0 {
-        return refused(v);
+        return Err(v);
     }
     if all_within(stored, job.year) {
-        return accepted(job.year, six_stored(job, stored));
+        return Ok(Reckoning {
+            year: job.year,
+            six: six_stored(job, stored),
+        });
     }
-    accepted(job.year, own_six(job))
+    Ok(Reckoning {
+        year: job.year,
+        six: own_six(job),
+    })
 }
