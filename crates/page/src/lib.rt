@@ -2,19 +2,10 @@
 // place after it, so that one follows another; `emit` puts a whole text at the buffer's start, or refuses.
 #![tactic(auto)]
 
-ghost use Rattle.std.specs.Prelude.{◌≡◌, [], ◌∷◌, ◌+◌, ◌≤◌, min, length, take};
+ghost use Rattle.std.specs.Prelude.{◌≡◌, [], ◌∷◌, ◌+◌, ◌≤◌, length, take};
 ghost use Rattle.page.specs.Writing.{Put, writing, buffer_after};
 
 use verdict::Verdict;
-
-fn lesser(a: usize, b: usize) -> usize
-    ensures { result ≡ min a b }
-{
-    if a < b {
-        return a;
-    }
-    b
-}
 
 pub fn put_byte(buf: &mut [u8], at: usize, b: u8) -> usize
     ensures { Put buf.old at (b ∷ []) buf.new result }
@@ -31,18 +22,14 @@ fn put_whole(buf: &mut [u8], at: usize, s: &[u8]) -> usize
     requires { at + length s.now ≤ length buf.old }
     ensures { Put buf.old at s.now buf.new result }
 {
-    let mut i = 0;
-    while i < s.len() {
-        buf[at + i] = s[i];
-        i += 1;
-    }
+    buf[at..at + s.len()].copy_from_slice(s);
     at + s.len()
 }
 
 pub fn put_bytes(buf: &mut [u8], at: usize, s: &[u8]) -> usize
     ensures { Put buf.old at s.now buf.new result }
 {
-    let start = lesser(at, buf.len());
+    let start = at.min(buf.len());
     let room = buf.len() - start;
     if s.len() <= room {
         return put_whole(buf, start, s);
@@ -55,7 +42,7 @@ pub fn emit(text: &[u8], n: usize, buf: &mut [u8]) -> Result<usize, Verdict>
     ensures { (result ≡ writing (take n text.now) buf.old)
         × (buf.new ≡ buffer_after (take n text.now) buf.old) }
 {
-    let size = lesser(n, text.len());
+    let size = n.min(text.len());
     if buf.len() < size {
         return Err(Verdict { number: 7, line: 0 });
     }

@@ -89,16 +89,15 @@ numbers_more ns i h p q =
 -- a line put after others, s of them: its axis and word, and then the rest, for the same year
 module _ {l m n : List ℕ} {r i : ℕ} {s : List ℕ} {v year : ℤ} (same : v ≡ year) (axis : ℕ) (word : List ℕ) (e : Extreme)
     (p : Put l 0 s m r) (q : Put m r (axis ∷ word) n i) where
-  pub line-asks : {own : List ℕ} → own ≡ e.alternative → Printable year 240 e
-      → length (s ++ extreme_text year axis word e) ≤ length l
-      → Printable v 240 e × (own ≡ e.alternative) × (i + length (after_word v e) ≤ length n)
+  pub line-asks : Printable year 240 e → length (s ++ extreme_text year axis word e) ≤ length l
+      → Printable v 240 e × (i + length (after_word v e) ≤ length n)
   unfolding extreme_text
-  line-asks lent h room =
+  line-asks h room =
       let w = then p q in
       let k = length-append s ((axis ∷ word) ++ after_word year e) in
       let k' = length-append (axis ∷ word) (after_word year e) in
       let j = length-append s (axis ∷ word) in
-      rw same (h, lent, omega (arith, w.end, put-length w, room, k, k', j))
+      rw same (h, omega (arith, w.end, put-length w, room, k, k', j))
 
   pub line-put : {o : List ℕ} {j : ℕ} → Put n i (after_word v e) o j → Put l 0 (s ++ extreme_text year axis word e) o j
   unfolding extreme_text

@@ -1,5 +1,5 @@
 -- The line that refuses, and a report by what was judged.
-use mathlib.Core.Path.{◌≡◌, refl, sym, ap}
+use mathlib.Core.Path.{◌≡◌, refl, sym, ap, subst, ◌∙◌}
 use mathlib.Core.Bool.{true, false}
 use mathlib.Core.List.{List, [], ◌∷◌, ◌++◌, append_assoc}
 use Prim.Native.Nat.{ℕ, ◌<◌}
@@ -8,7 +8,7 @@ use borrow.Author.Tests.{eq-eqb, ne_eqb}
 use lib.Dec.{leb, eqb}
 use Rattle.std.specs.Prelude.{Err}
 use Rattle.whole.proofs.Tests.{by-test}
-use Rattle.page.specs.Writing.{writing, buffer_after}
+use Rattle.page.specs.Writing.{Writing, writing, buffer_after}
 use Rattle.verdict.specs.declared.Verdict.{Verdict}
 use Rattle.verdict.specs.Verdict.{refusal, Refuses}
 use Rattle.job.specs.declared.Job.{Job}
@@ -27,6 +27,7 @@ use Rattle.worst.proofs.Reckoned.{Judged, refused, accepted, job-judged}
 use Rattle.report.specs.Lines.{spaced, six_text}
 use Rattle.report.specs.Report.{refused_text, six_writing, six_buffer}
 use Rattle.report.specs.Report as report
+use Rattle.report.specs.Short.{SixPrintable}
 use Rattle.report.proofs.Lines.{spaced-append}
 
 pub refused-parts : (v : Verdict)
@@ -86,6 +87,21 @@ module _ (reckon : Reading → Reckoning) (text : Carried → List ℕ)
       → ((c : Carried) → InOrder c → P (reckon (Accepted c))) → (reckon x).verdict.number ≡ 0 → P (reckon x)
   six-holds x (refuses v some) P h z = absurd (omega (arith, some, ap (λ (u : Verdict). u.number) (own v)))
   six-holds x (accepts c o) P h z = h c o
+
+  -- so of a record at hand, which was reckoned of what is sound
+  module _ (x : Reading) (sound : Sound x) {w : Reckoning} (e : w ≡ reckon x) where
+    pub prints : ((c : Carried) → InOrder c → SixPrintable (reckon (Accepted c))) → w.verdict.number ≡ 0
+        → SixPrintable w
+    prints h =
+        subst (λ (v : Reckoning). v.verdict.number ≡ 0 → SixPrintable v) (sym e) (six-holds x sound SixPrintable h)
+
+    pub wrote : (buf : List ℕ) {o : Writing} {after : List ℕ} → (o ≡ six_writing w buf) × (after ≡ six_buffer w buf)
+        → (o ≡ job_writing text x buf) × (after ≡ job_buffer text x buf)
+    wrote buf p =
+        let is = six-written x sound buf in (
+          p.0 ∙ ap (λ (v : Reckoning). six_writing v buf) e ∙ is.0,
+          p.1 ∙ ap (λ (v : Reckoning). six_buffer v buf) e ∙ is.1,
+        )
 
 -- ---- a sheet, as it was reckoned
 

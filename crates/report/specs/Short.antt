@@ -35,15 +35,6 @@ Both P e = P e.greatest × P e.least
 abbrev pub AllSix : (Extreme → Type 0) → Six → Type 0
 AllSix P six = Both P six.x × Both P six.y × Both P six.z
 
--- lists that are the alternatives of the six, in the order of the lines
-pub record Own (six : Six) (x_high x_low y_high y_low z_high z_low : List ℕ) : Type 0 where
-  pub x-high : x_high ≡ six.x.greatest.alternative
-  pub x-low : x_low ≡ six.x.least.alternative
-  pub y-high : y_high ≡ six.y.greatest.alternative
-  pub y-low : y_low ≡ six.y.least.alternative
-  pub z-high : z_high ≡ six.z.greatest.alternative
-  pub z-low : z_low ≡ six.z.least.alternative
-
 -- how many faces the job has, by its first line
 abbrev pub faces_shown : Six → ℕ
 faces_shown six = six.x.greatest.faces

@@ -18,6 +18,7 @@ use job::{Job, entry_count};
 use lines_written::put_line;
 use rules::Section;
 use rules::shape::{count_line, section_at, section_count};
+use verdict::Verdict;
 
 // A section: its count, and the entries.
 fn put_section(buf: &mut [u8], at: usize, j: Job, sec: Section) -> usize

@@ -3,8 +3,8 @@ use mathlib.Core.Path.{sym, ap, ◌∙◌}
 use Rattle.answers.specs.Answers.{host_text}
 use Rattle.answers.proofs.text_of.Goals as goal
 
-pub returns-in-Length : goal.returns-in-Length
-returns-in-Length c = ap host_text (sym c.in-Length.is)
+pub returns-in-Ok : goal.returns-in-Ok
+returns-in-Ok c = ap host_text (sym c.in-Ok.is)
 
-pub returns-in-Refused : goal.returns-in-Refused
-returns-in-Refused c = c.no_text.ensures ∙ ap host_text (sym c.in-Refused.is)
+pub returns-in-Err : goal.returns-in-Err
+returns-in-Err c = c.no_text.ensures ∙ ap host_text (sym c.in-Err.is)

@@ -1,31 +1,21 @@
 -- `write_plain` meets its contract: the job's own refusal, 10, or its report.
-use mathlib.Core.Path.{◌≡◌, refl, sym, ap, ◌∙◌, subst}
+use mathlib.Core.Path.{refl}
 use Rattle.job.specs.Walk.{judged}
-use Rattle.worst.specs.declared.Reckoning.{Reckoning}
 use Rattle.worst.specs.Worst.{reckoned}
 use Rattle.plain.specs.Plain.{plainly, plain_of}
-use Rattle.report.specs.Report.{report_text, six_writing, six_buffer}
-use Rattle.report.specs.Short.{SixPrintable}
+use Rattle.report.specs.Report.{report_text}
 use Rattle.report.proofs.Lengths.{report-prints}
-use Rattle.report.proofs.Reports.{plain-sound, six-written, six-holds}
+use Rattle.report.proofs.Reports.{plain-sound, prints, wrote}
 use Rattle.report.proofs.write_plain.Goals as goal
 
 pub write_six-requires : goal.write_six-requires
 unfolding plain_of report_text
 write_six-requires c =
-    let a = c.args in
-    subst (λ (v : Reckoning). v.verdict.number ≡ 0 → SixPrintable v) (sym c.plain_cases.ensures)
-    (six-holds reckoned report_text (λ v. refl) (λ d. refl) (λ d. refl) (plainly (judged a.j))
-    (plain-sound a.j) SixPrintable (λ d o. report-prints d o))
+    prints reckoned report_text (λ v. refl) (λ d. refl) (λ d. refl) (plainly (judged c.args.j))
+    (plain-sound c.args.j) c.plain_cases.ensures report-prints
 
 pub returns : goal.returns
 unfolding plain_of report_text
 returns c =
-    let a = c.args in
-    let is =
-    six-written reckoned report_text (λ v. refl) (λ d. refl) (λ d. refl) (plainly (judged a.j))
-    (plain-sound a.j) a.buf.now in
-    let e = c.plain_cases.ensures in (
-      c.write_six.ensures.0 ∙ ap (λ (v : Reckoning). six_writing v a.buf.now) e ∙ is.0,
-      c.write_six.ensures.1 ∙ ap (λ (v : Reckoning). six_buffer v a.buf.now) e ∙ is.1,
-    )
+    wrote reckoned report_text (λ v. refl) (λ d. refl) (λ d. refl) (plainly (judged c.args.j))
+    (plain-sound c.args.j) c.plain_cases.ensures c.args.buf.now c.write_six.ensures

@@ -1,12 +1,21 @@
--- `write_six` meets its contract: the alternatives that it lends are the record's own.
-use mathlib.Core.Path.{refl}
+-- `write_six` meets its contract: where there is room, all six lines stand at the buffer's start.
+use mathlib.Core.Path.{◌≡◌, ap}
+use mathlib.Core.Bool.{true}
+use lib.Dec.{leb}
+use lib.ListN.{length}
+use borrow.Author.Rules.{rules}
+use borrow.Author.Tests.{eq-eqb, leb-true}
+use Rattle.std.specs.Prelude.{Ok}
+use Rattle.page.specs.Writing.{Put}
+use Rattle.page.proofs.Put.{put-ends, put-start}
+use Rattle.report.specs.Lines.{six_text}
 use Rattle.report.proofs.write_six.Goals as goal
 
-pub write_lent-requires : goal.write_lent-requires
-write_lent-requires c = (
-  c.requires,
-  record { x-high = refl; x-low = refl; y-high = refl; y-low = refl; z-high = refl; z-low = refl },
-)
-
-pub returns : goal.returns
-returns c = c.write_lent.ensures
+pub returns-then-have_room : goal.returns-then-have_room
+returns-then-have_room c =
+    let w = c.args.w.now in
+    let buf = c.args.buf.now in
+    let lines : Put buf 0 (six_text w.year w.six) c.put_six.new.buf c.put_six.result = search rules in
+    let fits : leb (length (six_text w.year w.six)) (length buf) ≡ true = search rules in
+    let room = leb-true _ _ fits in
+    rw (eq-eqb w.verdict.number 0 c.if-v-ne0.false, fits) (ap Ok (put-ends lines room), put-start lines room)

@@ -16,12 +16,12 @@ read a = (returned w64 a.args.year a.ranges.year.sfits).same
 pub line_size-greatest-requires : goal.line_size-greatest-requires
 line_size-greatest-requires c =
     let at_start = (goal.at.line_size-greatest-requires c).Start in
-    subst (λ y. Fair y c.args.e.greatest.total) (sym (read at_start)) c.requires.0.total
+    subst (λ y. Fair y c.args.e.now.greatest.total) (sym (read at_start)) c.requires.0.total
 
 pub line_size-requires : goal.line_size-requires
 line_size-requires c =
     let at_start = (goal.at.line_size-requires c).Start in
-    subst (λ y. Fair y c.args.e.least.total) (sym (read at_start)) c.requires.1.total
+    subst (λ y. Fair y c.args.e.now.least.total) (sym (read at_start)) c.requires.1.total
 
 pub overflow_add-result : goal.overflow_add-result
 overflow_add-result c =
@@ -33,8 +33,8 @@ overflow_add-result c =
       arith,
       g,
       l,
-      fair-short y c.args.e.greatest.total c.requires.0.total,
-      fair-short y c.args.e.least.total c.requires.1.total,
+      fair-short y c.args.e.now.greatest.total c.requires.0.total,
+      fair-short y c.args.e.now.least.total c.requires.1.total,
       c.requires.0.few,
       c.requires.1.few,
     )
@@ -49,7 +49,7 @@ returns c =
       arith,
       g,
       l,
-      axis-length y x c.args.e,
+      axis-length y x c.args.e.now,
       after-length y c.requires.0,
       after-length y c.requires.1,
     )

@@ -18,8 +18,8 @@ use Rattle.report.proofs.six.have_room.Goals as goal
 read : (a : Start) → to_z w64 (of_z w64 a.args.year) ≡ a.args.year
 read a = (returned w64 a.args.year a.ranges.year.sfits).same
 
-most : (a : Start) → length (six_text a.args.year a.args.s) ≤ 3084
-most a = let s = a.args.s in omega (arith, six-most a.args.year (faces_shown s) s a.requires.0, a.requires.1)
+most : (a : Start) → length (six_text a.args.year a.args.s.now) ≤ 3084
+most a = let s = a.args.s.now in omega (arith, six-most a.args.year (faces_shown s) s a.requires.0, a.requires.1)
 
 -- an axis is as long with its own letter
 sized : (a : Start) (letter : ℕ) (e : Extremes) {r : ℕ}
@@ -29,19 +29,18 @@ sized a letter e h =
     ∙ sym (axis-length a.args.year letter e)
 
 -- each axis, as `axis_size` is handed it
-all : (a : Start) → AllSix (Printable (to_z w64 (of_z w64 a.args.year)) 240) a.args.s
+all : (a : Start) → AllSix (Printable (to_z w64 (of_z w64 a.args.year)) 240) a.args.s.now
 all a =
-    let s = a.args.s in
+    let s = a.args.s.now in
     subst (λ v. AllSix (Printable v 240) s) (sym (read a))
     (all_more a.args.year (faces_shown s) 240 a.requires.1 s a.requires.0)
 
 whole : (c : After-axis_size)
     → c.axis_size-x.result + c.axis_size-y.result + c.axis_size.result
-    ≡ length (six_text c.args.year
-    c.args.s)
+    ≡ length (six_text c.args.year c.args.s.now)
 whole c =
     let at_start = (goal.at.After-axis_size c).Start in
-    let s = c.args.s in
+    let s = c.args.s.now in
     omega (
       arith,
       sized at_start x s.x c.axis_size-x.ensures,
@@ -52,7 +51,7 @@ whole c =
 
 pub returns-then-s-room : goal.returns-then-s-room
 returns-then-s-room c =
-    let s = c.args.s in
+    let s = c.args.s.now in
     sym
     (le-leb (length (six_text c.args.year s)) c.args.room
     (omega (arith, six-most c.args.year (faces_shown s) s c.requires.0, c.if-s-room.true)))
@@ -66,7 +65,7 @@ axis_size-y-requires c = (all (goal.at.axis_size-y-requires c).Start).1
 pub overflow_add-result : goal.overflow_add-result
 overflow_add-result c =
     let at_start = (goal.at.overflow_add-result c).Start in
-    let s = c.args.s in
+    let s = c.args.s.now in
     omega (
       arith,
       sized at_start x s.x c.axis_size-x.ensures,

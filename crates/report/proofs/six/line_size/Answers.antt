@@ -14,9 +14,9 @@ read a = (returned w64 a.args.year a.ranges.year.sfits).same
 
 pub put_total-requires : goal.put_total-requires
 put_total-requires c =
-    subst (λ y. Fair y c.args.total) (sym (read (goal.at.put_total-requires c).Start)) c.requires
+    subst (λ y. Fair y c.args.e.now.total) (sym (read (goal.at.put_total-requires c).Start)) c.requires
 
 pub returns : goal.returns
 returns c =
     let w = rw (read (goal.at.returns c).Start) at c.put_total.ensures in
-    omega (arith, w.end, fair-short c.args.year c.args.total c.requires)
+    omega (arith, w.end, fair-short c.args.year c.args.e.now.total c.requires)

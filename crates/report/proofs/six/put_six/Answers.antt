@@ -24,40 +24,40 @@ abbrev line : Start → ℕ → List ℕ → Extreme → List ℕ
 line a letter word e = extreme_text a.args.year letter word e
 
 abbrev upto-one : Start → List ℕ
-upto-one a = line a x max a.args.s.x.greatest
+upto-one a = line a x max a.args.s.now.x.greatest
 
 abbrev upto-two : Start → List ℕ
-upto-two a = upto-one a ++ line a x min a.args.s.x.least
+upto-two a = upto-one a ++ line a x min a.args.s.now.x.least
 
 abbrev upto-three : Start → List ℕ
-upto-three a = upto-two a ++ line a y max a.args.s.y.greatest
+upto-three a = upto-two a ++ line a y max a.args.s.now.y.greatest
 
 abbrev upto-four : Start → List ℕ
-upto-four a = upto-three a ++ line a y min a.args.s.y.least
+upto-four a = upto-three a ++ line a y min a.args.s.now.y.least
 
 abbrev upto-five : Start → List ℕ
-upto-five a = upto-four a ++ line a z max a.args.s.z.greatest
+upto-five a = upto-four a ++ line a z max a.args.s.now.z.greatest
 
 abbrev upto-six : Start → List ℕ
-upto-six a = upto-five a ++ line a z min a.args.s.z.least
+upto-six a = upto-five a ++ line a z min a.args.s.now.z.least
 
 room-six : (a : Start) → length (upto-six a) ≤ length a.args.buf.now
 room-six a = rw (six-lines a.args.year) at a.requires.1
 
 room-five : (a : Start) → length (upto-five a) ≤ length a.args.buf.now
-room-five a = front (upto-five a) (line a z min a.args.s.z.least) (room-six a)
+room-five a = front (upto-five a) (line a z min a.args.s.now.z.least) (room-six a)
 
 room-four : (a : Start) → length (upto-four a) ≤ length a.args.buf.now
-room-four a = front (upto-four a) (line a z max a.args.s.z.greatest) (room-five a)
+room-four a = front (upto-four a) (line a z max a.args.s.now.z.greatest) (room-five a)
 
 room-three : (a : Start) → length (upto-three a) ≤ length a.args.buf.now
-room-three a = front (upto-three a) (line a y min a.args.s.y.least) (room-four a)
+room-three a = front (upto-three a) (line a y min a.args.s.now.y.least) (room-four a)
 
 room-two : (a : Start) → length (upto-two a) ≤ length a.args.buf.now
-room-two a = front (upto-two a) (line a y max a.args.s.y.greatest) (room-three a)
+room-two a = front (upto-two a) (line a y max a.args.s.now.y.greatest) (room-three a)
 
 room-one : (a : Start) → length (upto-one a) ≤ length a.args.buf.now
-room-one a = front (upto-one a) (line a x min a.args.s.x.least) (room-two a)
+room-one a = front (upto-one a) (line a x min a.args.s.now.x.least) (room-two a)
 
 nothing : (a : Start) → Put a.args.buf.now 0 [] a.args.buf.now 0
 nothing a = put-nothing a.args.buf.now 0 (omega arith)
@@ -67,7 +67,7 @@ one : (c : After-put_line-next)
     c.put_line-next.result
 one c =
     let at_start = (goal.at.After-put_line-next c).Start in
-    line-put (read at_start) x max c.args.s.x.greatest (nothing at_start)
+    line-put (read at_start) x max c.args.s.now.x.greatest (nothing at_start)
     c.put_bytes-named.ensures c.put_line-next.ensures
 
 two : (c : After-put_line-next-2)
@@ -75,7 +75,7 @@ two : (c : After-put_line-next-2)
     c.put_line-next-2.result
 two c =
     let at_put_line_next = (goal.at.After-put_line-next-2 c).After-put_line-next in
-    line-put (read (goal.at.After-put_line-next-2 c).Start) x min c.args.s.x.least (one at_put_line_next)
+    line-put (read (goal.at.After-put_line-next-2 c).Start) x min c.args.s.now.x.least (one at_put_line_next)
     c.put_bytes-named-2.ensures c.put_line-next-2.ensures
 
 three : (c : After-put_line-next-3)
@@ -83,7 +83,7 @@ three : (c : After-put_line-next-3)
     c.put_line-next-3.result
 three c =
     let at_put_line_next_2 = (goal.at.After-put_line-next-3 c).After-put_line-next-2 in
-    line-put (read (goal.at.After-put_line-next-3 c).Start) y max c.args.s.y.greatest (two at_put_line_next_2)
+    line-put (read (goal.at.After-put_line-next-3 c).Start) y max c.args.s.now.y.greatest (two at_put_line_next_2)
     c.put_bytes-named-3.ensures c.put_line-next-3.ensures
 
 four : (c : After-put_line-next-4)
@@ -91,7 +91,7 @@ four : (c : After-put_line-next-4)
     c.put_line-next-4.result
 four c =
     let at_put_line_next_3 = (goal.at.After-put_line-next-4 c).After-put_line-next-3 in
-    line-put (read (goal.at.After-put_line-next-4 c).Start) y min c.args.s.y.least (three at_put_line_next_3)
+    line-put (read (goal.at.After-put_line-next-4 c).Start) y min c.args.s.now.y.least (three at_put_line_next_3)
     c.put_bytes-named-4.ensures c.put_line-next-4.ensures
 
 five : (c : After-put_line-next-5)
@@ -99,56 +99,56 @@ five : (c : After-put_line-next-5)
     c.put_line-next-5.result
 five c =
     let at_put_line_next_4 = (goal.at.After-put_line-next-5 c).After-put_line-next-4 in
-    line-put (read (goal.at.After-put_line-next-5 c).Start) z max c.args.s.z.greatest (four at_put_line_next_4)
+    line-put (read (goal.at.After-put_line-next-5 c).Start) z max c.args.s.now.z.greatest (four at_put_line_next_4)
     c.put_bytes-named-5.ensures c.put_line-next-5.ensures
 
 six : (c : After-put_line)
     → Put c.args.buf.now 0 (upto-six (goal.at.After-put_line c).Start) c.put_line.new.buf c.put_line.result
 six c =
     let at_put_line_next_5 = (goal.at.After-put_line c).After-put_line-next-5 in
-    line-put (read (goal.at.After-put_line c).Start) z min c.args.s.z.least (five at_put_line_next_5)
+    line-put (read (goal.at.After-put_line c).Start) z min c.args.s.now.z.least (five at_put_line_next_5)
     c.put_bytes-named-6.ensures c.put_line.ensures
 
 pub put_line-next-requires : goal.put_line-next-requires
 put_line-next-requires c =
     let at_start = (goal.at.put_line-next-requires c).Start in
-    line-asks (read at_start) x max c.args.s.x.greatest (nothing at_start)
-    c.put_bytes-named.ensures c.requires.2.x-high c.requires.0.0.0 (room-one at_start)
+    line-asks (read at_start) x max c.args.s.now.x.greatest (nothing at_start)
+    c.put_bytes-named.ensures c.requires.0.0.0 (room-one at_start)
 
 pub put_line-next-requires-2 : goal.put_line-next-requires-2
 put_line-next-requires-2 c =
     let at_start = (goal.at.put_line-next-requires-2 c).Start in
     let at_put_line_next = (goal.at.put_line-next-requires-2 c).After-put_line-next in
-    line-asks (read at_start) x min c.args.s.x.least (one at_put_line_next)
-    c.put_bytes-named-2.ensures c.requires.2.x-low c.requires.0.0.1 (room-two at_start)
+    line-asks (read at_start) x min c.args.s.now.x.least (one at_put_line_next)
+    c.put_bytes-named-2.ensures c.requires.0.0.1 (room-two at_start)
 
 pub put_line-next-requires-3 : goal.put_line-next-requires-3
 put_line-next-requires-3 c =
     let at_start = (goal.at.put_line-next-requires-3 c).Start in
     let at_put_line_next_2 = (goal.at.put_line-next-requires-3 c).After-put_line-next-2 in
-    line-asks (read at_start) y max c.args.s.y.greatest (two at_put_line_next_2)
-    c.put_bytes-named-3.ensures c.requires.2.y-high c.requires.0.1.0 (room-three at_start)
+    line-asks (read at_start) y max c.args.s.now.y.greatest (two at_put_line_next_2)
+    c.put_bytes-named-3.ensures c.requires.0.1.0 (room-three at_start)
 
 pub put_line-next-requires-4 : goal.put_line-next-requires-4
 put_line-next-requires-4 c =
     let at_start = (goal.at.put_line-next-requires-4 c).Start in
     let at_put_line_next_3 = (goal.at.put_line-next-requires-4 c).After-put_line-next-3 in
-    line-asks (read at_start) y min c.args.s.y.least (three at_put_line_next_3)
-    c.put_bytes-named-4.ensures c.requires.2.y-low c.requires.0.1.1 (room-four at_start)
+    line-asks (read at_start) y min c.args.s.now.y.least (three at_put_line_next_3)
+    c.put_bytes-named-4.ensures c.requires.0.1.1 (room-four at_start)
 
 pub put_line-next-requires-5 : goal.put_line-next-requires-5
 put_line-next-requires-5 c =
     let at_start = (goal.at.put_line-next-requires-5 c).Start in
     let at_put_line_next_4 = (goal.at.put_line-next-requires-5 c).After-put_line-next-4 in
-    line-asks (read at_start) z max c.args.s.z.greatest (four at_put_line_next_4)
-    c.put_bytes-named-5.ensures c.requires.2.z-high c.requires.0.2.0 (room-five at_start)
+    line-asks (read at_start) z max c.args.s.now.z.greatest (four at_put_line_next_4)
+    c.put_bytes-named-5.ensures c.requires.0.2.0 (room-five at_start)
 
 pub put_line-requires : goal.put_line-requires
 put_line-requires c =
     let at_start = (goal.at.put_line-requires c).Start in
     let at_put_line_next_5 = (goal.at.put_line-requires c).After-put_line-next-5 in
-    line-asks (read at_start) z min c.args.s.z.least (five at_put_line_next_5)
-    c.put_bytes-named-6.ensures c.requires.2.z-low c.requires.0.2.1 (room-six at_start)
+    line-asks (read at_start) z min c.args.s.now.z.least (five at_put_line_next_5)
+    c.put_bytes-named-6.ensures c.requires.0.2.1 (room-six at_start)
 
 pub shape_of-buf : goal.shape_of-buf
 shape_of-buf c = put-length (six (goal.at.shape_of-buf c).After-put_line)
