@@ -1,18 +1,20 @@
 -- The totals of a choice, face by face: one face more, and how large they can become.
-use mathlib.Core.Path.{◌≡◌, refl, sym, ap, ◌∙◌, subst}
+use mathlib.Core.Path.{◌≡◌, sym, ap, ◌∙◌}
 use mathlib.Core.Bool.{Bool, true, false, cond}
-use mathlib.Core.List.{List, [], ◌∷◌, ◌++◌, map}
-use Prim.Native.Nat.{ℕ, zero, suc, ◌+◌, ◌*◌, ◌≤◌, ◌<◌}
+use mathlib.Core.List.{List, [], ◌∷◌, ◌++◌}
+use Prim.Native.Nat.{ℕ, ◌+◌, ◌*◌, ◌≤◌, ◌<◌}
 use native.Mathlib.Omega.{arith}
 use lib.Dec.{eqb}
 use lib.IntN.{ℤ, nat_abs, ◌+ℤ◌, +ℤ_assoc, +ℤ_idl, +ℤ_idr}
-use lib.ListN.{length, get_or}
-use Rattle.whole.specs.Lists.{first_of, numbers, Every}
-use Rattle.whole.proofs.Lists.{first_of-length}
+use lib.ListN.{length, get_or, take}
+use lib.Seq.{length-take-le}
+use Rattle.std.proofs.lemmas.List.{take_more}
+use Rattle.whole.specs.Lists.{first_of, Every}
+use Rattle.whole.proofs.Lists.{first_of-length, every-at}
 use Rattle.whole.proofs.FirstOf.{first_of-next}
-use Rattle.whole.proofs.Numbers.{numbers-next}
-use Rattle.whole.proofs.Pieces.{map-append}
+use Rattle.whole.proofs.Pieces.{every_first}
 use Rattle.whole.proofs.Size.{nat_abs-add}
+use Rattle.job.specs.Carried.{most_faces}
 use Rattle.pair.specs.Total.{pair_of, pair_sum}
 use Rattle.pair.proofs.Sums.{sum-pair_of}
 use Rattle.worst.specs.declared.Axis.{Axis}
@@ -20,10 +22,9 @@ use Rattle.worst.specs.declared.Axis.TheVariants.{X, Y, Z}
 use Rattle.worst.specs.declared.AxisForces.{AxisForces}
 use Rattle.worst.specs.declared.FaceForces.{FaceForces}
 use Rattle.worst.specs.Cases.{total}
+use Rattle.worst.specs.PerFace.{no_face_forces}
 use Rattle.worst.specs.Rows.{taken_at, along_axis, force_in}
-use Rattle.plain.specs.AsNumbers.{most_walked, per_row, force_at, row_at, rows_at}
-use Rattle.plain.specs.Walked.{plus, totals_of, most_force, ForceSmall, RowSmall, RowsSmall}
-use Rattle.plain.proofs.Listed.{rows-length}
+use Rattle.plain.specs.Walked.{plus, totals_of, most_force, ForceSmall, RowSmall}
 
 -- ---- bounds
 
@@ -52,31 +53,6 @@ total-small axis (f ∷ fs) (k ∷ ks) h =
       total-small axis fs ks h.1,
     )
 
-rows-every : (l : List ℤ) (n k : ℕ) → ((i : ℕ) → i < n → RowSmall (row_at l (k + i)))
-    → Every RowSmall (map (row_at l) (numbers n k))
-unfolding numbers
-rows-every l zero k h = tt
-rows-every l (suc n) k h =
-    let e : k + 0 ≡ k = omega arith in (
-      subst (λ i. RowSmall (row_at l i)) e (h 0 (omega arith)),
-      rows-every l n (suc k)
-          (λ i t.
-          let d : k + suc i ≡ suc k + i = omega arith in
-          subst (λ m. RowSmall (row_at l m)) d (h (suc i) (omega arith))),
-    )
-
--- the total of n faces at a choice
-pub totals-small : (axis : Axis) (n : ℕ) (l : List ℤ) (ks : List ℕ) → RowsSmall n l
-    → nat_abs (total (force_in axis) (rows_at n l) ks) ≤ n * most_force
-totals-small axis n l ks h =
-    omega (
-      arith,
-      total-small axis (rows_at n l) ks
-          (rows-every l n 0
-          (λ i t. let e : i ≡ 0 + i = omega arith in subst (λ m. RowSmall (row_at l m)) e (h i t))),
-      rows-length n l,
-    )
-
 -- ---- one face more
 
 module _ {F A : Type 0} (force : F → A → ℤ) (f : F) (k : A) where
@@ -90,17 +66,14 @@ module _ {F A : Type 0} (force : F → A → ℤ) (f : F) (k : A) where
       +ℤ_assoc (force g a) (total force fs ks) (force f k)
       ∙ ap (λ z. force g a +ℤ z) (total-snoc fs ks (omega arith))
 
-rows_next : (i : ℕ) (l : List ℤ) → rows_at i l ++ (row_at l i ∷ []) ≡ rows_at (i + 1) l
-rows_next i l =
-    let e : 0 + i ≡ i = omega arith in
-    ap (λ m. rows_at i l ++ (row_at l m ∷ [])) (sym e)
-    ∙ sym (map-append (row_at l) (numbers i 0) ((0 + i) ∷ []))
-    ∙ ap (map (row_at l)) (numbers-next i 0)
-
 -- the next face's force at its alternative
-module _ (l : List ℤ) (choice : List ℕ) (i : ℕ) (few : i < most_walked) (small : RowsSmall (i + 1) l) where
+module _ (fs : List FaceForces) (choice : List ℕ) (i : ℕ) (here : i < length fs) (few : i < most_faces)
+    (small : Every RowSmall fs) where
   abbrev before : List FaceForces
-  before = rows_at i l
+  before = take i fs
+
+  abbrev f : FaceForces
+  f = get_or fs i no_face_forces
 
   abbrev ks : List ℕ
   ks = first_of 0 i choice
@@ -108,32 +81,21 @@ module _ (l : List ℤ) (choice : List ℕ) (i : ℕ) (few : i < most_walked) (s
   abbrev k : ℕ
   k = get_or choice i 0
 
+  -- those before it, and it
+  with-next : before ++ (f ∷ []) ≡ take (i + 1) fs
+  with-next = sym (take_more fs i no_face_forces here)
+
   on-axis : (axis : Axis)
-      → pair_sum (pair_of (total (force_in axis) before ks)) (pair_of (force_in axis (row_at l i) k))
-      ≡ pair_of (total (force_in axis) (rows_at (i + 1) l) (first_of 0 (i + 1) choice))
+      → pair_sum (pair_of (total (force_in axis) before ks)) (pair_of (force_in axis f k))
+      ≡ pair_of (total (force_in axis) (take (i + 1) fs) (first_of 0 (i + 1) choice))
   on-axis axis =
-      sum-pair_of (total (force_in axis) before ks) (force_in axis (row_at l i) k)
-      (omega (arith, totals-small axis i l ks (λ j t. small j (omega arith))))
-      (omega (arith, force-small axis (row_at l i) k (small i (omega arith))))
+      let long = length-take-le i fs (omega arith) in
+      sum-pair_of (total (force_in axis) before ks) (force_in axis f k)
+      (omega (arith, total-small axis before ks (every_first RowSmall i fs small), long))
+      (omega (arith, force-small axis f k (every-at RowSmall fs no_face_forces i here small)))
       ∙ ap pair_of
-      (total-snoc (force_in axis) (row_at l i) k before ks (rows-length i l ∙ sym (first_of-length 0 i choice))
-      ∙ (λ j. total (force_in axis) (rows_next i l j) (first_of-next 0 choice i j)))
+      (total-snoc (force_in axis) f k before ks (long ∙ sym (first_of-length 0 i choice))
+      ∙ (λ j. total (force_in axis) (with-next j) (first_of-next 0 choice i j)))
 
-  pub total-next : plus (totals_of before ks) (taken_at (row_at l i) k)
-      ≡ totals_of (rows_at (i + 1) l) (first_of 0 (i + 1) choice)
+  pub total-next : plus (totals_of before ks) (taken_at f k) ≡ totals_of (take (i + 1) fs) (first_of 0 (i + 1) choice)
   total-next = λ j. record { x = on-axis X j; y = on-axis Y j; z = on-axis Z j }
-
--- where it stands in the list
-pub taken-there : (l : List ℤ) (i k : ℕ) → taken_at (row_at l i) k ≡ force_at l (per_row * i + cond (eqb k 1) 1 4)
-taken-there l i k = go (eqb k 1)
-  where
-    go : (t : Bool) → cond t (row_at l i).first (row_at l i).last ≡ force_at l (per_row * i + cond t 1 4)
-    go true = refl
-    go false = refl
-
-pub place-near : (i k : ℕ) → per_row * i + cond (eqb k 1) 1 4 ≤ per_row * i + 4
-place-near i k = go (eqb k 1)
-  where
-    go : (t : Bool) → per_row * i + cond t 1 4 ≤ per_row * i + 4
-    go true = omega arith
-    go false = omega arith

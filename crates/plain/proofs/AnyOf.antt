@@ -1,38 +1,25 @@
 -- Whether one of a list has something: gone through one by one, and because one has it.
 use mathlib.Core.Path.{◌≡◌, refl, sym, ap, ◌∙◌}
 use mathlib.Core.Logic.{⊎_elim}
-use mathlib.Core.Bool.{Bool, true, false, cond, ◌||◌}
+use mathlib.Core.Bool.{Bool, true, false, ◌||◌}
 use mathlib.Core.List.Memᴰ
-use mathlib.Core.List.{List, [], ◌∷◌, Memᴰ}
-use Prim.Native.Nat.{ℕ, zero, suc, ◌+◌, ◌<◌}
-use native.Mathlib.Numerals.{add-one}
-use native.Mathlib.Omega.{arith}
+use mathlib.Core.List.{List, [], ◌∷◌, ◌++◌, Memᴰ}
+use Prim.Native.Nat.{ℕ, ◌+◌, ◌<◌}
 use lib.ListN.{length, take, get_or}
+use Rattle.std.proofs.lemmas.List.{take_more}
+use Rattle.whole.proofs.Tests.{or-none, or_assoc}
 use Rattle.plain.specs.Plain.{any_of}
 
--- the one at place i, after those before it
-any-after : {A : Type 0} (has : A → Bool) (l : List A) (d : A) (i : ℕ) → i < length l
-    → any_of has (take (suc i) l) ≡ cond (has (get_or l i d)) true (any_of has (take i l))
-unfolding any_of
-any-after has [] d i h = absurd (omega arith)
-any-after has (x ∷ l) d zero h = go (has x)
-  where
-    go : (t : Bool) → (t || false) ≡ cond t true false
-    go true = refl
-    go false = refl
-any-after has (x ∷ l) d (suc i) h =
-    ap (λ t. has x || t) (any-after has l d i (omega arith)) ∙ go (has x) (has (get_or l i d))
-  where
-    go : (s t : Bool) → (s || cond t true (any_of has (take i l))) ≡ cond t true (s || any_of has (take i l))
-    go true true = refl
-    go true false = refl
-    go false true = refl
-    go false false = refl
-
 module _ {A : Type 0} (has : A → Bool) where
+  any-snoc : (l : List A) (x : A) → any_of has (l ++ (x ∷ [])) ≡ (any_of has l || has x)
+  unfolding any_of
+  any-snoc [] x = sym (or-none (has x))
+  any-snoc (y ∷ l) x = ap (λ t. has y || t) (any-snoc l x) ∙ or_assoc (has y) (any_of has l) (has x)
+
+  -- the one at place i, after those before it
   pub any_next : (l : List A) (d : A) (i : ℕ) → i < length l
-      → any_of has (take (i + 1) l) ≡ cond (has (get_or l i d)) true (any_of has (take i l))
-  any_next l d i h = ap (λ n. any_of has (take n l)) (add-one i) ∙ any-after has l d i h
+      → any_of has (take (i + 1) l) ≡ (any_of has (take i l) || has (get_or l i d))
+  any_next l d i h = ap (any_of has) (take_more l i d h) ∙ any-snoc (take i l) (get_or l i d)
 
   pub any-member : (l : List A) (x : A) → Memᴰ x l → has x ≡ true → any_of has l ≡ true
   unfolding any_of

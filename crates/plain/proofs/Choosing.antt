@@ -21,7 +21,7 @@ use Rattle.worst.specs.Cases.{each, choices}
 use Rattle.worst.specs.Quick.{over}
 use Rattle.worst.specs.Shown.{padded}
 use Rattle.worst.proofs.Better.{over-map}
-use Rattle.plain.specs.AsNumbers.{most_walked}
+use Rattle.job.specs.Carried.{most_faces}
 use Rattle.plain.specs.declared.choices.Turn.{Turn}
 use Rattle.plain.specs.ByNumber.{has_two, ways, choice_of, turn_of}
 use Rattle.plain.specs.Walked.{alternatives_in, valued, walked}
@@ -187,7 +187,7 @@ unfolding first_of
 own [] rest = refl
 own (k ∷ ks) rest = ap (λ l. k ∷ l) (own ks rest)
 
-pub own-choice : (n : ℕ) (choice ks : List ℕ) → choice ≡ padded most_walked ks → length ks ≡ n
+pub own-choice : (n : ℕ) (choice ks : List ℕ) → choice ≡ padded most_faces ks → length ks ≡ n
     → first_of 0 n choice ≡ ks
 unfolding padded
 own-choice n choice ks e long = (λ j. first_of 0 (sym long j) (e j)) ∙ own ks _

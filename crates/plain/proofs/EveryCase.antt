@@ -30,7 +30,6 @@ use Rattle.worst.proofs.Better.{best-over, over-each, over-map, over-same, over-
 use Rattle.worst.proofs.Members.{choices-only}
 use Rattle.worst.proofs.OneFace.{OneOrTwo, alone, pair}
 use Rattle.worst.specs.Rows.{rows, force_in}
-use Rattle.plain.specs.AsNumbers.{rows_at}
 use Rattle.plain.specs.Walked.{alternatives_in, case_with}
 use Rattle.worst.specs.Rows.{Taken}
 use Rattle.plain.specs.Walked.{valued, walked, cell_walked, wind_walked}
@@ -126,13 +125,11 @@ module _ (j : Job) (t : Taken j) (axis : Axis) (s : Side) (w i : ℕ) (from : 1 
 
 -- ---- all of them
 
--- the walk over the faces, with the forces that were put into a list
+-- the walk over the faces, with the forces that are handed over
 pub walked_here : (j : Job) (t : Taken j) (axis : Axis) (s : Side) (w i : ℕ) → 1 ≤ w → w ≤ j.winds.count → 1 ≤ i
-    → i ≤ j.internals.count → (list : List ℤ)
-    → rows_at j.faces.count list ≡ rows j.faces.count (forces_in w i (judged j))
-    → let all = rows_at j.faces.count list in
-    walked s (total (force_in axis) all) w i all ≡ cell_walked s (loads axis (given (carried j))) w i
-walked_here j t axis s w i a b c d list e =
+    → i ≤ j.internals.count → (all : List FaceForces) → all ≡ rows j.faces.count (forces_in w i (judged j))
+    → walked s (total (force_in axis) all) w i all ≡ cell_walked s (loads axis (given (carried j))) w i
+walked_here j t axis s w i a b c d all e =
     let same = e ∙ ap (rows j.faces.count) (cell-is j t w i a b c d) in
     (λ k. walked s (total (force_in axis) (same k)) w i (same k)) ∙ cell-walked j t axis s w i a b
 

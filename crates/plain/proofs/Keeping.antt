@@ -15,7 +15,7 @@ use Rattle.worst.specs.Shown.{padded, shown}
 use Rattle.pair.specs.declared.Pair.{Pair}
 use Rattle.pair.specs.Total.{pair_of}
 use Rattle.pair.proofs.Order.{lesser-pair_of}
-use Rattle.plain.specs.AsNumbers.{most_walked}
+use Rattle.job.specs.Carried.{most_faces}
 use Rattle.plain.specs.Walked.{case_with, short_of, Keeps}
 
 -- a later total falls short as its pair does
@@ -28,7 +28,7 @@ abbrev pub later : Pair → ℕ → ℕ → ℕ → List ℕ → Extreme
 later p w i n chosen = record { total = p; wind = w; internal = i; faces = n; alternative = chosen }
 
 module _ (s : Side) (n : ℕ) (e : Extreme) (p : Pair) (v : ℤ) (w i : ℕ) (ks choice : List ℕ) (some : 0 < w)
-    (is : p ≡ pair_of v) (chosen : choice ≡ padded most_walked ks) where
+    (is : p ≡ pair_of v) (chosen : choice ≡ padded most_faces ks) where
   abbrev next : Best (Case ℕ ℕ ℕ)
   next = at v (case_with w i ks)
 

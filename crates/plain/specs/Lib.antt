@@ -1,5 +1,4 @@
 -- The plain reckoning. All but `Plain` serves private contracts alone.
 pub mod Plain
-pub mod AsNumbers
 pub mod ByNumber
 pub mod Walked

@@ -1,9 +1,10 @@
 -- The walk over every choice, as the code has it. Only contracts of private functions cite it.
-use Rattle.std.specs.Prelude.{◌≡◌, Bool, cond, List, [], ◌∷◌, ℕ, ◌*◌, ◌≤◌, ◌<◌, eqb, ℤ, nat_abs, length, get_or}
+use Rattle.std.specs.Prelude.{◌≡◌, Bool, cond, List, [], ◌∷◌, ℕ, ◌≤◌, ◌<◌, eqb, ℤ, nat_abs, length, get_or}
+use Rattle.whole.specs.Lists.{Every}
 use Rattle.pair.specs.declared.Pair.{Pair}
 use Rattle.pair.specs.Total.{pair_of, pair_sum, lesser}
 use Rattle.job.specs.declared.Job.{Job}
-use Rattle.job.specs.Carried.{Carried, carried, no_wind, no_face}
+use Rattle.job.specs.Carried.{Carried, carried, most_faces, no_wind, no_face}
 use Rattle.worst.specs.declared.Side.{Side}
 use Rattle.worst.specs.declared.Side.TheVariants.{Greatest, Least}
 use Rattle.worst.specs.declared.Axis.{Axis}
@@ -20,7 +21,6 @@ use Rattle.worst.specs.Shown.{padded, shown}
 use Rattle.worst.specs.Rows.{force_in}
 use Rattle.plain.specs.declared.add.Totals.{Totals}
 use Rattle.plain.specs.Plain.{faces_with_two, most_with_two}
-use Rattle.plain.specs.AsNumbers.{most_walked, per_row, row_at, rows_at}
 use Rattle.plain.specs.ByNumber.{most_ways, ways}
 
 -- ---- the forces of a cell: each face with its alternatives
@@ -59,9 +59,6 @@ pub record RowSmall (f : FaceForces) : Type 0 where
   pub first : ForceSmall f.first
   pub last : ForceSmall f.last
 
-abbrev pub RowsSmall : ℕ → List ℤ → Type 0
-RowsSmall n l = (i : ℕ) → i < n → RowSmall (row_at l i)
-
 -- ---- every choice
 
 abbrev pub case_with : ℕ → ℕ → List ℕ → Case ℕ ℕ ℕ
@@ -95,15 +92,14 @@ short_of Least earlier later = lesser later earlier
 -- what is kept of an earlier extreme and a later total, which is that of v
 abbrev pub KeepsWith : Side → Extreme → Extreme → Pair → List ℕ → ℕ → ℕ → Type 0
 KeepsWith s earlier r later choice w i = (v : ℤ) (n : ℕ) (ks : List ℕ) (b : Best (Case ℕ ℕ ℕ)) → later ≡ pair_of v
-    → choice ≡ padded most_walked ks → Keeps n earlier b → Keeps n r (better s b (at v (case_with w i ks)))
+    → choice ≡ padded most_faces ks → Keeps n earlier b → Keeps n r (better s b (at v (case_with w i ks)))
 
--- a cell that can be walked: so many faces in the list
-pub record Underway (n wind : ℕ) (list : List ℤ) : Type 0 where
-  pub few : n ≤ most_walked
-  pub room : per_row * n ≤ length list
+-- a cell that can be walked: the forces of its faces
+pub record Underway (wind : ℕ) (fs : List FaceForces) : Type 0 where
+  pub few : length fs ≤ most_faces
   pub some : 0 < wind
-  pub small : RowsSmall n list
-  pub ways≤ : ways (rows_at n list) ≤ most_ways
+  pub small : Every RowSmall fs
+  pub ways≤ : ways fs ≤ most_ways
 
 -- ---- a job
 

@@ -1,11 +1,13 @@
 // One case added up: of each face the force at its alternative.
-ghost use Rattle.std.specs.Prelude.{◌≡◌, cond, ◌+◌, ◌*◌, ◌≤◌, ◌<◌, eqb, length};
-ghost use Rattle.whole.specs.Lists.{first_of};
-ghost use Rattle.plain.specs.AsNumbers.{most_walked, per_row, rows_at};
-ghost use Rattle.plain.specs.Walked.{plus, totals_of, RowsSmall};
+ghost use Rattle.std.specs.Prelude.{◌≡◌, ◌≤◌, length};
+ghost use Rattle.whole.specs.Lists.{first_of, Every};
+ghost use Rattle.job.specs.Carried.{most_faces};
+ghost use Rattle.worst.specs.Rows.{taken_at};
+ghost use Rattle.plain.specs.Walked.{plus, totals_of, RowSmall};
 
-use crate::numbers::{MOST_WALKED, PER_ROW};
+use job::MOST_FACES;
 use pair::Pair;
+use worst::{AxisForces, FaceForces};
 
 // The totals on the three axes.
 #[derive(Clone, Copy)]
@@ -16,32 +18,27 @@ pub(crate) struct Totals {
 }
 
 // With a force added.
-fn with_force(all: Totals, x: i64, y: i64, z: i64) -> Totals
-    ensures { result ≡ plus all (record { x = x; y = y; z = z }) }
+fn with_force(all: Totals, f: AxisForces) -> Totals
+    ensures { result ≡ plus all f }
 {
     Totals {
-        x: pair::sum(all.x, pair::of_units(x)),
-        y: pair::sum(all.y, pair::of_units(y)),
-        z: pair::sum(all.z, pair::of_units(z)),
+        x: pair::sum(all.x, pair::of_units(f.x)),
+        y: pair::sum(all.y, pair::of_units(f.y)),
+        z: pair::sum(all.z, pair::of_units(f.z)),
     }
 }
 
-// Where the force of face i at its alternative k stands.
-fn place(i: usize, k: u8) -> usize
-    requires { i < most_walked }
-    ensures { result ≡ per_row * i + cond (eqb k 1) 1 4 }
+// The force of a face at its alternative k.
+fn force_at(f: &FaceForces, k: u8) -> AxisForces
+    ensures { result ≡ taken_at f.now k }
 {
-    let at = PER_ROW * i;
-    if k == 1 {
-        return at + 1;
-    }
-    at + 4
+    if k == 1 { f.first } else { f.last }
 }
 
 // The totals of a choice.
-pub(crate) fn total(list: &[i64], faces: usize, choice: [u8; MOST_WALKED]) -> Totals
-    requires { (faces ≤ most_walked) × (per_row * faces ≤ length list.now) × RowsSmall faces list.now }
-    ensures { result ≡ totals_of (rows_at faces list.now) (first_of 0 faces choice) }
+pub(crate) fn total(fs: &[FaceForces], choice: [u8; MOST_FACES]) -> Totals
+    requires { (length fs.now ≤ most_faces) × Every RowSmall fs.now }
+    ensures { result ≡ totals_of fs.now (first_of 0 (length fs.now) choice) }
 {
     let none = pair::of_units(0);
     let mut all = Totals {
@@ -49,11 +46,8 @@ pub(crate) fn total(list: &[i64], faces: usize, choice: [u8; MOST_WALKED]) -> To
         y: none,
         z: none,
     };
-    let mut i = 0;
-    while i < faces {
-        let at = place(i, choice[i]);
-        all = with_force(all, list[at], list[at + 1], list[at + 2]);
-        i += 1;
+    for (i, f) in fs.iter().enumerate() {
+        all = with_force(all, force_at(f, choice[i]));
     }
     all
 }

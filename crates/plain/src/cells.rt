@@ -10,7 +10,6 @@ ghost use Rattle.worst.specs.Rows.{Taken};
 ghost use Rattle.plain.specs.Walked.{Keeps, FewTwos, wind_walked};
 
 use crate::keep::nothing_yet;
-use crate::numbers::{NUMBERS, put_cell};
 use crate::walk::walk;
 use job::Job;
 use worst::Six;
@@ -23,14 +22,10 @@ fn every_internal(six: Six, job: Job, wind: u32) -> Six
         → Keeps job.faces.count (shown_in result axis s) (better s b (wind_walked axis s (carried job) wind)) }
 {
     let faces = job.faces.count as usize;
-    let count = job.internals.count;
     let mut all = six;
-    let mut i = 0;
-    while i < count {
-        i += 1;
-        let mut list = [0i64; NUMBERS];
-        put_cell(job, wind, i, &mut list);
-        all = walk(all, &list, faces, wind, i);
+    for i in 1..=job.internals.count {
+        let cell = worst::forces_of(job, wind, i);
+        all = walk(all, &cell.face[..faces], wind, i);
     }
     all
 }
@@ -40,11 +35,8 @@ pub(crate) fn every_wind(job: Job) -> Six
     requires { Taken job × FewTwos job }
     ensures { result ≡ six_extremes (carried job) }
 {
-    let winds = job.winds.count;
     let mut six = nothing_yet(job.faces.count);
-    let mut w = 0;
-    while w < winds {
-        w += 1;
+    for w in 1..=job.winds.count {
         six = every_internal(six, job, w);
     }
     six

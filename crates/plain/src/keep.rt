@@ -1,6 +1,7 @@
 // The case that goes furthest so far, on each axis and side: a later one takes its place only where it goes further.
-ghost use Rattle.std.specs.Prelude.{◌≡◌, List, ℕ, ◌<◌};
+ghost use Rattle.std.specs.Prelude.{◌≡◌, List, ℕ, ◌<◌, length};
 ghost use Rattle.whole.specs.Lists.{first_of};
+ghost use Rattle.job.specs.Carried.{most_faces};
 ghost use Rattle.worst.specs.declared.Side.{Side};
 ghost use Rattle.worst.specs.declared.Axis.{Axis};
 ghost use Rattle.worst.specs.Best.{Best, none, at, better};
@@ -8,19 +9,18 @@ ghost use Rattle.worst.specs.Cases.{Case, total};
 ghost use Rattle.worst.specs.Shown.{padded, shown};
 ghost use Rattle.worst.specs.Rows.{force_in};
 ghost use Rattle.worst.specs.Worst.{on_side, shown_in};
-ghost use Rattle.plain.specs.AsNumbers.{most_walked, rows_at};
 ghost use Rattle.plain.specs.Walked.{case_with, short_of, Keeps, KeepsWith, Underway};
 
 use crate::add;
-use crate::numbers::MOST_WALKED;
+use job::MOST_FACES;
 use pair::Pair;
-use worst::{Extreme, Extremes, Side, Six};
+use worst::{Extreme, Extremes, FaceForces, Side, Six};
 
 // No case yet, for a job with so many faces: the number of the wind is 0.
 pub(crate) fn nothing_yet(faces: u32) -> Six
     ensures { (axis : Axis) (s : Side) → shown_in result axis s ≡ shown faces none }
 {
-    let alternative = [0u8; MOST_WALKED];
+    let alternative = [0u8; MOST_FACES];
     let total = Pair {
         newtons: 0,
         remainder: 0,
@@ -58,7 +58,7 @@ fn kept(
     side: Side,
     e: Extreme,
     total: Pair,
-    choice: [u8; MOST_WALKED],
+    choice: [u8; MOST_FACES],
     wind: u32,
     internal: u32,
 ) -> Extreme
@@ -72,11 +72,7 @@ fn kept(
         faces: e.faces,
         alternative: choice,
     };
-    if e.wind == 0 {
-        return later;
-    }
-    let earlier = e.total;
-    if further(side, earlier, total) {
+    if e.wind == 0 || further(side, e.total, total) {
         return later;
     }
     e
@@ -86,7 +82,7 @@ fn kept(
 fn both_kept(
     e: Extremes,
     total: Pair,
-    choice: [u8; MOST_WALKED],
+    choice: [u8; MOST_FACES],
     wind: u32,
     internal: u32,
 ) -> Extremes
@@ -101,20 +97,19 @@ fn both_kept(
 // One case more on every axis.
 pub(crate) fn with_case(
     six: Six,
-    list: &[i64],
-    faces: usize,
-    choice: [u8; MOST_WALKED],
+    fs: &[FaceForces],
+    choice: [u8; MOST_FACES],
     wind: u32,
     internal: u32,
 ) -> Six
-    requires { Underway faces wind list.now }
+    requires { Underway wind fs.now }
     ensures { (axis : Axis) (s : Side) (n : ℕ) (ks : List ℕ) (b : Best (Case ℕ ℕ ℕ))
-        → choice ≡ padded most_walked ks → Keeps n (shown_in six axis s) b
+        → choice ≡ padded most_faces ks → Keeps n (shown_in six axis s) b
         → Keeps n (shown_in result axis s)
-        (better s b (at (total (force_in axis) (rows_at faces list.now) (first_of 0 faces choice))
+        (better s b (at (total (force_in axis) fs.now (first_of 0 (length fs.now) choice))
         (case_with wind internal ks))) }
 {
-    let t = add::total(list, faces, choice);
+    let t = add::total(fs, choice);
     let x = both_kept(six.x, t.x, choice, wind, internal);
     let y = both_kept(six.y, t.y, choice, wind, internal);
     let z = both_kept(six.z, t.z, choice, wind, internal);

@@ -12,7 +12,6 @@ use verdict::Verdict;
 use worst::{Reckoning, Six};
 
 mod twos; // how many faces have two alternatives
-mod numbers; // the forces of a cell as numbers in a lent list
 mod add; // one case added up
 mod keep; // the first case that goes furthest
 mod choices; // the choice of alternatives of a number

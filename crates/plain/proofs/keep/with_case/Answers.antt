@@ -5,7 +5,7 @@ use Rattle.plain.specs.declared.add.Totals.{Totals}
 use Rattle.plain.proofs.keep.with_case.Goals as goal
 
 pub total-t-requires : goal.total-t-requires
-total-t-requires c = (c.requires.few, c.requires.room, c.requires.small)
+total-t-requires c = (c.requires.few, c.requires.small)
 
 pub both_kept-x-requires : goal.both_kept-x-requires
 both_kept-x-requires c = c.requires.some

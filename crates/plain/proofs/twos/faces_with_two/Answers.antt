@@ -1,108 +1,104 @@
--- `twos::faces_with_two` meets its contract: after w winds the faces are marked that have two under one of these.
--- face k has two under a wind, and under one of the first w
-use mathlib.Core.Path.{◌≡◌, refl, sym, ap, ◌∙◌}
-use mathlib.Core.Bool.{Bool, true, false, cond}
-use mathlib.Core.List.{map}
-use Prim.Native.Nat.{ℕ, ◌+◌, ◌-◌, ◌≤◌, ◌<◌}
+-- `twos::faces_with_two` meets its contract: the faces are marked that have two under one of the winds so far.
+use mathlib.Core.Path.{◌≡◌, refl, sym, ap, ◌∙◌, subst}
+use mathlib.Core.Bool.{Bool, false, cond, ◌||◌}
+use mathlib.Core.List.{List, map}
+use Prim.Native.Nat.{ℕ, suc, ◌+◌, ◌-◌, ◌≤◌, ◌<◌}
 use native.Mathlib.Omega.{arith}
-use borrow.Author.Rules.{rules}
-use lib.Dec.{eqb}
-use lib.ListN.{length, get_or, get_or-replicate}
-use lib.Seq.{take_all}
-use Rattle.whole.specs.Lists.{numbers, how_many}
-use Rattle.whole.proofs.Counting.{many-map, many-same}
-use Rattle.whole.proofs.Numbers.{places, numbers-member}
+use lib.ListN.{length, get_or, get_or-replicate, length-map, take}
+use lib.Seq.{length-take-le, take_all}
+use Rattle.std.proofs.lemmas.List.{ext_get_or, get_or-take}
+use Rattle.std.proofs.lemmas.List.Recursion.{is_count_by}
+use Rattle.whole.specs.Lists.{how_many}
+use Rattle.whole.proofs.Counting.{many-map}
+use Rattle.whole.proofs.Lists.{get_d_map}
 use Rattle.job.specs.declared.Job.{Job}
-use Rattle.job.specs.Carried.{carried, no_wind, no_face}
+use Rattle.job.specs.Carried.{carried, most_faces, no_wind, no_face}
+use Rattle.worst.specs.Rows.{Taken}
 use Rattle.worst.specs.Worst.{given}
 use Rattle.worst.proofs.Rows.{ready, winds-counted, faces-counted}
-use Rattle.plain.specs.AsNumbers.{most_walked}
 use Rattle.plain.specs.Plain.{any_of, two_somewhere}
+use Rattle.plain.specs.Walked.{two_under}
 use Rattle.plain.proofs.AnyOf.{any_next}
-use Rattle.plain.proofs.twos.faces_with_two.Invariants.{among, two}
-use Rattle.plain.proofs.twos.faces_with_two.Goals.{In-loop-w, Start}
+use Rattle.plain.proofs.twos.faces_with_two.Invariants.{among, two, Marked}
+use Rattle.plain.proofs.twos.faces_with_two.Goals.{else-loop-w-test, then-loop-w-test+else-w-w-end}
 use Rattle.plain.proofs.twos.faces_with_two.Goals as goal
 
--- a wind that counts
-module _ (d : In-loop-w) where
-  abbrev a : Start
-  a = (goal.at.In-loop-w d).Start
+-- those of wind w are marked besides those of the winds before it
+through : (j : Job) (t : Taken j) (w : ℕ) (was marks : List Bool) → 1 ≤ w → w ≤ j.winds.count → Marked j (w - 1) was
+    → (length marks ≡ most_faces)
+    × ((k : ℕ) → k < j.faces.count → get_or marks k false ≡ (get_or was k false || two_under j (w - 1) k))
+    → Marked j w marks
+through j t w was marks from to m h =
+    let winds = (carried j).winds in
+    let e : w - 1 + 1 ≡ w = omega arith in
+    record {
+      long = h.0;
+      at = λ k u.
+          h.1 k u
+          ∙ ap (λ x. x || two j k (get_or winds (w - 1) no_wind)) (m.at k u)
+          ∙ sym (any_next (two j k) winds no_wind (w - 1) (omega (arith, winds-counted j t)))
+          ∙ ap (λ n. among j n k) e;
+    }
 
-  abbrev j : Job
-  j = a.args.job
-
-  abbrev w : ℕ
-  w = d.loop-w.w
-
-  counted : w < j.winds.count
-  counted = d.loop-w-test.true
-
-  below : w < 8
-  below = let t = counted in omega (arith, (ready j a.requires).winds)
-
-  -- one more
-  next : (k : ℕ) (t : Bool)
-      → ◌≡◌ {A = ℕ} (cond t 1 (cond (among j w k) 1 0)) (cond (cond t true (among j w k)) 1 0)
-  next k true = refl
-  next k false = refl
-
-shown : (t : Bool) → eqb (cond t 1 0) 1 ≡ t
-shown true = refl
-shown false = refl
+-- the marks of the faces, once they tell of all winds
+marks-are : (j : Job) (t : Taken j) (marks : List Bool) → Marked j j.winds.count marks
+    → take j.faces.count marks ≡ map (two_somewhere (given (carried j))) (carried j).faces
+marks-are j t marks m =
+    let n = j.faces.count in
+    let g = given (carried j) in
+    let long = length-take-le n marks (omega (arith, m.long, (ready j t).profiled.few)) in
+    ext_get_or false (take n marks) (map (two_somewhere g) g.faces)
+    (long ∙ sym (length-map g.faces (two_somewhere g) ∙ faces-counted j t))
+    (λ k h.
+    let low : k < n = omega (arith, long) in
+    get_or-take n marks k false low
+    ∙ m.at k low
+    ∙ ap (any_of (two j k)) (take_all j.winds.count g.winds (omega (arith, winds-counted j t)))
+    ∙ sym (get_d_map (two_somewhere g) g.faces k no_face false (omega (arith, faces-counted j t))))
 
 pub loop-w-init : goal.loop-w-init
 unfolding any_of
 loop-w-init c =
     let few = (ready c.args.job c.requires).profiled.few in
-    (search rules, refl, λ k t. get_or-replicate most_walked k 0 0 (omega arith))
-
-pub overflow_add-w : goal.overflow_add-w
-overflow_add-w c = omega (arith, below c)
+    record { long = refl; at = λ k t. get_or-replicate most_faces k false false (omega (arith, few)) }
 
 pub mark_twos-requires : goal.mark_twos-requires
-mark_twos-requires c =
-    let at_loop_w = (goal.at.mark_twos-requires c).In-loop-w in
-    (c.requires, omega arith, omega (arith, counted at_loop_w), c.loop-w.invariant.1)
-
-pub loop-w-smaller : goal.loop-w-smaller
-loop-w-smaller c = let t = counted (goal.at.loop-w-smaller c).In-loop-w in omega arith
+mark_twos-requires c = (c.requires, c.loop-w.auto.w, c.loop-w-test.true, c.loop-w.invariant.long)
 
 pub loop-w-preserved : goal.loop-w-preserved
 loop-w-preserved c =
-    let at_loop_w = (goal.at.loop-w-preserved c).In-loop-w in
-    let long = winds-counted (j at_loop_w) c.requires in
-    let back : w at_loop_w + 1 - 1 ≡ w at_loop_w = omega arith in (
-      omega (arith, counted at_loop_w),
-      c.mark_twos.ensures.0,
-      λ k h.
-          let u = get_or (carried (j at_loop_w)).winds (w at_loop_w) no_wind in
-          c.mark_twos.ensures.1 k h
-          ∙ (λ m. cond (two (j at_loop_w) k (get_or (carried (j at_loop_w)).winds (back m) no_wind)) 1
-          (c.loop-w.invariant.2 k h m))
-          ∙ next at_loop_w k (two (j at_loop_w) k u)
-          ∙ ap (λ t. cond t 1 0)
-          (sym (any_next (two (j at_loop_w) k) (carried (j at_loop_w)).winds no_wind (w at_loop_w) (omega
-          (arith, counted at_loop_w, long)))),
-    )
+    let e : c.loop-w.w ≡ c.loop-w.w + 1 - 1 = omega arith in
+    subst (λ n. Marked c.args.job n c.mark_twos.new.marks) e
+    (through c.args.job c.requires c.loop-w.w c.loop-w.marks c.mark_twos.new.marks c.loop-w.auto.w c.loop-w-test.true
+    c.loop-w.invariant c.mark_twos.ensures)
 
-pub how_many-requires : goal.how_many-requires
-how_many-requires c = (ready c.args.job c.requires).profiled.few
+pub slice_bounds-marks-end : goal.slice_bounds-marks-end
+slice_bounds-marks-end c = omega (arith, (ready c.args.job c.requires).profiled.few)
+
+pub slice_bounds-how_many-end : goal.slice_bounds-how_many-end
+slice_bounds-how_many-end c =
+    sym (length-take-le _ c.loop-w-test.marks (omega (arith, (ready c.args.job c.requires).profiled.few)))
 
 pub returns : goal.returns
+unfolding how_many
 returns c =
-    let l = c.loop-w in
     let j = c.args.job in
+    let t = c.requires in
     let g = given (carried j) in
-    let n = j.faces.count in
-    let all : length g.winds ≤ l.w = omega (arith, c.loop-w-test.false, winds-counted j c.requires) in
+    let all : Marked j j.winds.count c.loop-w-test.marks =
+    elim c.loop-w-test.branch [
+      | else-loop-w-test w ↦ absurd (omega (arith, (ready j t).some_wind, w.loop-w-test.false))
+      | then-loop-w-test+else-w-w-end w ↦
+          let last : c.loop-w.w ≡ j.winds.count = omega arith in
+          subst (Marked j j.winds.count) (sym w.marks-is)
+          (subst (λ n. Marked j n w.mark_twos.new.marks) last
+          (through j t c.loop-w.w c.loop-w.marks w.mark_twos.new.marks c.loop-w.auto.w w.loop-w-test.true
+          c.loop-w.invariant w.mark_twos.ensures))
+    ] in
     c.how_many.ensures
-    ∙ many-same _ (λ k. two_somewhere g (get_or g.faces k no_face)) (numbers n 0)
-    (λ k m.
-    let h : k < n = omega (arith, (numbers-member n 0 m).high) in
-    ap (λ v. eqb v 1) (l.invariant.2 k h)
-    ∙ shown (among j l.w k)
-    ∙ ap (any_of (two j k)) (take_all l.w g.winds all))
-    ∙ sym (many-map (two_somewhere g) (λ k. get_or g.faces k no_face) (numbers n 0))
-    ∙ ap (how_many (two_somewhere g))
-    (ap (λ m. map (λ k. get_or g.faces k no_face) (numbers m 0)) (sym (faces-counted j c.requires))
-    ∙ sym (places no_face g.faces))
+    ∙ sym (is_count_by (how_many (λ m. m)) (λ m. m) refl
+    (λ x xs.
+    let e : suc (how_many (λ m. m) xs) ≡ 1 + how_many (λ m. m) xs = omega arith in
+    ap (λ n. cond x n (how_many (λ m. m) xs)) e) (take j.faces.count c.loop-w-test.marks))
+    ∙ ap (how_many (λ m. m)) (marks-are j t c.loop-w-test.marks all)
+    ∙ many-map (λ m. m) (two_somewhere g) g.faces

@@ -1,88 +1,65 @@
--- `walk::walk` meets its contract: after n numbers the best of their choices is kept.
--- the case of number n on an axis, and the best of the first n
+-- `walk::walk` meets its contract: the best of the choices of the numbers so far is kept.
 use mathlib.Core.Path.{◌≡◌, sym, ap, ◌∙◌, subst}
-use mathlib.Core.List.{List}
-use Prim.Native.Nat.{ℕ, ◌+◌, ◌<◌}
+use Prim.Native.Nat.{ℕ, ◌+◌, ◌-◌}
 use native.Mathlib.Omega.{arith}
-use borrow.Author.Rules.{rules}
+use lib.ListN.{length}
 use Rattle.whole.specs.Lists.{numbers}
-use Rattle.worst.specs.declared.FaceForces.{FaceForces}
-use Rattle.worst.specs.Best.{at, better}
-use Rattle.worst.specs.Cases.{total}
+use Rattle.worst.specs.declared.Axis.{Axis}
+use Rattle.worst.specs.declared.Side.{Side}
+use Rattle.worst.specs.Best.{Best, at, better}
+use Rattle.worst.specs.Cases.{Case, total}
 use Rattle.worst.specs.Quick.{over}
 use Rattle.worst.specs.Rows.{force_in}
 use Rattle.worst.specs.Worst.{shown_in}
-use Rattle.worst.proofs.Better.{better-none, over-after}
-use Rattle.plain.specs.AsNumbers.{rows_at}
+use Rattle.worst.proofs.Better.{better-none}
 use Rattle.plain.specs.ByNumber.{choice_of}
 use Rattle.plain.specs.Walked.{case_with, Keeps}
-use Rattle.plain.proofs.Choosing.{walked-numbered, choice-length, own-choice}
-use Rattle.plain.proofs.Listed.{rows-length}
-use Rattle.plain.proofs.walk.walk.Invariants.{first, numbered}
-use Rattle.plain.proofs.walk.walk.Goals.{In-loop-n, Start}
+use Rattle.plain.proofs.Choosing.{ways-some, walked-numbered, choice-length, own-choice}
+use Rattle.plain.proofs.Upto.{over-upto}
+use Rattle.plain.proofs.walk.walk.Invariants.{numbered}
+use Rattle.plain.proofs.walk.walk.Goals.{After-with_case-kept}
 use Rattle.plain.proofs.walk.walk.Goals as goal
 
--- a number that counts
-module _ (d : In-loop-n) where
-  abbrev a : Start
-  a = (goal.at.In-loop-n d).Start
-
-  abbrev n : ℕ
-  n = d.loop-n.n
-
-  abbrev fs : List FaceForces
-  fs = rows_at a.args.faces a.args.list.now
-
-  under : n < d.ways-all.result
-  under = d.loop-n-test.true
-
-pub ways-all-requires : goal.ways-all-requires
-ways-all-requires c = (c.requires.few, c.requires.room, c.requires.ways≤)
+-- the case of number n is kept after those before it
+through : (c : After-with_case-kept) (axis : Axis) (s : Side) (b : Best (Case ℕ ℕ ℕ))
+    → Keeps (length c.args.fs.now) (shown_in c.args.six axis s) b
+    → Keeps (length c.args.fs.now) (shown_in c.with_case-kept.result axis s)
+    (better s b (over s (numbered axis c.args.fs.now c.args.wind c.args.internal) (numbers c.loop-n.n 1)))
+through c axis s b h =
+    let fs = c.args.fs.now in
+    let n = c.loop-n.n in
+    let chosen = choice_of fs n in
+    let g = numbered axis fs c.args.wind c.args.internal in
+    subst (Keeps (length fs) (shown_in c.with_case-kept.result axis s))
+    (ap
+    (λ ks.
+    better s (better s b (over s g (numbers (n - 1) 1)))
+    (at (total (force_in axis) fs ks) (case_with c.args.wind c.args.internal chosen)))
+    (own-choice (length fs) c.choice_of-choice.result chosen c.choice_of-choice.ensures (choice-length fs n))
+    ∙ over-upto s g b n c.loop-n.auto.n)
+    (c.with_case-kept.ensures axis s (length fs) chosen _ c.choice_of-choice.ensures (c.loop-n.invariant axis s b h))
 
 pub loop-n-init : goal.loop-n-init
 unfolding numbers over
-loop-n-init c = (search rules, λ axis s b h. subst (Keeps _ _) (sym (better-none s b)) h)
-
-pub overflow_add-n : goal.overflow_add-n
-overflow_add-n c = let u = under c in search rules
-
-pub choice_of-choice-requires : goal.choice_of-choice-requires
-choice_of-choice-requires c = (c.requires.few, c.requires.room, c.ways-all.ensures)
-
-pub with_case-kept-requires : goal.with_case-kept-requires
-with_case-kept-requires c = c.requires
-
-pub loop-n-smaller : goal.loop-n-smaller
-loop-n-smaller c = let u = under (goal.at.loop-n-smaller c).In-loop-n in search rules
+loop-n-init c axis s b h = subst (Keeps _ _) (sym (better-none s b)) h
 
 pub loop-n-preserved : goal.loop-n-preserved
-loop-n-preserved c =
-    let at_loop_n = (goal.at.loop-n-preserved c).In-loop-n in
-    let s = c.args in
-    let chosen = choice_of (fs at_loop_n) (n at_loop_n + 1) in
-    let long = choice-length (fs at_loop_n) (n at_loop_n + 1) ∙ rows-length s.faces s.list.now in
-    let own = own-choice s.faces c.choice_of-choice.result chosen c.choice_of-choice.ensures long in (
-      omega (arith, under at_loop_n),
-      λ axis side b h.
-          subst (Keeps s.faces (shown_in c.with_case-kept.result axis side))
-          (ap
-          (λ ks.
-          better side (better side b (first axis side (fs at_loop_n) s.wind s.internal (n at_loop_n)))
-          (at (total (force_in axis) (fs at_loop_n) ks) (case_with s.wind s.internal chosen)))
-          own
-          ∙ over-after side (numbered axis (fs at_loop_n) s.wind s.internal) b (n at_loop_n))
-          (c.with_case-kept.ensures axis side s.faces chosen _ c.choice_of-choice.ensures
-          (c.loop-n.invariant.1 axis side b h)),
-    )
+loop-n-preserved c axis s b h =
+    let fs = c.args.fs.now in
+    let e : c.loop-n.n ≡ c.loop-n.n + 1 - 1 = omega arith in
+    subst (λ m. Keeps (length fs) (shown_in c.with_case-kept.result axis s)
+    (better s b (over s (numbered axis fs c.args.wind c.args.internal) (numbers m 1)))) e
+    (through (goal.at.loop-n-preserved c).After-with_case-kept axis s b h)
 
+-- there is a choice
 pub returns : goal.returns
-returns c axis s b h =
-    let l = c.loop-n in
-    let m = c.args in
-    let rows = rows_at m.faces m.list.now in
-    let left = c.loop-n-test.false in
-    let e : l.n ≡ c.ways-all.result = omega (arith, l.invariant.0) in
-    subst (λ x. Keeps m.faces (shown_in l.kept axis s) (better s b x))
-    (ap (first axis s rows m.wind m.internal) (e ∙ c.ways-all.ensures)
-    ∙ sym (walked-numbered s (total (force_in axis) rows) m.wind m.internal rows))
-    (l.invariant.1 axis s b h)
+returns c = absurd (omega (arith, ways-some c.args.fs.now))
+
+pub returns-2 : goal.returns-2
+returns-2 c axis s b h =
+    let fs = c.args.fs.now in
+    let e : c.loop-n.n ≡ c.ways-all.result = omega arith in
+    subst (λ x. Keeps (length fs) (shown_in c.with_case-kept.result axis s) (better s b x))
+    (ap (λ m. over s (numbered axis fs c.args.wind c.args.internal) (numbers m 1)) (e ∙ c.ways-all.ensures)
+    ∙ sym (walked-numbered s (total (force_in axis) fs) c.args.wind c.args.internal fs))
+    (through (goal.at.returns-2 c).After-with_case-kept axis s b h)
