@@ -14,11 +14,7 @@ pub(crate) const MOST_NUMBERS: usize = 6 * MOST_FACES;
 pub(crate) fn clear(flat: &mut [i64])
     ensures { flat.new ≡ first_of (pos 0) (length flat.old) [] }
 {
-    let mut i: usize = 0;
-    while i < flat.len() {
-        flat[i] = 0;
-        i += 1;
-    }
+    flat.fill(0);
 }
 
 // Where there is room for it.
@@ -35,11 +31,8 @@ pub(crate) fn put_numbers(flat: &mut [i64], n: u32, v: [i64; 6])
     ensures { flat.new ≡ sets flat.old (per_face * n) v }
 {
     let at = 6 * (n as usize);
-    let mut k: usize = 0;
-    while k < 6 {
-        let z = v[k];
-        put_number(flat, at + k, z);
-        k += 1;
+    for k in 0..6 {
+        put_number(flat, at + k, v[k]);
     }
 }
 
@@ -74,19 +67,13 @@ fn face_in(flat: &[i64; MOST_NUMBERS], i: usize) -> Face
     ensures { result ≡ face_in flat.now i }
 {
     let at = 6 * i;
-    let zone = flat[at];
-    let mark = flat[at + 1];
-    let height = flat[at + 2];
-    let x = flat[at + 3];
-    let y = flat[at + 4];
-    let z = flat[at + 5];
     Face {
-        zone: (whole::magnitude(zone) % 256) as u8,
-        mark,
-        height,
-        x,
-        y,
-        z,
+        zone: (whole::magnitude(flat[at]) % 256) as u8,
+        mark: flat[at + 1],
+        height: flat[at + 2],
+        x: flat[at + 3],
+        y: flat[at + 4],
+        z: flat[at + 5],
     }
 }
 
@@ -96,11 +83,8 @@ pub(crate) fn faces_in(flat: &[i64; MOST_NUMBERS], n: u32) -> Faces
     ensures { result ≡ record { count = n; entry = first_of no_face most_faces (faces_in n flat.now) } }
 {
     let mut entry = [no_face(); MOST_FACES];
-    let count = n as usize;
-    let mut i: usize = 0;
-    while i < count {
+    for i in 0..n as usize {
         entry[i] = face_in(flat, i);
-        i += 1;
     }
     Faces { count: n, entry }
 }

@@ -39,17 +39,7 @@ pub(crate) struct Numbers {
 pub(crate) fn is_ended(s: &[u8]) -> bool
     ensures { result ≡ true → Ended s.now }
 {
-    let n = s.len();
-    if n == 0 {
-        return false;
-    }
-    s[n - 1] == 10
-}
-
-fn wide(b: u8) -> u32
-    ensures { result ≡ b }
-{
-    b as u32
+    matches!(s, [.., 10])
 }
 
 // The digits from a place on, after those of v, as long as there are at most seven.
@@ -61,11 +51,11 @@ fn digits_from(s: &[u8], from: usize, v: u32) -> Natural
     let mut n = v;
     let mut i = from;
     while n < 1000000 {
-        let b = wide(s[i]);
+        let b = s[i];
         if b < 48 || 57 < b {
             return Natural { end: i, n };
         }
-        n = n * 10 + (b - 48);
+        n = n * 10 + (b - 48) as u32;
         i += 1;
     }
     Natural { end: i, n }

@@ -1,5 +1,4 @@
 -- `faces_in` meets its contract: after as many turns as `i`, the record holds the first so many faces.
-use Prim.Native.Nat.{◌-◌, ◌≤◌}
 use mathlib.Core.Path.{◌≡◌}
 use Rattle.whole.specs.Lists.{first_of}
 use Rattle.entry.specs.Flat.{faces_in}
@@ -7,7 +6,4 @@ use Rattle.job.specs.Carried.{no_face, most_faces}
 use Rattle.sheet.proofs.flat.faces_in.Given as goal
 
 abbrev pub invariant-loop-i : goal.invariant-loop-i
-invariant-loop-i l = (l.i ≤ l.count) × (l.entry ≡ first_of no_face most_faces (faces_in l.i l.flat))
-
-abbrev pub decreases-loop-i : goal.decreases-loop-i
-decreases-loop-i l = l.count - l.i
+invariant-loop-i l = l.entry ≡ first_of no_face most_faces (faces_in l.i l.flat)

@@ -8,13 +8,9 @@ pub loop-n-preserved : goal.loop-n-preserved
 loop-n-preserved c =
     let v = c.loop-n.invariant in
     let s = c.args.s.now in
-    let i = c.loop-n.i in
-    let b = c.wide-b.ensures in (
-      on s c.requires.0 v.0 (λ e. omega (arith, e, b, c.if-b-lt48.false)),
+    let i = c.loop-n.i in (
+      on s c.requires.0 v.0 (λ e. omega (arith, e, c.if-b-lt48.false)),
       omega (arith, v.1),
       omega arith,
-      rw b
-          (v.3
-          ∙ digit-on s i v.0 (omega (arith, b, c.if-b-lt48.false)) (omega (arith, b, c.if-b-gt57.false)) c.loop-n.n
-          v.1),
+      v.3 ∙ digit-on s i v.0 c.if-b-lt48.false c.if-b-gt57.false c.loop-n.n v.1,
     )
