@@ -72,28 +72,14 @@ const FIRST: [usize; 8] = [0, 7, 14, 22, 23, 26, 29, 33];
 #[derive(Clone, Copy)]
 struct Slope(u16, [i16; 10]);
 
-// h/b comes up to the limit of a block.
-fn in_block(block: usize, s: Sizes) -> bool
-    requires { block < 3 }
-    ensures { result ≡ up_to s.h s.b (get_or heights block (0 ÷ 0)) }
-{
-    let limit = HEIGHTS[block];
-    up_to(s.h, s.b, limit.0, limit.1)
-}
-
 // The first block, in the book's order, up to whose limit h/b comes.
 fn block_of(s: Sizes) -> usize
-    requires { SizesInOrder s }
     ensures { result ≡ block_of s.h s.b }
 {
-    let mut block: usize = 0;
-    while block < 3 {
-        if in_block(block, s) {
-            return block;
-        }
-        block += 1;
-    }
-    block
+    HEIGHTS
+        .iter()
+        .position(|t| up_to(s.h, s.b, t.0, t.1))
+        .unwrap_or(HEIGHTS.len())
 }
 
 // A gable's part goes by h/b, a flat roof's by its kind; that of single slopes is the last.
@@ -196,21 +182,18 @@ fn way_in(k: usize, x: u64, d: u64) -> Spot
     requires { (k < 8) × (d ≤ 30000) }
     ensures { result ≡ spot_of (way_in (get_or roof_parts k []) x d) }
 {
-    let count = count_of(k);
     let mut row = row_of(k, 0);
-    let mut i: usize = 0;
-    while i + 1 < count {
+    for i in 1..count_of(k) {
         let s = (row.1 as u64) * d;
         if x <= s {
             return on_row(row.0 as u32);
         }
-        let next = row_of(k, i + 1);
+        let next = row_of(k, i);
         let t = (next.1 as u64) * d;
         if x < t {
             return between(row.0 as u32, next.0 as u32, x - s, t - s);
         }
         row = next;
-        i += 1;
     }
     on_row(row.0 as u32)
 }

@@ -36,10 +36,7 @@ fn in_row(row: usize, s: Sizes) -> bool
         result ≡ (up_to s.h s.b w.high && up_to s.a s.b w.long) }
 {
     let w = printed_wall(row);
-    if up_to(s.h, s.b, w.0, w.1) {
-        return up_to(s.a, s.b, w.2, w.3);
-    }
-    false
+    up_to(s.h, s.b, w.0, w.1) && up_to(s.a, s.b, w.2, w.3)
 }
 
 // The first row, in the book's order, up to whose limits h/b and a/b come.
@@ -47,14 +44,12 @@ pub(crate) fn wall_row(s: Sizes) -> usize
     requires { SizesInOrder s }
     ensures { (result < 6) × ((get_or walls result no_wall).row ≡ wall_row s.h s.a s.b) }
 {
-    let mut row: usize = 0;
-    while row < 6 {
+    for row in 0..6 {
         if in_row(row, s) {
             return row;
         }
-        row += 1;
     }
-    row
+    6
 }
 
 fn wall_cell(row: usize, col: usize) -> i16

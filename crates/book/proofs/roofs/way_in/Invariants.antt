@@ -2,8 +2,8 @@
 -- row i of part k, as it was read
 use mathlib.Core.Path.{◌≡◌}
 use mathlib.Core.List.{map}
-use Prim.Native.Nat.{ℕ, ◌+◌, ◌-◌, ◌≤◌}
-use lib.ListN.{get_or, drop}
+use Prim.Native.Nat.{ℕ, ◌-◌, ◌≤◌}
+use lib.ListN.{length, get_or, drop}
 use Rattle.book.specs.declared.roofs.Stand.{Stand}
 use Rattle.book.specs.Row.{Standing}
 use Rattle.book.specs.Line.{way_in}
@@ -17,7 +17,5 @@ Read k i r =
 
 abbrev pub invariant-loop-i : goal.invariant-loop-i
 invariant-loop-i l =
-    (l.i + 1 ≤ l.count) × Read l.k l.i l.row × (way_in (part l.k) l.x l.d ≡ way_in (drop l.i (part l.k)) l.x l.d)
-
-abbrev pub decreases-loop-i : goal.decreases-loop-i
-decreases-loop-i l = l.count - l.i
+    let i = l.i - 1 in
+    (l.i ≤ length (part l.k)) × Read l.k i l.row × (way_in (part l.k) l.x l.d ≡ way_in (drop i (part l.k)) l.x l.d)

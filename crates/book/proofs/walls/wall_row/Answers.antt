@@ -38,4 +38,4 @@ returns c =
     let none =
     left-none (in_row s.h s.a s.b) no_wall walls (wall_index s.h s.a s.b) c.loop-row.row
     c.loop-row.invariant (omega arith) in
-    found s c.requires c.loop-row.row none
+    found s c.requires 6 (omega (arith, none))

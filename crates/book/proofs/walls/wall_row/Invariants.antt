@@ -1,5 +1,4 @@
 -- `walls::wall_row`: the loop looks for the first row among those that are left.
-use Prim.Native.Nat.{◌-◌}
 use Rattle.whole.proofs.First.{Left}
 use Rattle.book.specs.Walls.{no_wall, walls}
 use Rattle.book.proofs.Rows.{in_row, wall_index}
@@ -7,6 +6,3 @@ use Rattle.book.proofs.walls.wall_row.Given as goal
 
 abbrev pub invariant-loop-row : goal.invariant-loop-row
 invariant-loop-row l = Left (in_row l.s.h l.s.a l.s.b) no_wall walls (wall_index l.s.h l.s.a l.s.b) l.row
-
-abbrev pub decreases-loop-row : goal.decreases-loop-row
-decreases-loop-row l = 6 - l.row
