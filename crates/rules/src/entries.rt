@@ -96,32 +96,21 @@ pub fn step_fault(highest: i64, s: Step) -> u32
 pub(crate) fn is_zone(b: u8) -> bool
     ensures { result ≡ test.among places.A places.H b }
 {
-    if b < b'A' {
-        return false;
-    }
-    b <= b'H'
+    matches!(b, b'A'..=b'H')
 }
 
 // For every direction, or for one that the roof knows.
 pub(crate) fn is_marked(g: Building, m: i64) -> bool
     ensures { result ≡ (test.is both m || places.knows g.kind m) }
 {
-    if m == BOTH {
-        return true;
-    }
-    knows(g.kind, m)
+    m == BOTH || knows(g.kind, m)
 }
 
 // On a single slope, a wall that is not marked for a direction that the walls' table has.
 pub(crate) fn unmarked_wall(g: Building, f: Face) -> bool
     ensures { result ≡ unmarked_wall g.kind f }
 {
-    if single(g.kind) {
-        if wall_place(f.zone) {
-            return !on_walls(f.mark);
-        }
-    }
-    false
+    single(g.kind) && wall_place(f.zone) && !on_walls(f.mark)
 }
 
 fn off_area(z: i64) -> bool
@@ -133,10 +122,7 @@ fn off_area(z: i64) -> bool
 pub(crate) fn off_profile(b: Before, z: i64) -> bool
     ensures { result ≡ off_profile b z }
 {
-    if has_heights(b.year) {
-        return beyond(b.lowest, b.highest, z);
-    }
-    false
+    has_heights(b.year) && beyond(b.lowest, b.highest, z)
 }
 
 // Where a face stands: its zone, its wall, its height.
@@ -144,10 +130,7 @@ fn place_fault(b: Before, f: Face) -> u32
     ensures { result ≡ first (place_faults b f) }
 {
     let g = b.building;
-    if !building::zone_on(g.kind, f.zone) {
-        return 6;
-    }
-    if unmarked_wall(g, f) {
+    if !building::zone_on(g.kind, f.zone) || unmarked_wall(g, f) {
         return 6;
     }
     if off_profile(b, f.height) {
