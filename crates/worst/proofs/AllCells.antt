@@ -19,6 +19,7 @@ use Rattle.entry.specs.declared.Face.{Face}
 use Rattle.pair.specs.Total.{pair_of, units}
 use Rattle.pair.proofs.Units.{pair_of-units}
 use Rattle.job.specs.Carried.{carried, most_faces, no_wind, no_face}
+use Rattle.pair.specs.declared.Pair.{Pair}
 use Rattle.worst.specs.declared.Side.{Side}
 use Rattle.worst.specs.declared.Side.TheVariants.{Greatest, Least}
 use Rattle.worst.specs.declared.Axis.{Axis}
@@ -203,10 +204,10 @@ module _ (j : Job) (last : ByLast j) (axis : Axis) (s : Side) where
 
   -- ---- as it is shown
 
-  abbrev case : Top → Extreme
+  abbrev case : Top Pair → Extreme
   case t = extreme_with t j.faces.count (alternatives_at axis s j t)
 
-  extreme-is : Sound g → (t : Stored) (e : Top) → Proper e.total
+  extreme-is : Sound g → (t : Stored) (e : Top Pair) → Proper e.total
       → at (units e.total) (cell e.wind e.internal)
       ≡ best_up_to axis s t j.internals.count j.winds.count
       → case e ≡ extreme_by axis s t (carried j)
@@ -244,7 +245,7 @@ module _ (j : Job) (last : ByLast j) (axis : Axis) (s : Side) where
       ∙ sym (worst-cells l s)
 
 -- so the tops that the engine finds, shown, are what the stored sums tell
-pub six-are : (j : Job) → ByLast j → Sound (given (carried j)) → (t : Stored) (e : Ends) → ProperEnds e
+pub six-are : (j : Job) → ByLast j → Sound (given (carried j)) → (t : Stored) (e : Ends Pair) → ProperEnds e
     → ((axis : Axis) (s : Side) → let u = top_at axis s e in
     at (units u.total) (cell u.wind u.internal) ≡ best_up_to axis s t j.internals.count j.winds.count)
     → six_of j e ≡ six_by t (carried j)

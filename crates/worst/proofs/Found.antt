@@ -6,6 +6,7 @@ use native.Mathlib.Omega.{arith}
 use lib.Dec.{eqb}
 use Rattle.pair.specs.Total.{units}
 use Rattle.job.specs.declared.Job.{Job}
+use Rattle.pair.specs.declared.Pair.{Pair}
 use Rattle.worst.specs.declared.Side.{Side}
 use Rattle.worst.specs.declared.Axis.{Axis}
 use Rattle.worst.specs.declared.Stored.{Stored}
@@ -61,12 +62,12 @@ module _ (axis : Axis) (s : Side) (t : Stored) (j : Job) (h : Ready j) where
       over-found s Counts _ j.internals.count 1 h.some_internal (λ i l u. (omega arith, omega arith)))
 
   -- the best cell, as a top has it
-  pub record IsTop (e : Top) : Type 0 where
+  pub record IsTop (e : Top Pair) : Type 0 where
     pub on_job : OnJob j e
     pub best : at (units e.total) (cell e.wind e.internal)
         ≡ best_up_to axis s t j.internals.count j.winds.count
 
-  pub is-top : (e : Top) → top_of e ≡ best → IsTop e
+  pub is-top : (e : Top Pair) → top_of e ≡ best → IsTop e
   is-top e q = go (eqb e.wind 0) refl (subst (Found Counts) (sym q) best-found)
     where
       go : (z : Bool) → eqb e.wind 0 ≡ z → Found Counts (top_of e) → IsTop e

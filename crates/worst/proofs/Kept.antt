@@ -9,6 +9,7 @@ use lib.IntN.{ℤ}
 use mir.Syntax.{w64}
 use mir.Val.{SFits, to_z, of_z}
 use mir.ValLaws.{to_z-of_z}
+use Rattle.pair.specs.declared.Pair.{Pair}
 use Rattle.pair.specs.Total.{no_pair}
 use Rattle.worst.specs.declared.Side.{Side}
 use Rattle.worst.specs.declared.Side.TheVariants.{Greatest, Least}
@@ -16,8 +17,7 @@ use Rattle.worst.specs.declared.Axis.{Axis}
 use Rattle.worst.specs.declared.Axis.TheVariants.{X, Y, Z}
 use Rattle.worst.specs.declared.tops.Ends.{Ends}
 use Rattle.worst.specs.Best.{short, none, at, better}
-use Rattle.worst.specs.Engine.{cell, top_with, top_of, no_tops, no_ends, top_at}
-use Rattle.worst.specs.FewTops.{few_top_of, few_top_at, no_few_ends}
+use Rattle.worst.specs.Engine.{cell, top_with, top_by, no_tops, no_ends, top_at}
 use Rattle.worst.specs.Proper.{Proper, ProperTops, ProperEnds}
 
 -- of an earlier total, wind and internal coefficient, and a later one
@@ -55,7 +55,7 @@ every-axis P x y z Y = y
 every-axis P x y z Z = z
 
 -- a top whose total is one
-pub proper-top : (e : Ends) → ProperEnds e → (axis : Axis) (s : Side) → Proper (top_at axis s e).total
+pub proper-top : (e : Ends Pair) → ProperEnds e → (axis : Axis) (s : Side) → Proper (top_at axis s e).total
 proper-top e p X Greatest = p.x.greatest
 proper-top e p X Least = p.x.least
 proper-top e p Y Greatest = p.y.greatest
@@ -64,24 +64,17 @@ proper-top e p Z Greatest = p.z.greatest
 proper-top e p Z Least = p.z.least
 
 -- at first there is no top
-pub no_top : (axis : Axis) (s : Side) → top_of (top_at axis s no_ends) ≡ none
-no_top X Greatest = refl
-no_top X Least = refl
-no_top Y Greatest = refl
-no_top Y Least = refl
-no_top Z Greatest = refl
-no_top Z Least = refl
+pub no_top : {T : Type 0} (number : T → ℤ) (zero : T) (axis : Axis) (s : Side)
+    → top_by number (top_at axis s (no_ends zero)) ≡ none
+no_top number zero X Greatest = refl
+no_top number zero X Least = refl
+no_top number zero Y Greatest = refl
+no_top number zero Y Least = refl
+no_top number zero Z Greatest = refl
+no_top number zero Z Least = refl
 
-pub no-few-top : (axis : Axis) (s : Side) → few_top_of (few_top_at axis s no_few_ends) ≡ none
-no-few-top X Greatest = refl
-no-few-top X Least = refl
-no-few-top Y Greatest = refl
-no-few-top Y Least = refl
-no-few-top Z Greatest = refl
-no-few-top Z Least = refl
-
-pub no-ends-proper : ProperEnds no_ends
+pub no-ends-proper : ProperEnds (no_ends no_pair)
 no-ends-proper =
     let zero : Proper no_pair = refl in
-    let none : ProperTops no_tops = record { greatest = zero; least = zero } in
+    let none : ProperTops (no_tops no_pair) = record { greatest = zero; least = zero } in
     record { x = none; y = none; z = none }

@@ -29,7 +29,8 @@ use Rattle.worst.specs.declared.tops.Ends.{Ends}
 use Rattle.worst.specs.declared.winds.CaseWind.{CaseWind}
 use Rattle.worst.specs.declared.winds.CaseWinds.{CaseWinds}
 use Rattle.worst.specs.declared.winds.SixWinds.{SixWinds}
-use Rattle.pair.specs.Total.{pair_of, units, no_pair}
+use Rattle.pair.specs.declared.Pair.{Pair}
+use Rattle.pair.specs.Total.{pair_of, units}
 use Rattle.worst.specs.Sums.{Sums, Axes}
 use Rattle.worst.specs.Best.{short, Best, none, at}
 use Rattle.worst.specs.Speed.{speed_at}
@@ -140,28 +141,36 @@ cell w i = record { wind = w; internal = i }
 abbrev pub top_with : ℤ → ℕ → ℕ → Best Cell
 top_with total w i = cond (eqb w 0) none (at total (cell w i))
 
-abbrev pub top_of : Top → Best Cell
-top_of t = top_with (units t.total) t.wind t.internal
+-- by the number that its total stands for: of a pair, and of a number of 64 bits
+abbrev pub top_by : {T : Type 0} → (T → ℤ) → Top T → Best Cell
+top_by number t = top_with (number t.total) t.wind t.internal
 
-abbrev pub no_top : Top
-no_top = record { total = no_pair; wind = 0; internal = 0 }
+abbrev pub top_of : Top Pair → Best Cell
+top_of = top_by units
 
-abbrev pub no_tops : Tops
-no_tops = record { greatest = no_top; least = no_top }
+abbrev pub few_top_of : Top ℤ → Best Cell
+few_top_of = top_by (λ z. z)
 
-abbrev pub no_ends : Ends
-no_ends = record { x = no_tops; y = no_tops; z = no_tops }
+-- none so far, on one side of one axis, on one axis and on all
+abbrev pub no_top : {T : Type 0} → T → Top T
+no_top zero = record { total = zero; wind = 0; internal = 0 }
 
-abbrev pub end_of : Side → Tops → Top
+abbrev pub no_tops : {T : Type 0} → T → Tops T
+no_tops zero = record { greatest = no_top zero; least = no_top zero }
+
+abbrev pub no_ends : {T : Type 0} → T → Ends T
+no_ends zero = record { x = no_tops zero; y = no_tops zero; z = no_tops zero }
+
+abbrev pub end_of : {T : Type 0} → Side → Tops T → Top T
 end_of Greatest t = t.greatest
 end_of Least t = t.least
 
-abbrev pub tops_on : Axis → Ends → Tops
+abbrev pub tops_on : {T : Type 0} → Axis → Ends T → Tops T
 tops_on X e = e.x
 tops_on Y e = e.y
 tops_on Z e = e.z
 
-abbrev pub top_at : Axis → Side → Ends → Top
+abbrev pub top_at : {T : Type 0} → Axis → Side → Ends T → Top T
 top_at axis s e = end_of s (tops_on axis e)
 
 -- what has a number, from 1
@@ -211,14 +220,14 @@ best_up_to axis s t internals n = over s (wind_best axis s t internals) (numbers
 abbrev pub case_wind : Building → Wind → CaseWind
 case_wind b w = record { wind = w; outside = outside_at b w.direction F }
 
-abbrev pub case_winds : Building → Winds → Tops → CaseWinds
+abbrev pub case_winds : Building → Winds → Tops Pair → CaseWinds
 case_winds b ws t =
     record {
       greatest = case_wind b (wind_numbered ws t.greatest.wind);
       least = case_wind b (wind_numbered ws t.least.wind);
     }
 
-abbrev pub six_winds : Building → Winds → Ends → SixWinds
+abbrev pub six_winds : Building → Winds → Ends Pair → SixWinds
 six_winds b ws e = record { x = case_winds b ws e.x; y = case_winds b ws e.y; z = case_winds b ws e.z }
 
 -- ---- the cell that was found, as it is shown
@@ -226,16 +235,16 @@ six_winds b ws e = record { x = case_winds b ws e.x; y = case_winds b ws e.y; z 
 abbrev pub alternatives_of : Axis → Side → Building → List Step → Wind → List Face → List ℕ
 alternatives_of axis s b profile w fs = padded most_faces (map (λ f. pick_of s axis b w (factor_of profile f) f) fs)
 
-abbrev pub extreme_with : Top → ℕ → List ℕ → Extreme
+abbrev pub extreme_with : Top Pair → ℕ → List ℕ → Extreme
 extreme_with t faces chosen =
     record { total = t.total; wind = t.wind; internal = t.internal; faces = faces; alternative = chosen }
 
 -- two tops with the alternatives of each
-abbrev pub with_alternatives : Tops → ℕ → List ℕ → List ℕ → Extremes
+abbrev pub with_alternatives : Tops Pair → ℕ → List ℕ → List ℕ → Extremes
 with_alternatives t faces high low =
     record { greatest = extreme_with t.greatest faces high; least = extreme_with t.least faces low }
 
-abbrev pub six_with : Ends → ℕ → (x_high x_low y_high y_low z_high z_low : List ℕ) → Six
+abbrev pub six_with : Ends Pair → ℕ → (x_high x_low y_high y_low z_high z_low : List ℕ) → Six
 six_with e faces x_high x_low y_high y_low z_high z_low =
     record {
       x = with_alternatives e.x faces x_high x_low;
@@ -244,14 +253,14 @@ six_with e faces x_high x_low y_high y_low z_high z_low =
     }
 
 -- those of a job's faces, in the case of a top
-abbrev pub alternatives_at : Axis → Side → Job → Top → List ℕ
+abbrev pub alternatives_at : Axis → Side → Job → Top Pair → List ℕ
 alternatives_at axis s j t =
     alternatives_of axis s j.building (profile_of j) (wind_numbered j.winds t.wind) (faces_of j.faces)
 
-abbrev pub extremes_of : Axis → Job → Tops → Extremes
+abbrev pub extremes_of : Axis → Job → Tops Pair → Extremes
 extremes_of axis j t =
     with_alternatives t j.faces.count (alternatives_at axis Greatest j t.greatest)
     (alternatives_at axis Least j t.least)
 
-abbrev pub six_of : Job → Ends → Six
+abbrev pub six_of : Job → Ends Pair → Six
 six_of j e = record { x = extremes_of X j e.x; y = extremes_of Y j e.y; z = extremes_of Z j e.z }

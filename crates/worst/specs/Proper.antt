@@ -29,11 +29,11 @@ abbrev pub ProperStored : Stored → Type 0
 ProperStored t = ProperCells 32 t.cell
 
 -- and of the best cells so far
-pub record ProperTops (t : Tops) : Type 0 where
+pub record ProperTops (t : Tops Pair) : Type 0 where
   pub greatest : Proper t.greatest.total
   pub least : Proper t.least.total
 
-pub record ProperEnds (e : Ends) : Type 0 where
+pub record ProperEnds (e : Ends Pair) : Type 0 where
   pub x : ProperTops e.x
   pub y : ProperTops e.y
   pub z : ProperTops e.z

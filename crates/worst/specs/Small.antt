@@ -9,6 +9,7 @@ use Rattle.job.specs.declared.Faces.{Faces}
 use Rattle.entry.specs.declared.Wind.{Wind}
 use Rattle.entry.specs.declared.Face.{Face}
 use Rattle.job.specs.Carried.{no_wind, no_face}
+use Rattle.pair.specs.declared.Pair.{Pair}
 use Rattle.worst.specs.declared.outside.Outside.{Outside}
 use Rattle.worst.specs.declared.tops.Top.{Top}
 use Rattle.worst.specs.Forces.{acts, factor_of}
@@ -67,12 +68,12 @@ pub record Ready (j : Job) : Type 0 where
   pub factors : (i : ℕ) → i < j.faces.count → Fraction (factor_of (profile_of j) (get_or j.faces.entry i no_face))
 
 -- the wind of a cell is one of the job's
-pub record OnJob (j : Job) (t : Top) : Type 0 where
+pub record OnJob (j : Job) (t : Top Pair) : Type 0 where
   pub wind : 0 < t.wind
   pub wind≤ : t.wind ≤ j.winds.count
 
 -- the wind of a cell has a number of one that can stand, and zone F a place under it
-pub record Reached (ws : Winds) (t : Top) : Type 0 where
+pub record Reached (ws : Winds) (t : Top Pair) : Type 0 where
   pub some : 0 < t.wind
   pub few : t.wind < 9
   pub placed : Placed (wind_numbered ws t.wind).direction F

@@ -16,7 +16,7 @@ use crate::faces::{face_in, zone_in};
 use crate::outside::{Outside, Table, takes_part};
 use crate::speeds::{Factor, factor_in};
 use crate::sums::pressure_of;
-use crate::tops::{Ends, Top, falls_short};
+use crate::tops::{Compared, Ends, Top};
 use crate::winds::{CaseWind, SixWinds, six_winds};
 use crate::{Axis, Extreme, Extremes, Side, Six};
 use building::Building;
@@ -40,7 +40,7 @@ fn picked(side: Side, o: Outside, weight: i64) -> u8
 {
     let first = o.first * weight;
     let last = o.last * weight;
-    if falls_short(side, first, last) {
+    if first.falls_short(side, last) {
         return 2;
     }
     1

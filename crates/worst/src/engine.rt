@@ -17,13 +17,13 @@ ghost use Rattle.worst.specs.Proper.{ProperStored, ProperEnds};
 use crate::cells::{none_stored, of_wind};
 use crate::chosen::shown;
 use crate::few::few_added;
-use crate::few_tops::{no_few_ends, settled_ends, with_few_sums};
+use crate::few_tops::{settled_ends, with_few_sums};
 use crate::furthest::{over_internals, over_winds};
 use crate::inside::insides_of;
 use crate::outside::Table;
 use crate::speeds::fill;
 use crate::sums::added;
-use crate::tops::{Ends, no_ends};
+use crate::tops::{Ends, NO_PAIR, no_ends};
 use crate::{Six, Stored};
 use job::Setting;
 
@@ -86,7 +86,7 @@ fn best_cells(
     let winds = s.winds;
     let internals = s.internals;
     let count = winds.count;
-    let mut ends = no_ends();
+    let mut ends = no_ends(NO_PAIR);
     let mut w: u32 = 0;
     while w < count {
         let wind = winds.entry[w as usize];
@@ -121,7 +121,7 @@ fn few_best(
     let insides = insides_of(s.internals);
     let count = winds.count;
     let to = faces as usize;
-    let mut ends = no_few_ends();
+    let mut ends = no_ends(0);
     let mut w: u32 = 0;
     while w < count {
         let wind = winds.entry[w as usize];

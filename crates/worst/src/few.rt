@@ -18,7 +18,7 @@ use crate::faces::face_in;
 use crate::outside::{Outside, Table, takes_part};
 use crate::speeds::{Factor, factor_in};
 use crate::sums::pressure_of;
-use crate::tops::falls_short;
+use crate::tops::Compared;
 use building::Building;
 use entry::{Face, Wind};
 
@@ -42,7 +42,7 @@ pub struct FewSums {
 fn the_further(side: Side, first: i64, last: i64) -> i64
     ensures { result ≡ further side first last }
 {
-    if falls_short(side, first, last) {
+    if first.falls_short(side, last) {
         return last;
     }
     first

@@ -8,7 +8,7 @@ ghost use Rattle.worst.specs.Engine.{cell, top_of, end_of, top_at, four_best, be
 ghost use Rattle.worst.specs.Proper.{ProperSpan, ProperCells, ProperStored, ProperTops, ProperEnds};
 
 use crate::cells::{WindCells, stored_cells};
-use crate::tops::{Ends, Tops, kept, no_ends};
+use crate::tops::{Ends, NO_PAIR, Tops, kept, no_ends};
 use crate::{Side, Span, Stored};
 
 // One cell more on one axis.
@@ -46,7 +46,7 @@ pub(crate) fn over_winds(stored: Stored, winds: u32, internals: u32) -> Ends
         × ProperEnds result }
 {
     let count = internals as usize;
-    let mut ends = no_ends();
+    let mut ends = no_ends(NO_PAIR);
     for w in 0..winds {
         let number = w + 1;
         let four = stored_cells(stored, number);

@@ -1,10 +1,12 @@
 // The internal coefficients at which the cells of a wind are furthest out: by the sign of the weight the least or the
 // greatest of them, and the first where nothing weighs.
 ghost use Rattle.std.specs.Prelude.{◌≡◌, cond, ◌+◌, ◌<◌};
-ghost use Rattle.std.specs.Int.Signed.{lt_z};
+ghost use Rattle.worst.specs.Best.{short};
 ghost use Rattle.worst.specs.Inside.{inside_numbered, sides_of, InsidesSmall, Furthest};
 ghost use Rattle.worst.specs.Small.{LowInternals};
 
+use crate::Side;
+use crate::tops::Compared;
 use job::Internals;
 
 // One of them in thousandths, with its number.
@@ -29,22 +31,14 @@ pub struct Sides {
     pub down: Inside,
 }
 
-fn lower(a: Inside, b: Inside) -> Inside
-    ensures { result ≡ cond (lt_z b.part a.part) b a }
+// The further out of two, the first where they are alike.
+fn further(side: Side, first: Inside, last: Inside) -> Inside
+    ensures { result ≡ cond (short side first.part last.part) last first }
 {
-    if b.part < a.part {
-        return b;
+    if first.part.falls_short(side, last.part) {
+        return last;
     }
-    a
-}
-
-fn higher(a: Inside, b: Inside) -> Inside
-    ensures { result ≡ cond (lt_z a.part b.part) b a }
-{
-    if a.part < b.part {
-        return b;
-    }
-    a
+    first
 }
 
 // The one at a place, from 0.
@@ -69,8 +63,8 @@ pub(crate) fn insides_of(internals: Internals) -> Insides
     let mut high = first;
     for i in 1..count {
         let next = inside_at(internals, i);
-        low = lower(low, next);
-        high = higher(high, next);
+        low = further(Side::Least, low, next);
+        high = further(Side::Greatest, high, next);
     }
     Insides { first, low, high }
 }

@@ -1,41 +1,81 @@
 // The best cell so far: a total, with the numbers of its wind and its internal coefficient.
-ghost use Rattle.std.specs.Prelude.{◌≡◌, true, ◌<◌};
+ghost use Rattle.std.specs.Prelude.{◌≡◌, ℤ, true, ◌<◌};
 ghost use Rattle.pair.specs.Total.{units, proper};
 ghost use Rattle.worst.specs.Best.{short, at, better};
-ghost use Rattle.worst.specs.Engine.{cell, top_of, no_ends};
+ghost use Rattle.worst.specs.Engine.{cell, top_by, no_ends};
 
 use crate::Side;
 use pair::Pair;
 
+// What is compared by the number that it stands for.
+pub(crate) trait Compared: Copy {
+    ghost number: { Self → ℤ };
+
+    // It stands for one.
+    ghost Stands: { Self → Type 0 };
+
+    // Whether the later of two is strictly further out.
+    fn falls_short(self, side: Side, later: Self) -> bool
+        requires { Stands self × Stands later }
+        ensures { result ≡ short side (number self) (number later) };
+}
+
+impl Compared for i64 {
+    ghost number = { λ x. x };
+
+    ghost Stands = { λ x. Unit {0} };
+
+    fn falls_short(self, side: Side, later: i64) -> bool {
+        match side {
+            Side::Greatest => self < later,
+            Side::Least => later < self,
+        }
+    }
+}
+
+impl Compared for Pair {
+    ghost number = { units };
+
+    ghost Stands = { λ p. proper p ≡ true };
+
+    fn falls_short(self, side: Side, later: Pair) -> bool {
+        match side {
+            Side::Greatest => pair::less(self, later),
+            Side::Least => pair::less(later, self),
+        }
+    }
+}
+
 // Nothing yet, where the wind is 0.
 #[derive(Clone, Copy)]
-pub struct Top {
-    pub total: Pair,
+pub struct Top<T = Pair> {
+    pub total: T,
     pub wind: u32,
     pub internal: u32,
 }
 
 // On one axis, and on all.
 #[derive(Clone, Copy)]
-pub struct Tops {
-    pub greatest: Top,
-    pub least: Top,
+pub struct Tops<T = Pair> {
+    pub greatest: Top<T>,
+    pub least: Top<T>,
 }
 
 #[derive(Clone, Copy)]
-pub struct Ends {
-    pub x: Tops,
-    pub y: Tops,
-    pub z: Tops,
+pub struct Ends<T = Pair> {
+    pub x: Tops<T>,
+    pub y: Tops<T>,
+    pub z: Tops<T>,
 }
 
-pub(crate) fn no_ends() -> Ends
-    ensures { result ≡ no_ends }
+pub(crate) const NO_PAIR: Pair = Pair {
+    newtons: 0,
+    remainder: 0,
+};
+
+pub(crate) fn no_ends<T: Copy>(zero: T) -> Ends<T>
+    ensures { result ≡ no_ends zero }
 {
-    let zero = Pair {
-        newtons: 0,
-        remainder: 0,
-    };
     let none = Top {
         total: zero,
         wind: 0,
@@ -52,42 +92,13 @@ pub(crate) fn no_ends() -> Ends
     }
 }
 
-// Whether y is strictly further out than x.
-pub(crate) fn falls_short(side: Side, x: i64, y: i64) -> bool
-    ensures { result ≡ short side x y }
-{
-    match side {
-        Side::Greatest => x < y,
-        Side::Least => y < x,
-    }
-}
-
-// The same of two pairs.
-fn pair_short(side: Side, p: Pair, q: Pair) -> bool
-    requires { (proper p ≡ true) × (proper q ≡ true) }
-    ensures { result ≡ short side (units p) (units q) }
-{
-    match side {
-        Side::Greatest => pair::less(p, q),
-        Side::Least => pair::less(q, p),
-    }
-}
-
 // A later cell takes the place of an earlier one only where that falls short of it.
-pub(crate) fn kept(side: Side, top: Top, total: Pair, wind: u32, internal: u32) -> Top
-    requires { (0 < wind) × (proper top.total ≡ true) × (proper total ≡ true) }
-    ensures { (top_of result ≡ better side (top_of top) (at (units total) (cell wind internal)))
-        × (proper result.total ≡ true) }
+pub(crate) fn kept<T: Compared>(side: Side, top: Top<T>, total: T, wind: u32, internal: u32) -> Top<T>
+    requires { (0 < wind) × T.Stands top.total × T.Stands total }
+    ensures { (top_by T.number result ≡ better side (top_by T.number top) (at (T.number total) (cell wind internal)))
+        × T.Stands result.total }
 {
-    let earlier = top.total;
-    if top.wind == 0 {
-        return Top {
-            total,
-            wind,
-            internal,
-        };
-    }
-    if pair_short(side, earlier, total) {
+    if top.wind == 0 || top.total.falls_short(side, total) {
         return Top {
             total,
             wind,

@@ -10,6 +10,7 @@ use mathlib.Core.List.{List}
 use Rattle.entry.specs.declared.Step.{Step}
 use Rattle.job.specs.declared.Job.{Job}
 use Rattle.job.specs.Carried.{carried, no_wind}
+use Rattle.pair.specs.Total.{units, no_pair}
 use Rattle.worst.specs.Best.{better}
 use Rattle.worst.specs.Quick.{over}
 use Rattle.worst.specs.Worst.{given}
@@ -78,7 +79,7 @@ loop-w-init c =
       search rules,
       c.requires.3,
       subst ProperEnds (sym e) no-ends-proper,
-      λ profile q h r axis side. ap (λ x. top_of (top_at axis side x)) e ∙ no_top axis side,
+      λ profile q h r axis side. ap (λ x. top_of (top_at axis side x)) e ∙ no_top units no_pair axis side,
     )
 
 pub overflow_cast-wind : goal.overflow_cast-wind

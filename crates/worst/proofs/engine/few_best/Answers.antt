@@ -5,6 +5,7 @@ use mathlib.Core.List.{List}
 use Prim.Native.Nat.{ℕ, ◌+◌, ◌-◌, ◌≤◌, ◌<◌}
 use native.Mathlib.Omega.{arith}
 use borrow.Author.Rules.{rules}
+use lib.IntN.{pos}
 use lib.ListN.{get_or}
 use Rattle.whole.specs.Lists.{first_of, numbers}
 use Rattle.entry.specs.declared.Step.{Step}
@@ -18,7 +19,7 @@ use Rattle.worst.specs.Best.{better}
 use Rattle.worst.specs.Quick.{over, sum}
 use Rattle.worst.specs.Sums.{Axes}
 use Rattle.worst.specs.Few.{few_axes}
-use Rattle.worst.specs.FewTops.{few_top_of, few_top_at}
+use Rattle.worst.specs.Engine.{few_top_of, top_at}
 use Rattle.worst.specs.Inside.{inside_numbered, cell_at, furthest_cell, Furthest}
 use Rattle.worst.specs.Worst.{given}
 use Rattle.worst.specs.Stored.{cells_of, sums_at, stored_of}
@@ -27,7 +28,7 @@ use Rattle.worst.specs.Lent.{job_by}
 use Rattle.worst.specs.Factors.{profile_of, Fraction, FactorsStand, Fractions}
 use Rattle.worst.specs.Small.{Ready}
 use Rattle.worst.proofs.Better.{over-next}
-use Rattle.worst.proofs.Kept.{no-few-top}
+use Rattle.worst.proofs.Kept.{no_top}
 use Rattle.worst.proofs.Added.{no-axes-plus}
 use Rattle.worst.proofs.SumsGrow.{few-more}
 use Rattle.worst.proofs.Accepted.{job-ready}
@@ -110,10 +111,10 @@ insides_of-insides-requires c =
 pub loop-w-init : goal.loop-w-init
 unfolding over numbers
 loop-w-init c =
-    let e = c.no_few_ends-ends.ensures in (
+    let e = c.no_ends-ends.ensures in (
       search rules,
       c.requires.4,
-      λ profile q is few r h k axis side. ap (λ x. few_top_of (few_top_at axis side x)) e ∙ no-few-top axis side,
+      λ profile q is few r h k axis side. ap (λ x. few_top_of (top_at axis side x)) e ∙ no_top (λ z. z) (pos 0) axis side,
     )
 
 pub overflow_cast-wind : goal.overflow_cast-wind

@@ -8,7 +8,7 @@ use Rattle.job.specs.declared.Internals.{Internals}
 use Rattle.worst.specs.declared.Axis.{Axis}
 use Rattle.worst.specs.declared.Side.{Side}
 use Rattle.worst.specs.declared.StoredCell.{StoredCell}
-use Rattle.worst.specs.FewTops.{few_top_of, few_top_at}
+use Rattle.worst.specs.Engine.{few_top_of, top_at}
 use Rattle.worst.specs.Inside.{Furthest}
 use Rattle.worst.specs.Stored.{cells_of}
 use Rattle.worst.specs.Engine.{best_up_to}
@@ -23,7 +23,7 @@ invariant-loop-w l =
     × ((profile : List Step) → FactorsStand profile (faces_by l.faces l.flat) l.parts l.wholes → (is : Internals)
     → is.count ≤ 4 → Furthest is is.count l.insides → (h : ℕ → StoredCell)
     → CellsReckoned l.b profile l.winds is (faces_by l.faces l.flat) h → (axis : Axis) (side : Side)
-    → few_top_of (few_top_at axis side l.ends) ≡ best_up_to axis side (cells_of h) is.count l.w)
+    → few_top_of (top_at axis side l.ends) ≡ best_up_to axis side (cells_of h) is.count l.w)
 
 abbrev pub decreases-loop-w : goal.decreases-loop-w
 decreases-loop-w l =

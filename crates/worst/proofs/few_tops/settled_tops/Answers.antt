@@ -1,7 +1,6 @@
 -- `few_tops::settled_tops` meets its contract: on each side.
 use mathlib.Core.Path.{◌≡◌}
-use Rattle.worst.specs.Engine.{top_of, end_of}
-use Rattle.worst.specs.FewTops.{few_top_of, few_end_of}
+use Rattle.worst.specs.Engine.{top_of, few_top_of, end_of}
 use Rattle.worst.proofs.Kept.{either}
 use Rattle.worst.proofs.few_tops.settled_tops.Goals as goal
 
@@ -12,7 +11,7 @@ returns c =
       either
           (λ s.
           top_of (end_of s (record { greatest = c.settled_top-greatest.result; least = c.settled_top-least.result }))
-          ≡ few_top_of (few_end_of s c.args.tops))
+          ≡ few_top_of (end_of s c.args.tops))
           up.0 down.0,
       record { greatest = up.1; least = down.1 },
     )

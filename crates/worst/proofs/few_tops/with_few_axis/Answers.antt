@@ -7,8 +7,7 @@ use Rattle.worst.specs.declared.inside.Sides.{Sides}
 use Rattle.worst.specs.declared.Side.{Side}
 use Rattle.worst.specs.declared.Side.TheVariants.{Greatest, Least}
 use Rattle.worst.specs.Best.{Best, at, better}
-use Rattle.worst.specs.Engine.{Cell, cell}
-use Rattle.worst.specs.FewTops.{few_top_of, few_end_of}
+use Rattle.worst.specs.Engine.{Cell, cell, few_top_of, end_of}
 use Rattle.worst.specs.Few.{few_in}
 use Rattle.worst.specs.Inside.{sides_of, cell_at, furthest_cell, InsideSmall}
 use Rattle.worst.proofs.Kept.{either}
@@ -60,14 +59,14 @@ returns c =
     let at_sides_at_two = (goal.at.returns c).After-sides_at-two in
     let s = c.args in
     let r = c.sides_at-two.result in
-    let from : (side : Side) → Best Cell → Best Cell = λ side. better side (few_top_of (few_end_of side s.tops)) in
+    let from : (side : Side) → Best Cell → Best Cell = λ side. better side (few_top_of (end_of side s.tops)) in
     either
     (λ side.
-    few_top_of (few_end_of side (record { greatest = c.few_kept-greatest.result; least = c.few_kept-least.result }))
+    few_top_of (end_of side (record { greatest = c.kept-greatest.result; least = c.kept-least.result }))
     ≡ from side (furthest_cell side (few_in s.sums) s.insides s.wind))
-    (c.few_kept-greatest.ensures
+    (c.kept-greatest.ensures.0
     ∙ (λ j. from Greatest (at ((back w64 (most at_sides_at_two) tt).same j) (cell s.wind r.up.number)))
     ∙ (λ j. from Greatest (cell_at s.sums.greatest s.sums.weight s.wind (two at_sides_at_two j).up)))
-    (c.few_kept-least.ensures
+    (c.kept-least.ensures.0
     ∙ (λ j. from Least (at ((back w64 (fewest at_sides_at_two) tt).same j) (cell s.wind r.down.number)))
     ∙ (λ j. from Least (cell_at s.sums.least s.sums.weight s.wind (two at_sides_at_two j).down)))

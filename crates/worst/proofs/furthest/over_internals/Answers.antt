@@ -10,6 +10,7 @@ use Rattle.worst.specs.declared.Axis.{Axis}
 use Rattle.worst.specs.declared.Axis.TheVariants.{X, Y, Z}
 use Rattle.worst.specs.declared.Side.{Side}
 use Rattle.worst.specs.declared.StoredCell.{StoredCell}
+use Rattle.pair.specs.declared.Pair.{Pair}
 use Rattle.worst.specs.declared.tops.Top.{Top}
 use Rattle.worst.specs.Best.{Best, at, better}
 use Rattle.whole.specs.Lists.{numbers}
@@ -47,7 +48,7 @@ module _ (d : In-loop-i) where
   proper = subst ProperCell (sym same) (a.requires.3 i counted)
 
   -- a top that was kept in the cell's place, or for it
-  stepped : (axis : Axis) (s : Side) (t : Top)
+  stepped : (axis : Axis) (s : Side) (t : Top Pair)
       → top_of t ≡ better s (top_of (top_at axis s d.loop-i.best))
       (at (span_side s (span_on axis read)) (cell a.args.wind (i + 1)))
       → top_of t ≡ better s (top_of (top_at axis s a.args.ends))

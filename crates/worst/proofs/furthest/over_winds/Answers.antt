@@ -3,6 +3,7 @@ use mathlib.Core.Path.{◌≡◌, sym, ap, ◌∙◌, subst}
 use Prim.Native.Nat.{ℕ, ◌+◌, ◌-◌, ◌*◌, ◌<◌}
 use native.Mathlib.Omega.{arith}
 use lib.ListN.{get_or}
+use Rattle.pair.specs.Total.{units, no_pair}
 use Rattle.worst.specs.Best.{better}
 use Rattle.whole.specs.Lists.{numbers}
 use Rattle.worst.specs.Quick.{over}
@@ -41,7 +42,7 @@ unfolding over numbers
 loop-w-init c =
     let e = c.no_ends-ends.ensures in (
       subst ProperEnds (sym e) no-ends-proper,
-      λ axis s. ap (λ e. top_of (top_at axis s e)) e ∙ no_top axis s,
+      λ axis s. ap (λ e. top_of (top_at axis s e)) e ∙ no_top units no_pair axis s,
     )
 
 pub over_internals-ends-requires : goal.over_internals-ends-requires
