@@ -24,7 +24,7 @@ use Rattle.worst.specs.Cases.{Loads, each, choices, total, cases, case_total, wo
 use Rattle.worst.specs.Quick.{over}
 use Rattle.worst.specs.Forces.{Given, acts, outsides, alternatives, force, wind_at, internal_at, loads}
 use Rattle.worst.specs.Shown.{shown}
-use Rattle.worst.specs.Worst.{given, extreme, six_extremes, no_six, shown_in}
+use Rattle.worst.specs.Worst.{given, extreme, six_extremes, shown_in}
 use Rattle.worst.specs.PerFace.{face_forces, cell_forces, forces_in}
 use Rattle.worst.proofs.Better.{best-over, over-each, over-map, over-same, over-same-in}
 use Rattle.worst.proofs.Members.{choices-only}
@@ -162,6 +162,3 @@ pub six-are : (c : Carried) (six : Six) → ((axis : Axis) (s : Side) → shown_
     → six ≡ six_extremes c
 unfolding six_extremes
 six-are c = six-from (λ axis s. extreme axis s c)
-
-pub none-are : (six : Six) → ((axis : Axis) (s : Side) → shown_in six axis s ≡ shown 0 none) → six ≡ no_six
-none-are = six-from (λ axis s. shown 0 none)

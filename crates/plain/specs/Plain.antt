@@ -1,6 +1,7 @@
 -- The plain reckoning of a job: that of its worst cases, where few of its faces have two alternatives.
-use Rattle.std.specs.Prelude.{Bool, false, cond, ◌||◌, List, [], ◌∷◌, ℕ, leb, eqb, length}
+use Rattle.std.specs.Prelude.{Result, Bool, false, cond, ◌||◌, List, [], ◌∷◌, ℕ, leb, eqb, length}
 use Rattle.whole.specs.Lists.{how_many}
+use Rattle.verdict.specs.declared.Verdict.{Verdict}
 use Rattle.verdict.specs.Verdict.{refusal}
 use Rattle.entry.specs.declared.Face.{Face}
 use Rattle.job.specs.declared.Job.{Job}
@@ -30,5 +31,5 @@ plainly (Accepted c) = cond (leb (faces_with_two (given c)) most_with_two) (Acce
 plainly (Refused v) = Refused v
 
 -- a job's own refusal comes first; one that is taken has its six extremes, as they are defined for any job
-unfoldable pub plain_of : Job → Reckoning
+unfoldable pub plain_of : Job → Result Reckoning Verdict
 plain_of j = reckoned (plainly (judged j))

@@ -9,7 +9,7 @@ ghost use Rattle.plain.specs.Plain.{plain_of};
 
 use job::Job;
 use verdict::Verdict;
-use worst::{Reckoning, Six};
+use worst::Reckoning;
 
 mod twos; // how many faces have two alternatives
 mod add; // one case added up
@@ -21,32 +21,28 @@ mod cells; // every wind and every internal coefficient
 // So many faces with two alternatives are taken.
 const MOST_WITH_TWO: u32 = 8;
 
-fn reckoning(verdict: Verdict, year: i64, six: Six) -> Reckoning
-    ensures { result ≡ record { verdict = verdict; year = year; six = six } }
-{
-    Reckoning { verdict, year, six }
-}
-
-fn plain_by(job: Job, v: Verdict) -> Reckoning
+fn plain_by(job: Job, v: Verdict) -> Result<Reckoning, Verdict>
     requires { v ≡ verdict (judged job) }
     ensures { result ≡ plain_of job }
 {
     if v.number != 0 {
-        return reckoning(v, 0, keep::nothing_yet(0));
+        return Err(v);
     }
     if twos::faces_with_two(job) > MOST_WITH_TWO {
-        let many = Verdict {
+        return Err(Verdict {
             number: 10,
             line: 0,
-        };
-        return reckoning(many, 0, keep::nothing_yet(0));
+        });
     }
-    reckoning(v, job.year, cells::every_wind(job))
+    Ok(Reckoning {
+        year: job.year,
+        six: cells::every_wind(job),
+    })
 }
 
 // A job's own refusal; then 10, where more than 8 of its faces have two alternatives under at least one of its winds;
 // or its six extremes.
-pub fn plain_cases(job: Job) -> Reckoning
+pub fn plain_cases(job: Job) -> Result<Reckoning, Verdict>
     ensures { result ≡ plain_of job }
 {
     let v = job::judge::judge(job);

@@ -179,7 +179,7 @@ module _ (c : Carried) (o : InOrder c) where
       subst Prints (sym h.named)
       (shown-prints axis (total_in (extreme axis s c)) h.case p (omega (arith, small)))
 
-  pub report-prints : SixPrintable (reckoned (Accepted c))
+  pub report-prints : SixPrintable (record { year = c.year; six = six_extremes c })
   unfolding six_extremes shown
   report-prints =
       record {
@@ -205,7 +205,7 @@ module _ (c : Carried) (o : InOrder c) where
         axis s in
         subst Prints (sym h.named) (shown-prints axis _ h.case h.permitted small)
 
-    pub stored-prints : SixPrintable (reckoned_by t (Accepted c))
+    pub stored-prints : SixPrintable (record { year = c.year; six = six_by told c })
     unfolding six_by shown
     stored-prints =
         record {

@@ -4,9 +4,9 @@ use mathlib.Core.Bool.{true, false}
 use mathlib.Core.List.{List, [], ◌∷◌, ◌++◌, append_assoc}
 use Prim.Native.Nat.{ℕ, ◌<◌}
 use native.Mathlib.Omega.{arith}
-use borrow.Author.Tests.{eq-eqb, ne_eqb}
-use lib.Dec.{leb, eqb}
-use Rattle.std.specs.Prelude.{Err}
+use lib.Dec.{leb}
+use Rattle.std.specs.Prelude.{Result, Ok, Err, IfOk, IfErr}
+use Rattle.std.proofs.lemmas.Result.{IfOk-at_ok, IfErr-at_err}
 use Rattle.whole.proofs.Tests.{by-test}
 use Rattle.page.specs.Writing.{Writing, writing, buffer_after}
 use Rattle.verdict.specs.declared.Verdict.{Verdict}
@@ -25,9 +25,9 @@ use Rattle.worst.specs.Worst.{given, reckoned}
 use Rattle.plain.specs.Plain.{faces_with_two, plainly}
 use Rattle.worst.proofs.Reckoned.{Judged, refused, accepted, job-judged}
 use Rattle.report.specs.Lines.{spaced, six_text}
-use Rattle.report.specs.Report.{refused_text, six_writing, six_buffer}
-use Rattle.report.specs.Report as report
+use Rattle.report.specs.Report.{refused_text}
 use Rattle.report.specs.Short.{SixPrintable}
+use Rattle.report.specs.Report as report
 use Rattle.report.proofs.Lines.{spaced-append}
 
 pub refused-parts : (v : Verdict)
@@ -66,56 +66,54 @@ plain-sound j = go (judged j) (judged-sound j)
         by-test (leb (faces_with_two (given c)) 8) (λ t. rw t (accepts c o))
         (λ t. rw t (refuses (refusal 10 0) (omega arith)))
 
+-- ---- what was reckoned of it
+
 -- where what is reckoned goes by what is read, a refusal is its own and the six lines are the text of what it carries
-module _ (reckon : Reading → Reckoning) (text : Carried → List ℕ)
-    (own : (v : Verdict) → (reckon (Refused v)).verdict ≡ v)
-    (fine : (c : Carried) → (reckon (Accepted c)).verdict.number ≡ 0)
-    (lines : (c : Carried) → six_text (reckon (Accepted c)).year (reckon (Accepted c)).six ≡ text c) where
-  pub six-written : (x : Reading) → Sound x → (buf : List ℕ)
-      → (six_writing (reckon x) buf ≡ job_writing text x buf) × (six_buffer (reckon x) buf ≡ job_buffer text x buf)
-  six-written x (refuses v some) buf =
-      let none : eqb (reckon (Refused v)).verdict.number 0 ≡ false =
-      ne_eqb (reckon (Refused v)).verdict.number 0
-      (λ z. absurd (omega (arith, some, ap (λ (u : Verdict). u.number) (own v), z))) in
-      (rw none (ap Err (own v)), rw none)
-  six-written x (accepts c o) buf =
-      let zero : eqb (reckon (Accepted c)).verdict.number 0 ≡ true = eq-eqb _ 0 (fine c) in
-      (rw zero (ap (λ t. writing t buf) (lines c)), rw zero (ap (λ t. buffer_after t buf) (lines c)))
-
-  -- and what holds of the six of all that is in order holds of it
-  pub six-holds : (x : Reading) → Sound x → (P : Reckoning → Type 0)
-      → ((c : Carried) → InOrder c → P (reckon (Accepted c))) → (reckon x).verdict.number ≡ 0 → P (reckon x)
-  six-holds x (refuses v some) P h z = absurd (omega (arith, some, ap (λ (u : Verdict). u.number) (own v)))
-  six-holds x (accepts c o) P h z = h c o
-
-  -- so of a record at hand, which was reckoned of what is sound
-  module _ (x : Reading) (sound : Sound x) {w : Reckoning} (e : w ≡ reckon x) where
-    pub prints : ((c : Carried) → InOrder c → SixPrintable (reckon (Accepted c))) → w.verdict.number ≡ 0
-        → SixPrintable w
-    prints h =
-        subst (λ (v : Reckoning). v.verdict.number ≡ 0 → SixPrintable v) (sym e) (six-holds x sound SixPrintable h)
-
-    pub wrote : (buf : List ℕ) {o : Writing} {after : List ℕ} → (o ≡ six_writing w buf) × (after ≡ six_buffer w buf)
-        → (o ≡ job_writing text x buf) × (after ≡ job_buffer text x buf)
-    wrote buf p =
-        let is = six-written x sound buf in (
-          p.0 ∙ ap (λ (v : Reckoning). six_writing v buf) e ∙ is.0,
-          p.1 ∙ ap (λ (v : Reckoning). six_buffer v buf) e ∙ is.1,
-        )
-
--- ---- a sheet, as it was reckoned
-
-module _ (x : Reading) (sound : Sound x) (w : Reckoning) (e : w ≡ reckoned x) where
-  pub reckoned-refused : Refuses w.verdict → x ≡ Refused w.verdict
-  reckoned-refused h = go x sound e
+module _ (reckon : Reading → Result Reckoning Verdict) (text : Carried → List ℕ) (shown : Carried → Reckoning)
+    (own : (v : Verdict) → reckon (Refused v) ≡ Err v) (fine : (c : Carried) → reckon (Accepted c) ≡ Ok (shown c))
+    (lines : (c : Carried) → six_text (shown c).year (shown c).six ≡ text c)
+    (printable : (c : Carried) → InOrder c → SixPrintable (shown c))
+    {x : Reading} (sound : Sound x) {r : Result Reckoning Verdict} (e : r ≡ reckon x) where
+  accepted-holds : (P : Reckoning → Type 0) → ((c : Carried) → InOrder c → x ≡ Accepted c → P (shown c))
+      → IfOk (reckon x) P
+  accepted-holds P h = go x sound h
     where
-      go : (y : Reading) → Sound y → w ≡ reckoned y → y ≡ Refused w.verdict
-      go y (refuses v some) q = ap Refused (sym (ap (λ (r : Reckoning). r.verdict) q))
-      go y (accepts c o) q = absurd (h (ap (λ (r : Reckoning). r.verdict.number) q))
+      go : (y : Reading) → Sound y → ((c : Carried) → InOrder c → y ≡ Accepted c → P (shown c)) → IfOk (reckon y) P
+      go y (refuses v some) k = subst (λ (q : Result Reckoning Verdict). IfOk q P) (sym (own v)) tt
+      go y (accepts c o) k = subst (λ (q : Result Reckoning Verdict). IfOk q P) (sym (fine c)) (k c o refl)
 
-  pub reckoned-accepted : w.verdict.number ≡ 0 → (c : Carried) × (x ≡ Accepted c)
-  reckoned-accepted z = go x sound e
+  refused-holds : IfErr (reckon x) (λ v. x ≡ Refused v)
+  refused-holds = go x sound
     where
-      go : (y : Reading) → Sound y → w ≡ reckoned y → (c : Carried) × (y ≡ Accepted c)
-      go y (refuses v some) q = absurd (omega (arith, some, ap (λ (r : Reckoning). r.verdict.number) q, z))
-      go y (accepts c o) q = (c, refl)
+      go : (y : Reading) → Sound y → IfErr (reckon y) (λ v. y ≡ Refused v)
+      go y (refuses v some) =
+          subst (λ (q : Result Reckoning Verdict). IfErr q (λ u. Refused v ≡ Refused u)) (sym (own v)) refl
+      go y (accepts c o) =
+          subst (λ (q : Result Reckoning Verdict). IfErr q (λ u. Accepted c ≡ Refused u)) (sym (fine c)) tt
+
+  -- six lines can be printed, and are its text
+  pub prints : {w : Reckoning} → r ≡ Ok w → SixPrintable w
+  prints is = IfOk-at_ok SixPrintable (sym e ∙ is) (accepted-holds SixPrintable (λ c o k. printable c o))
+
+  pub wrote : {w : Reckoning} → r ≡ Ok w → (buf : List ℕ) {o : Writing} {after : List ℕ}
+      → (o ≡ writing (six_text w.year w.six) buf) × (after ≡ buffer_after (six_text w.year w.six) buf)
+      → (o ≡ job_writing text x buf) × (after ≡ job_buffer text x buf)
+  wrote is buf {o} {after} =
+      let P : Reckoning → Type 0 = λ w.
+          (o ≡ writing (six_text w.year w.six) buf) × (after ≡ buffer_after (six_text w.year w.six) buf)
+          → (o ≡ job_writing text x buf) × (after ≡ job_buffer text x buf) in
+      IfOk-at_ok P (sym e ∙ is) (accepted-holds P (λ c h k p. (
+        p.0 ∙ ap (λ t. writing t buf) (lines c) ∙ sym (ap (λ (y : Reading). job_writing text y buf) k),
+        p.1 ∙ ap (λ t. buffer_after t buf) (lines c) ∙ sym (ap (λ (y : Reading). job_buffer text y buf) k),
+      )))
+
+  -- a refusal is the reading's own
+  pub refuses-as : {v : Verdict} → r ≡ Err v → x ≡ Refused v
+  refuses-as is = IfErr-at_err (λ v. x ≡ Refused v) (sym e ∙ is) refused-holds
+
+  pub unwritten : {v : Verdict} → r ≡ Err v → (buf : List ℕ)
+      → (Err v ≡ job_writing text x buf) × (buf ≡ job_buffer text x buf)
+  unwritten is buf = (
+    sym (ap (λ (y : Reading). job_writing text y buf) (refuses-as is)),
+    sym (ap (λ (y : Reading). job_buffer text y buf) (refuses-as is)),
+  )

@@ -1,12 +1,10 @@
 -- The report of what a sheet carries, and what the program `totals` writes for a text: the report, or `refused`,
 -- number and line.
-use Rattle.std.specs.Prelude.{ℕ, cond, List, [], ◌∷◌, ◌++◌, eqb, Err}
-use Rattle.page.specs.Writing.{Writing, writing, buffer_after}
+use Rattle.std.specs.Prelude.{ℕ, List, [], ◌∷◌, ◌++◌}
 use Rattle.verdict.specs.declared.Verdict.{Verdict}
 use Rattle.job.specs.Carried.{Carried}
 use Rattle.job.specs.Walk.{Reading, Accepted, Refused}
 use Rattle.worst.specs.declared.Stored.{Stored}
-use Rattle.worst.specs.declared.Reckoning.{Reckoning}
 use Rattle.worst.specs.Worst.{six_extremes}
 use Rattle.worst.specs.Stored.{six_by, telling}
 use Rattle.report.specs.Lines.{spaced, six_text}
@@ -28,13 +26,3 @@ refused_text v = refused ++ (spaced (v.number ∷ v.line ∷ []) ++ (10 ∷ []))
 abbrev pub totals_text : Reading → List ℕ
 totals_text (Accepted c) = report_text c
 totals_text (Refused v) = refused_text v
-
--- ---- only contracts of private functions cite it
-
--- what was reckoned, put into a buffer: a refusal, or its six lines
-abbrev pub six_writing : Reckoning → List ℕ → Writing
-six_writing w buf =
-    cond (eqb w.verdict.number 0) (writing (six_text w.year w.six) buf) (Err w.verdict)
-
-abbrev pub six_buffer : Reckoning → List ℕ → List ℕ
-six_buffer w buf = cond (eqb w.verdict.number 0) (buffer_after (six_text w.year w.six) buf) buf

@@ -7,22 +7,22 @@ use lib.Dec.{leb}
 use lib.IntN.{ℤ, pos}
 use mir.Syntax.{w64}
 use Rattle.whole.proofs.Size.{returned}
+use Rattle.std.specs.Prelude.{Result, Ok}
 use Rattle.verdict.specs.declared.Verdict.{Verdict}
 use Rattle.verdict.specs.Verdict.{refusal}
 use Rattle.job.specs.Carried.{carried}
-use Rattle.job.specs.Walk.{Accepted, Refused, verdict}
+use Rattle.job.specs.Walk.{Accepted, Refused}
 use Rattle.worst.specs.declared.Six.{Six}
 use Rattle.worst.specs.declared.Reckoning.{Reckoning}
 use Rattle.worst.specs.Worst.{given, reckoned}
 use Rattle.worst.proofs.Reckoned.{refused-is, taken_is}
 use Rattle.plain.specs.Plain.{faces_with_two, most_with_two, plainly, plain_of}
 use Rattle.worst.specs.Rows.{Taken}
-use Rattle.plain.proofs.EveryCase.{none-are}
 use Rattle.plain.proofs.plain_by.Goals.{Else-v-ne0, Start}
 use Rattle.plain.proofs.plain_by.Goals as goal
 
-abbrev answer : Verdict → ℤ → Six → Reckoning
-answer v year six = record { verdict = v; year = year; six = six }
+abbrev answer : ℤ → Six → Result Reckoning Verdict
+answer year six = Ok (record { year = year; six = six })
 
 -- a job that is accepted
 module _ (e : Else-v-ne0) where
@@ -45,19 +45,14 @@ module _ (e : Else-v-ne0) where
 pub returns-then-v-ne0 : goal.returns-then-v-ne0
 unfolding plain_of
 returns-then-v-ne0 c =
-    c.reckoning.ensures
-    ∙ ap (answer c.args.v (pos 0)) (none-are c.nothing_yet.result c.nothing_yet.ensures)
-    ∙ ap (λ r. reckoned (plainly r)) (sym (refused-is c.args.job c.args.v c.requires c.if-v-ne0.true))
+    ap (λ r. reckoned (plainly r)) (sym (refused-is c.args.job c.args.v c.requires c.if-v-ne0.true))
 
 pub faces_with_two-requires : goal.faces_with_two-requires
 faces_with_two-requires c = taken c
 
 pub returns-then-faces_with_two-gt-MOST_WITH_TWO : goal.returns-then-faces_with_two-gt-MOST_WITH_TWO
 returns-then-faces_with_two-gt-MOST_WITH_TWO c =
-    c.reckoning-then-faces_with_two-gt-MOST_WITH_TWO.ensures
-    ∙ ap (answer (refusal 10 0) (pos 0)) (none-are c.nothing_yet-then-faces_with_two-gt-MOST_WITH_TWO.result
-    c.nothing_yet-then-faces_with_two-gt-MOST_WITH_TWO.ensures)
-    ∙ by_count (goal.at.returns-then-faces_with_two-gt-MOST_WITH_TWO c).Else-v-ne0 _
+    by_count (goal.at.returns-then-faces_with_two-gt-MOST_WITH_TWO c).Else-v-ne0 _
     (ap (λ k. leb k most_with_two) (sym c.faces_with_two.ensures)
     ∙ lt-leb _ most_with_two c.if-faces_with_two-gt-MOST_WITH_TWO.true)
 
@@ -70,10 +65,7 @@ pub returns : goal.returns
 unfolding carried
 returns c =
     let at_v_ne0 = (goal.at.returns c).Else-v-ne0 in
-    let v = c.requires ∙ ap verdict (taken at_v_ne0).accepted in
-    c.reckoning-2.ensures
-    ∙ (λ k. answer (v k) ((returned w64 c.args.job.year c.struct_told-1.given.0.1).same k)
-    (c.every_wind.ensures k))
+    ap (answer c.args.job.year) c.every_wind.ensures
     ∙ by_count at_v_ne0 _
     (ap (λ k. leb k most_with_two) (sym c.faces_with_two.ensures)
     ∙ le-leb _ most_with_two c.if-faces_with_two-gt-MOST_WITH_TWO.false)

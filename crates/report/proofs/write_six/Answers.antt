@@ -4,7 +4,7 @@ use mathlib.Core.Bool.{true}
 use lib.Dec.{leb}
 use lib.ListN.{length}
 use borrow.Author.Rules.{rules}
-use borrow.Author.Tests.{eq-eqb, leb-true}
+use borrow.Author.Tests.{leb-true}
 use Rattle.std.specs.Prelude.{Ok}
 use Rattle.page.specs.Writing.{Put}
 use Rattle.page.proofs.Put.{put-ends, put-start}
@@ -18,4 +18,4 @@ returns-then-have_room c =
     let lines : Put buf 0 (six_text w.year w.six) c.put_six.new.buf c.put_six.result = search rules in
     let fits : leb (length (six_text w.year w.six)) (length buf) ≡ true = search rules in
     let room = leb-true _ _ fits in
-    rw (eq-eqb w.verdict.number 0 c.if-v-ne0.false, fits) (ap Ok (put-ends lines room), put-start lines room)
+    rw fits (ap Ok (put-ends lines room), put-start lines room)
