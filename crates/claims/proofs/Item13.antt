@@ -14,8 +14,9 @@ use Rattle.field.specs.declared.Field.{Field}
 use Rattle.lines.specs.Lines.{lines_in}
 use Rattle.lines.specs.Held.{until}
 use Rattle.rose.specs.declared.Rose.{Rose}
-use Rattle.rose.specs.declared.Said.{Said}
-use Rattle.rose.specs.declared.Said.TheVariants.{OutOfForm, OutOfRange, Is}
+use Rattle.rose.specs.Observation.{Said}
+use Rattle.std.specs.Prelude.{Ok, Err}
+use Rattle.rose.specs.declared.Misread.TheVariants.{OutOfForm, OutOfRange}
 use Rattle.rose.specs.Observation.{line_says}
 use Rattle.rose.specs.StandsIn.{StandsIn}
 use Rattle.rose.specs.Rose.{no_bytes, no_lines, refused_at, rose_of}
@@ -127,14 +128,14 @@ cells-add-up =
     }
 
 -- a line is counted in the cell that it says
-says_there : (k : ℕ) {x : Said} → x ≡ Is k → in_cell k x ≡ 1
+says_there : (k : ℕ) {x : Said} → x ≡ Ok k → in_cell k x ≡ 1
 says_there k e = rw e (rw (eq-eqb k k refl))
 
-there-says : (k : ℕ) (x : Said) → in_cell k x ≡ 1 → x ≡ Is k
-there-says k OutOfForm e = absurd (omega arith)
-there-says k OutOfRange e = absurd (omega arith)
-there-says k (Is j) e =
-    by-test (eqb j k) (λ t. ap Is (eqb-true j k t)) (λ t. absurd (let z = rw t at e in omega arith))
+there-says : (k : ℕ) (x : Said) → in_cell k x ≡ 1 → x ≡ Ok k
+there-says k (Err OutOfForm) e = absurd (omega arith)
+there-says k (Err OutOfRange) e = absurd (omega arith)
+there-says k (Ok j) e =
+    by-test (eqb j k) (λ t. ap Ok (eqb-true j k t)) (λ t. absurd (let z = rw t at e in omega arith))
 
 pub counted-where-it-stands : CountedWhereItStands
 counted-where-it-stands =

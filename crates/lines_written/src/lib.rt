@@ -32,12 +32,10 @@ fn put_fields(buf: &mut [u8], at: usize, x: Line) -> usize
     let n = lines::held_count(x);
     let f = lines::field_at(x, 0);
     let mut next = put_field(buf, at, f);
-    let mut i: usize = 1;
-    while i < n {
+    for i in 1..n {
         let g = lines::field_at(x, i);
         next = page::put_byte(buf, next, 32);
         next = put_field(buf, next, g);
-        i += 1;
     }
     next
 }

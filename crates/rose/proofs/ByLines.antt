@@ -11,7 +11,7 @@ use Rattle.verdict.specs.Verdict.{accepted}
 use Rattle.field.specs.declared.Field.{Field}
 use Rattle.lines.specs.Lines.{onto, split, fields_of, lines_from, lines_in}
 use Rattle.lines.proofs.Lines.{split-until}
-use Rattle.rose.specs.declared.Said.{Said}
+use Rattle.rose.specs.Observation.{Said}
 use Rattle.rose.specs.declared.Pending.{Pending}
 use Rattle.rose.specs.declared.Rose.{Rose}
 use Rattle.rose.specs.Observation.{line_says, cell_in}

@@ -12,8 +12,9 @@ use Rattle.whole.proofs.Tests.{by-test}
 use Rattle.verdict.specs.Verdict.{accepted, refusal}
 use Rattle.field.specs.declared.Field.{Field}
 use Rattle.lines.specs.Lines.{lines_in}
-use Rattle.rose.specs.declared.Said.{Said}
-use Rattle.rose.specs.declared.Said.TheVariants.{OutOfForm, OutOfRange, Is}
+use Rattle.rose.specs.Observation.{Said}
+use Rattle.std.specs.Prelude.{Ok, Err}
+use Rattle.rose.specs.declared.Misread.TheVariants.{OutOfForm, OutOfRange}
 use Rattle.rose.specs.declared.Rose.{Rose}
 use Rattle.rose.specs.Observation.{line_says, cell_in}
 use Rattle.rose.specs.Rose.{most_lines, no_bytes, no_lines, one_more, refused_at, fault_after, line_judged}
@@ -31,9 +32,9 @@ count-append k (l ∷ ls) ms = omega (arith, count-append k ls ms)
 
 -- a line without a fault stands in its cell and in no other
 says-cell : (count j : ℕ) (x : Said) → fault_after count x ≡ 0 → in_cell j x ≡ cond (eqb (cell_in x) j) 1 0
-says-cell count j OutOfForm e = absurd (omega arith)
-says-cell count j OutOfRange e = absurd (omega arith)
-says-cell count j (Is k) e = refl
+says-cell count j (Err OutOfForm) e = absurd (omega arith)
+says-cell count j (Err OutOfRange) e = absurd (omega arith)
+says-cell count j (Ok k) e = refl
 
 -- ---- lines counted
 

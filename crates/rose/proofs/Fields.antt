@@ -17,7 +17,8 @@ use Rattle.field.specs.declared.Field.TheVariants.{Bad, Plus, Minus}
 use Rattle.field.specs.Field.{digits_in_form, unsigned, negative, numeral, field_from, lone_dash, lone_capital}
 use Rattle.field.proofs.Fields.{form-parts, form-plain}
 use Rattle.lines.proofs.Round.{form-value}
-use Rattle.rose.specs.declared.Said.TheVariants.{OutOfForm}
+use Rattle.std.specs.Prelude.{Err}
+use Rattle.rose.specs.declared.Misread.TheVariants.{OutOfForm}
 use Rattle.rose.specs.Observation.{field_says}
 
 -- ---- digits
@@ -120,7 +121,7 @@ unfolding negative
 other-signed y q t = signed-field y q ∙ rw (other-first y q t)
 
 pub other-field : (top x : ℕ) (q : List ℕ) → is_digit x ≡ false → eqb x 45 ≡ false
-    → field_says top (field_from (x ∷ q)) ≡ OutOfForm
+    → field_says top (field_from (x ∷ q)) ≡ Err OutOfForm
 unfolding field_from numeral unsigned
 other-field top x q t u =
     by-test (lone_dash (x ∷ q)) (λ e. rw e)

@@ -11,7 +11,8 @@ use Rattle.whole.specs.Digits.{is_digit, all_digits, value_after, value}
 use Rattle.field.specs.declared.Field.{Field}
 use Rattle.field.specs.declared.Field.TheVariants.{Plus, Minus}
 use Rattle.field.specs.Field.{digits_in_form, unsigned, negative, numeral, field_from}
-use Rattle.rose.specs.declared.Said.TheVariants.{OutOfForm}
+use Rattle.std.specs.Prelude.{Err}
+use Rattle.rose.specs.declared.Misread.TheVariants.{OutOfForm}
 use Rattle.rose.specs.declared.Started.{Started}
 use Rattle.rose.specs.Observation.{field_says}
 use Rattle.rose.specs.Pending.{started, number_more, number_says}
@@ -34,7 +35,7 @@ none_after [] = refl
 none_after (b ∷ s) = ap (λ (n : Started). number_after n s) (none_more b) ∙ none_after s
 
 none-says : (top : ℕ) (n : Started) (b : ℕ) (s : List ℕ) → number_more n b ≡ started 4 0
-    → number_says top (number_after n (b ∷ s)) ≡ OutOfForm
+    → number_says top (number_after n (b ∷ s)) ≡ Err OutOfForm
 unfolding number_after
 none-says top n b s e = ap (λ (m : Started). number_says top (number_after m s)) e ∙ ap (number_says top) (none_after s)
 

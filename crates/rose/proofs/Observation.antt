@@ -17,8 +17,9 @@ use Rattle.lines.specs.Lines.{fields_of, NotBad, field_text}
 use Rattle.lines.specs.Held.{until}
 use Rattle.lines.proofs.Lines.{Free, split-until, split-more, split-last}
 use Rattle.lines.proofs.Round.{field_back, field-form, field-free}
-use Rattle.rose.specs.declared.Said.{Said}
-use Rattle.rose.specs.declared.Said.TheVariants.{OutOfForm, OutOfRange, Is}
+use Rattle.rose.specs.Observation.{Said}
+use Rattle.std.specs.Prelude.{Ok, Err}
+use Rattle.rose.specs.declared.Misread.TheVariants.{OutOfForm, OutOfRange}
 use Rattle.rose.specs.Observation.{top_speeds, exceeded, beaufort, cell_number}
 use Rattle.rose.specs.Observation.{field_says, together, line_says, cell_in}
 
@@ -30,22 +31,22 @@ field-whole s h =
     let f : Free 32 (field_text (field_from s)) = field-free (field_from s) 32 (omega arith) (field-form s h) in
     rw (field_back s h) at f
 
-bad-says : (top : ℕ) (f : Field) → (NotBad f → ⊥) → field_says top f ≡ OutOfForm
+bad-says : (top : ℕ) (f : Field) → (NotBad f → ⊥) → field_says top f ≡ Err OutOfForm
 bad-says top Bad h = refl
 bad-says top (Plus n) h = absurd (h tt)
 bad-says top (Minus n) h = absurd (h tt)
 bad-says top (Letter b) h = refl
 bad-says top Dash h = refl
 
-spaced-says : (top : ℕ) (s : List ℕ) → until 32 s < length s → field_says top (field_from s) ≡ OutOfForm
+spaced-says : (top : ℕ) (s : List ℕ) → until 32 s < length s → field_says top (field_from s) ≡ Err OutOfForm
 spaced-says top s h = bad-says top (field_from s) (λ n. omega (arith, field-whole s n))
 
 -- ---- lines
 
-together-form : (x : Said) → together x OutOfForm ≡ OutOfForm
-together-form OutOfForm = refl
-together-form OutOfRange = refl
-together-form (Is d) = refl
+together-form : (x : Said) → together x (Err OutOfForm) ≡ Err OutOfForm
+together-form (Err OutOfForm) = refl
+together-form (Err OutOfRange) = refl
+together-form (Ok d) = refl
 
 fields-more : (l : List ℕ) → until 32 l < length l
     → fields_of l ≡ field_from (take (until 32 l) l) ∷ fields_of (drop (suc (until 32 l)) l)
@@ -80,7 +81,7 @@ pub spaced-line : (l : List ℕ) → until 32 l < length l
 spaced-line l h = ap line_says (fields-more l h) ∙ two-say (field_from (take (until 32 l) l)) (drop (suc
     (until 32 l)) l)
 
-pub one-field-line : (l : List ℕ) → length l ≤ until 32 l → line_says (fields_of l) ≡ OutOfForm
+pub one-field-line : (l : List ℕ) → length l ≤ until 32 l → line_says (fields_of l) ≡ Err OutOfForm
 one-field-line l h = ap line_says (fields-last l h)
 
 -- ---- the table
@@ -113,13 +114,13 @@ cell-small : (d v : ℕ) → cell_number d v < 208
 cell-small d v = omega (arith, beaufort-small v)
 
 pub together-small : (x y : Said) → cell_in (together x y) < 208
-together-small OutOfForm y = omega arith
-together-small OutOfRange OutOfForm = omega arith
-together-small OutOfRange OutOfRange = omega arith
-together-small OutOfRange (Is v) = omega arith
-together-small (Is d) OutOfForm = omega arith
-together-small (Is d) OutOfRange = omega arith
-together-small (Is d) (Is v) = cell-small d v
+together-small (Err OutOfForm) y = omega arith
+together-small (Err OutOfRange) (Err OutOfForm) = omega arith
+together-small (Err OutOfRange) (Err OutOfRange) = omega arith
+together-small (Err OutOfRange) (Ok v) = omega arith
+together-small (Ok d) (Err OutOfForm) = omega arith
+together-small (Ok d) (Err OutOfRange) = omega arith
+together-small (Ok d) (Ok v) = cell-small d v
 
 pub line_small : (fs : List Field) → cell_in (line_says fs) < 208
 line_small [] = omega arith

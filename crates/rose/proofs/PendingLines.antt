@@ -13,8 +13,9 @@ use Rattle.whole.specs.Digits.{is_digit}
 use Rattle.field.specs.Field.{field_from}
 use Rattle.lines.specs.Lines.{fields_of}
 use Rattle.lines.specs.Held.{until}
-use Rattle.rose.specs.declared.Said.{Said}
-use Rattle.rose.specs.declared.Said.TheVariants.{OutOfForm, OutOfRange, Is}
+use Rattle.rose.specs.Observation.{Said}
+use Rattle.std.specs.Prelude.{Ok, Err}
+use Rattle.rose.specs.declared.Misread.TheVariants.{OutOfForm, OutOfRange}
 use Rattle.rose.specs.declared.Started.{Started}
 use Rattle.rose.specs.declared.Pending.{Pending}
 use Rattle.rose.specs.Observation.{field_says, together, line_says, cell_in}
@@ -63,9 +64,9 @@ number-some n b k =
     (either Some (eqb b 45) (either Some (eqb n.kind 0) (λ e. omega arith) (λ e. omega arith)) (λ e. omega arith))
 
 staged : (x : Said) → (directed x).stage ≡ 0 → ⊥
-staged OutOfForm e = omega arith
-staged OutOfRange e = omega arith
-staged (Is d) e = omega arith
+staged (Err OutOfForm) e = omega arith
+staged (Err OutOfRange) e = omega arith
+staged (Ok d) e = omega arith
 
 more-begun : (p : Pending) (b : ℕ) → Begun p → Begun (line_more p b)
 unfolding Begun Some
@@ -140,9 +141,9 @@ at-space (b ∷ s) n f =
 
 directed-says : (x : Said) (s : List ℕ)
     → pending_says (line_after (directed x) s) ≡ together x (number_says 1000 (number_after (started 0 0) s))
-directed-says OutOfForm s = ap pending_says (second-number 3 0 refl s (started 0 0))
-directed-says OutOfRange s = ap pending_says (second-number 2 0 refl s (started 0 0))
-directed-says (Is d) s = ap pending_says (second-number 1 d refl s (started 0 0))
+directed-says (Err OutOfForm) s = ap pending_says (second-number 3 0 refl s (started 0 0))
+directed-says (Err OutOfRange) s = ap pending_says (second-number 2 0 refl s (started 0 0))
+directed-says (Ok d) s = ap pending_says (second-number 1 d refl s (started 0 0))
 
 -- BYTE BY BYTE IT SAYS WHAT ITS FIELDS SAY
 pub line-says : (l : List ℕ) → pending_says (line_after no_bytes l) ≡ line_says (fields_of l)

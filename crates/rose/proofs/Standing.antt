@@ -13,8 +13,9 @@ use borrow.Author.Tests.{le-leb, ltb-true, ltb-false, leb-true, eqb-true, eqb-fa
 use Rattle.whole.proofs.Tests.{by-test, and-true}
 use Rattle.field.specs.declared.Field.{Field}
 use Rattle.field.specs.declared.Field.TheVariants.{Bad, Plus, Minus, Letter, Dash}
-use Rattle.rose.specs.declared.Said.{Said}
-use Rattle.rose.specs.declared.Said.TheVariants.{OutOfForm, OutOfRange, Is}
+use Rattle.rose.specs.Observation.{Said}
+use Rattle.std.specs.Prelude.{Ok, Err}
+use Rattle.rose.specs.declared.Misread.TheVariants.{OutOfForm, OutOfRange}
 use Rattle.rose.specs.Observation.{sector, top_speeds, exceeded, beaufort, cell_number}
 use Rattle.rose.specs.Observation.{field_says, together, line_says, cell_in}
 use Rattle.rose.specs.Rose.{fault_after}
@@ -94,13 +95,13 @@ row-only v r h (b, lo, hi) =
 -- ---- a line
 
 -- a fault is no number
-no-form : {k : ℕ} → OutOfForm ≡ Is k → ⊥
+no-form : {k : ℕ} → (Err OutOfForm) ≡ Ok k → ⊥
 no-form e = omega (arith, ap (fault_after 0) e)
 
-no-range : {k : ℕ} → OutOfRange ≡ Is k → ⊥
+no-range : {k : ℕ} → (Err OutOfRange) ≡ Ok k → ⊥
 no-range e = omega (arith, ap (fault_after 0) e)
 
-field_is : (top : ℕ) (f : Field) {n : ℕ} → field_says top f ≡ Is n → (f ≡ Plus n) × (n ≤ top)
+field_is : (top : ℕ) (f : Field) {n : ℕ} → field_says top f ≡ Ok n → (f ≡ Plus n) × (n ≤ top)
 field_is top Bad e = absurd (no-form e)
 field_is top (Plus m) {n} e =
     by-test (leb m top)
@@ -126,29 +127,29 @@ stands d v h k =
     }
 
 module _ (d v : Field) {k : ℕ} where
-  two-stand : (x y : Said) → field_says 359 d ≡ x → field_says 1000 v ≡ y → together x y ≡ Is k
+  two-stand : (x y : Said) → field_says 359 d ≡ x → field_says 1000 v ≡ y → together x y ≡ Ok k
       → StandsIn (d ∷ v ∷ []) k
-  two-stand OutOfForm y p q e = absurd (no-form e)
-  two-stand OutOfRange OutOfForm p q e = absurd (no-form e)
-  two-stand OutOfRange OutOfRange p q e = absurd (no-range e)
-  two-stand OutOfRange (Is b) p q e = absurd (no-range e)
-  two-stand (Is a) OutOfForm p q e = absurd (no-form e)
-  two-stand (Is a) OutOfRange p q e = absurd (no-range e)
-  two-stand (Is a) (Is b) p q e =
+  two-stand (Err OutOfForm) y p q e = absurd (no-form e)
+  two-stand (Err OutOfRange) (Err OutOfForm) p q e = absurd (no-form e)
+  two-stand (Err OutOfRange) (Err OutOfRange) p q e = absurd (no-range e)
+  two-stand (Err OutOfRange) (Ok b) p q e = absurd (no-range e)
+  two-stand (Ok a) (Err OutOfForm) p q e = absurd (no-form e)
+  two-stand (Ok a) (Err OutOfRange) p q e = absurd (no-range e)
+  two-stand (Ok a) (Ok b) p q e =
       let f = field_is 359 d p in
       let g = field_is 1000 v q in
       let c : k ≡ cell_number a b = sym (ap cell_in e) in
       rw (f.0, g.0, c) (stands a b f.1 g.1)
 
 -- WHAT A LINE SAYS IS WHERE IT STANDS
-pub line-stands : (l : List Field) {k : ℕ} → line_says l ≡ Is k → StandsIn l k
+pub line-stands : (l : List Field) {k : ℕ} → line_says l ≡ Ok k → StandsIn l k
 line-stands [] e = absurd (no-form e)
 line-stands (d ∷ []) e = absurd (no-form e)
 line-stands (d ∷ v ∷ []) e = two-stand d v (field_says 359 d) (field_says 1000 v) refl refl e
 line-stands (d ∷ v ∷ f ∷ fs) e = absurd (no-form e)
 
 -- and it stands nowhere else
-pub stands-says : (l : List Field) {k : ℕ} → StandsIn l k → line_says l ≡ Is k
+pub stands-says : (l : List Field) {k : ℕ} → StandsIn l k → line_says l ≡ Ok k
 stands-says l s =
     let d : s.sector ≡ sector s.direction =
     sector-only s.direction s.sector (sector s.direction) s.degrees s.reached

@@ -7,7 +7,7 @@ use lib.ListN.{length, get_or, drop, set, drop_of_length-le}
 use lib.Seq.{drop-cons}
 use borrow.Author.Tests.{eq-eqb, ne_eqb}
 use Rattle.verdict.specs.declared.Verdict.{Verdict}
-use Rattle.rose.specs.declared.Said.{Said}
+use Rattle.rose.specs.Observation.{Said}
 use Rattle.rose.specs.declared.Pending.{Pending}
 use Rattle.rose.specs.declared.Rose.{Rose}
 use Rattle.rose.specs.Observation.{cell_in}

@@ -7,8 +7,9 @@ use lib.Dec.{ltb, eqb}
 use lib.ListN.{length, get_or, set, length-set}
 use borrow.Author.Tests.{lt-ltb, ltb-true, eqb-true}
 use Rattle.whole.proofs.Tests.{by-test}
-use Rattle.rose.specs.declared.Said.{Said}
-use Rattle.rose.specs.declared.Said.TheVariants.{OutOfForm, OutOfRange, Is}
+use Rattle.rose.specs.Observation.{Said}
+use Rattle.std.specs.Prelude.{Ok, Err}
+use Rattle.rose.specs.declared.Misread.TheVariants.{OutOfForm, OutOfRange}
 use Rattle.rose.specs.declared.Rose.{Rose}
 use Rattle.rose.specs.Observation.{cell_in}
 use Rattle.rose.specs.Rose.{most_lines, no_lines, one_more, fault_after, line_judged}
@@ -46,9 +47,9 @@ module _ (cell : List ℕ) (k : ℕ) (here : k < length cell) (room : cell_sum c
 
 -- a line without a fault comes after fewer than the most
 pub faultless-room : (count : ℕ) (x : Said) → fault_after count x ≡ 0 → count < most_lines
-faultless-room count OutOfForm e = absurd (omega arith)
-faultless-room count OutOfRange e = absurd (omega arith)
-faultless-room count (Is k) e =
+faultless-room count (Err OutOfForm) e = absurd (omega arith)
+faultless-room count (Err OutOfRange) e = absurd (omega arith)
+faultless-room count (Ok k) e =
     by-test (ltb count most_lines) (λ t. ltb-true _ _ t) (λ t. absurd (let f = rw t at e in omega arith))
 
 -- ---- at any time

@@ -2,8 +2,9 @@
 use Rattle.std.specs.Prelude.{ℕ, ◌+◌, ◌≤◌, ◌<◌, ◌≡◌, cond, List, [], ◌∷◌, eqb, length, get_or, take}
 use Rattle.verdict.specs.Verdict.{accepted, refusal}
 use Rattle.field.specs.declared.Field.{Field}
-use Rattle.rose.specs.declared.Said.{Said}
-use Rattle.rose.specs.declared.Said.TheVariants.{OutOfForm, OutOfRange, Is}
+use Rattle.rose.specs.Observation.{Said}
+use Rattle.std.specs.Prelude.{Ok, Err}
+use Rattle.rose.specs.declared.Misread.TheVariants.{OutOfForm, OutOfRange}
 use Rattle.rose.specs.declared.Rose.{Rose}
 use Rattle.rose.specs.Observation.{line_says}
 use Rattle.rose.specs.Rose.{fault_after}
@@ -14,9 +15,9 @@ cell_sum (x ∷ xs) = x + cell_sum xs
 
 -- 1 for a line that says cell k
 abbrev pub in_cell : ℕ → Said → ℕ
-in_cell k OutOfForm = 0
-in_cell k OutOfRange = 0
-in_cell k (Is j) = cond (eqb j k) 1 0
+in_cell k (Err OutOfForm) = 0
+in_cell k (Err OutOfRange) = 0
+in_cell k (Ok j) = cond (eqb j k) 1 0
 
 -- how many lines say cell k
 unfoldable pub count_in : ℕ → List (List Field) → ℕ

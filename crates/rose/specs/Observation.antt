@@ -2,8 +2,9 @@
 use Rattle.std.specs.Prelude.{ℕ, suc, ◌+◌, ◌*◌, ◌/◌, ◌%◌, cond, List, [], ◌∷◌, leb}
 use Rattle.field.specs.declared.Field.{Field}
 use Rattle.field.specs.declared.Field.TheVariants.{Bad, Plus, Minus, Letter, Dash}
-use Rattle.rose.specs.declared.Said.{Said}
-use Rattle.rose.specs.declared.Said.TheVariants.{OutOfForm, OutOfRange, Is}
+use Rattle.std.specs.Prelude.{Result, Ok, Err}
+use Rattle.rose.specs.declared.Misread.{Misread}
+use Rattle.rose.specs.declared.Misread.TheVariants.{OutOfForm, OutOfRange}
 
 -- Of 16 sectors the first is centred on north, and each reaches 11.25 degrees to either side: 45 quarters of a degree.
 abbrev pub sector : ℕ → ℕ
@@ -27,33 +28,37 @@ cell_number direction speed = 13 * sector direction + beaufort speed
 
 -- ---- what a line says
 
+-- a number or a line says a number, which of a line is its cell, or why it says none
+abbrev pub Said : Type 0
+Said = Result ℕ Misread
+
 -- a field as a number from 0 to top
 abbrev pub field_says : ℕ → Field → Said
-field_says top Bad = OutOfForm
-field_says top (Plus n) = cond (leb n top) (Is n) OutOfRange
-field_says top (Minus n) = OutOfRange
-field_says top (Letter b) = OutOfForm
-field_says top Dash = OutOfForm
+field_says top Bad = Err OutOfForm
+field_says top (Plus n) = cond (leb n top) (Ok n) (Err OutOfRange)
+field_says top (Minus n) = Err OutOfRange
+field_says top (Letter b) = Err OutOfForm
+field_says top Dash = Err OutOfForm
 
 -- the cell of a direction and a speed; of two faults the lower
 abbrev pub together : Said → Said → Said
-together OutOfForm speed = OutOfForm
-together OutOfRange OutOfForm = OutOfForm
-together OutOfRange OutOfRange = OutOfRange
-together OutOfRange (Is v) = OutOfRange
-together (Is d) OutOfForm = OutOfForm
-together (Is d) OutOfRange = OutOfRange
-together (Is d) (Is v) = Is (cell_number d v)
+together (Err OutOfForm) speed = Err OutOfForm
+together (Err OutOfRange) (Err OutOfForm) = Err OutOfForm
+together (Err OutOfRange) (Err OutOfRange) = Err OutOfRange
+together (Err OutOfRange) (Ok v) = Err OutOfRange
+together (Ok d) (Err OutOfForm) = Err OutOfForm
+together (Ok d) (Err OutOfRange) = Err OutOfRange
+together (Ok d) (Ok v) = Ok (cell_number d v)
 
 -- a direction, 0 to 359 whole degrees, and a speed, 0 to 1000 tenths of m/s
 abbrev pub line_says : List Field → Said
-line_says [] = OutOfForm
-line_says (d ∷ []) = OutOfForm
+line_says [] = Err OutOfForm
+line_says (d ∷ []) = Err OutOfForm
 line_says (d ∷ v ∷ []) = together (field_says 359 d) (field_says 1000 v)
-line_says (d ∷ v ∷ f ∷ fs) = OutOfForm
+line_says (d ∷ v ∷ f ∷ fs) = Err OutOfForm
 
 -- the cell that it says, or 0
 abbrev pub cell_in : Said → ℕ
-cell_in OutOfForm = 0
-cell_in OutOfRange = 0
-cell_in (Is k) = k
+cell_in (Err OutOfForm) = 0
+cell_in (Err OutOfRange) = 0
+cell_in (Ok k) = k

@@ -1,8 +1,9 @@
 -- A line that is not ended, byte by byte: what any record comes to, whether a file came to it or not.
 use Rattle.std.specs.Prelude.{ℕ, ◌+◌, ◌-◌, ◌*◌, Bool, cond, not, ◌&&◌, ltb, leb, eqb}
 use Rattle.whole.specs.Digits.{is_digit}
-use Rattle.rose.specs.declared.Said.{Said}
-use Rattle.rose.specs.declared.Said.TheVariants.{OutOfForm, OutOfRange, Is}
+use Rattle.rose.specs.Observation.{Said}
+use Rattle.std.specs.Prelude.{Ok, Err}
+use Rattle.rose.specs.declared.Misread.TheVariants.{OutOfForm, OutOfRange}
 use Rattle.rose.specs.declared.Started.{Started}
 use Rattle.rose.specs.declared.Pending.{Pending}
 use Rattle.rose.specs.Observation.{together}
@@ -30,8 +31,8 @@ number_more n b = cond (is_digit b) (digit_more n (b - 48)) (cond (eqb b 45) (si
 -- what it says if it ends here
 abbrev pub number_says : ℕ → Started → Said
 number_says top n =
-    cond (eqb n.kind 2) (cond (leb n.value top) (Is n.value) OutOfRange)
-    (cond (eqb n.kind 3) OutOfRange OutOfForm)
+    cond (eqb n.kind 2) (cond (leb n.value top) (Ok n.value) (Err OutOfRange))
+    (cond (eqb n.kind 3) (Err OutOfRange) (Err OutOfForm))
 
 -- ---- a line that is not ended, by its stage: 0 before its first space; behind it 1 with a direction, 2 with one out
 -- of range, 3 with one out of form
@@ -40,9 +41,9 @@ abbrev pub pending_at : ℕ → ℕ → Started → Pending
 pending_at stage direction last = record { stage = stage; direction = direction; last = last }
 
 abbrev pub directed : Said → Pending
-directed OutOfForm = pending_at 3 0 (started 0 0)
-directed OutOfRange = pending_at 2 0 (started 0 0)
-directed (Is d) = pending_at 1 d (started 0 0)
+directed (Err OutOfForm) = pending_at 3 0 (started 0 0)
+directed (Err OutOfRange) = pending_at 2 0 (started 0 0)
+directed (Ok d) = pending_at 1 d (started 0 0)
 
 -- one byte more, which is no LF
 abbrev pub line_more : Pending → ℕ → Pending
@@ -53,7 +54,7 @@ line_more p b =
 
 -- what it says if it ends here
 abbrev pub first_says : ℕ → ℕ → Said
-first_says stage direction = cond (eqb stage 1) (Is direction) (cond (eqb stage 2) OutOfRange OutOfForm)
+first_says stage direction = cond (eqb stage 1) (Ok direction) (cond (eqb stage 2) (Err OutOfRange) (Err OutOfForm))
 
 abbrev pub pending_says : Pending → Said
 pending_says p = together (first_says p.stage p.direction) (number_says 1000 p.last)

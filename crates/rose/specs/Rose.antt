@@ -3,8 +3,9 @@ use Rattle.std.specs.Prelude.{ℕ, ◌+◌, cond, List, [], ◌∷◌, ltb, eqb,
 use Rattle.verdict.specs.Verdict.{accepted, refusal}
 use Rattle.field.specs.declared.Field.{Field}
 use Rattle.lines.specs.Lines.{lines_in}
-use Rattle.rose.specs.declared.Said.{Said}
-use Rattle.rose.specs.declared.Said.TheVariants.{OutOfForm, OutOfRange, Is}
+use Rattle.rose.specs.Observation.{Said}
+use Rattle.std.specs.Prelude.{Ok, Err}
+use Rattle.rose.specs.declared.Misread.TheVariants.{OutOfForm, OutOfRange}
 use Rattle.rose.specs.declared.Pending.{Pending}
 use Rattle.rose.specs.declared.Rose.{Rose}
 use Rattle.rose.specs.Observation.{line_says, cell_in}
@@ -49,9 +50,9 @@ refused_at cell count n =
 
 -- "form 1, then range 3, then 11 for a good line after 1,000,000 accepted ones"; 0 where the line is accepted
 abbrev pub fault_in : Said → ℕ
-fault_in OutOfForm = 1
-fault_in OutOfRange = 3
-fault_in (Is k) = 0
+fault_in (Err OutOfForm) = 1
+fault_in (Err OutOfRange) = 3
+fault_in (Ok k) = 0
 
 abbrev pub fault_after : ℕ → Said → ℕ
 fault_after count x = cond (eqb (fault_in x) 0) (cond (ltb count most_lines) 0 11) (fault_in x)

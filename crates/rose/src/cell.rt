@@ -8,12 +8,10 @@ const TOP_SPEEDS: [u32; 12] = [2, 15, 33, 54, 79, 107, 138, 171, 207, 244, 284, 
 fn beaufort_of(speed: u32) -> u32
     ensures { (result ≡ beaufort speed) × (result < 13) }
 {
-    let mut i: usize = 0;
-    while i < 12 {
-        if speed <= TOP_SPEEDS[i] {
+    for (i, &top) in TOP_SPEEDS.iter().enumerate() {
+        if speed <= top {
             return i as u32;
         }
-        i += 1;
     }
     12
 }

@@ -2,7 +2,7 @@
 ghost use Rattle.std.specs.Prelude.{◌≡◌, cond, ltb};
 ghost use Rattle.rose.specs.Rose.{most_lines, one_more, fault_in, fault_after, refused_at};
 
-use crate::{Rose, Said, line};
+use crate::{Misread, Rose, line};
 use verdict::Verdict;
 
 pub(crate) fn one_more(x: u32) -> u32
@@ -15,13 +15,13 @@ pub(crate) fn one_more(x: u32) -> u32
 }
 
 // The fault that a line has by itself, 0 if it has none.
-fn fault_in(said: Said) -> u32
+fn fault_in(said: Result<u32, Misread>) -> u32
     ensures { result ≡ fault_in said }
 {
     match said {
-        Said::OutOfForm => 1,
-        Said::OutOfRange => 3,
-        Said::Is(k) => 0,
+        Err(Misread::OutOfForm) => 1,
+        Err(Misread::OutOfRange) => 3,
+        Ok(_) => 0,
     }
 }
 
@@ -36,7 +36,7 @@ fn fault_of_room(accepted: u32) -> u32
 }
 
 // The first of the two.
-pub(crate) fn fault_after(accepted: u32, said: Said) -> u32
+pub(crate) fn fault_after(accepted: u32, said: Result<u32, Misread>) -> u32
     ensures { result ≡ fault_after accepted said }
 {
     let own = fault_in(said);

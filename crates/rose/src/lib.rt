@@ -13,12 +13,11 @@ mod cell; // the cell of a direction and a speed
 mod line; // a line that is not ended
 mod judge; // what becomes of a line that is
 
-// What a number or a line says: it is out of form or out of range, or else the number, which of a line is its cell.
-#[derive(Clone, Copy)]
-pub enum Said {
+// Why a number or a line says no number.
+#[derive(Clone, Copy, PartialEq, Eq)]
+pub enum Misread {
     OutOfForm,
     OutOfRange,
-    Is(u32),
 }
 
 // What there is of a number that is not ended: its kind, and what its digits stand for (specs/Pending.antt).
@@ -73,24 +72,20 @@ pub fn take(rose: Rose, part: &[u8]) -> Rose
     let mut cell = rose.cell;
     let mut accepted = rose.accepted;
     let mut pending = rose.pending;
-    let mut i = 0;
-    while i < part.len() {
-        let b = part[i];
-        if b == 10 {
-            let said = line::says(pending);
-            let fault = judge::fault_after(accepted, said);
-            if fault != 0 {
-                return judge::refusal(cell, accepted, fault);
-            }
-            let k = line::cell_in(said) as usize;
-            cell[k] = judge::one_more(cell[k]);
-            accepted = judge::one_more(accepted);
-            pending = line::no_bytes();
-            i += 1;
-        } else {
+    for &b in part {
+        if b != 10 {
             pending = line::with_byte(pending, b);
-            i += 1;
+            continue;
         }
+        let said = line::says(pending);
+        let fault = judge::fault_after(accepted, said);
+        if fault != 0 {
+            return judge::refusal(cell, accepted, fault);
+        }
+        let k = line::cell_in(said) as usize;
+        cell[k] = judge::one_more(cell[k]);
+        accepted = judge::one_more(accepted);
+        pending = line::no_bytes();
     }
     Rose {
         verdict: verdict,

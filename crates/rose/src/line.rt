@@ -4,7 +4,7 @@ ghost use Rattle.rose.specs.Observation.{together, cell_in};
 ghost use Rattle.rose.specs.Rose.{no_bytes};
 ghost use Rattle.rose.specs.Pending.{directed, first_says, line_more, pending_says, has_bytes};
 
-use crate::{Pending, Said, Started, cell, number};
+use crate::{Misread, Pending, Started, cell, number};
 
 pub(crate) fn no_bytes() -> Pending
     ensures { result ≡ no_bytes }
@@ -27,22 +27,22 @@ pub(crate) fn has_bytes(p: Pending) -> bool
 }
 
 // A line behind its first space.
-fn directed_by(x: Said) -> Pending
+fn directed_by(x: Result<u32, Misread>) -> Pending
     ensures { result ≡ directed x }
 {
     let none = Started { kind: 0, value: 0 };
     match x {
-        Said::OutOfForm => Pending {
+        Err(Misread::OutOfForm) => Pending {
             stage: 3,
             direction: 0,
             last: none,
         },
-        Said::OutOfRange => Pending {
+        Err(Misread::OutOfRange) => Pending {
             stage: 2,
             direction: 0,
             last: none,
         },
-        Said::Is(d) => Pending {
+        Ok(d) => Pending {
             stage: 1,
             direction: d,
             last: none,
@@ -73,38 +73,32 @@ pub(crate) fn with_byte(p: Pending, b: u8) -> Pending
 }
 
 // What the first number said.
-fn first_says(stage: u32, direction: u32) -> Said
+fn first_says(stage: u32, direction: u32) -> Result<u32, Misread>
     ensures { result ≡ first_says stage direction }
 {
     if stage == 1 {
-        return Said::Is(direction);
+        return Ok(direction);
     }
     if stage == 2 {
-        return Said::OutOfRange;
+        return Err(Misread::OutOfRange);
     }
-    Said::OutOfForm
+    Err(Misread::OutOfForm)
 }
 
-fn both_say(direction: Said, speed: Said) -> Said
+// The cell of the two; of two faults the lower.
+fn both_say(direction: Result<u32, Misread>, speed: Result<u32, Misread>) -> Result<u32, Misread>
     ensures { result ≡ together direction speed }
 {
-    match direction {
-        Said::OutOfForm => Said::OutOfForm,
-        Said::OutOfRange => match speed {
-            Said::OutOfForm => Said::OutOfForm,
-            Said::OutOfRange => Said::OutOfRange,
-            Said::Is(v) => Said::OutOfRange,
-        },
-        Said::Is(d) => match speed {
-            Said::OutOfForm => Said::OutOfForm,
-            Said::OutOfRange => Said::OutOfRange,
-            Said::Is(v) => Said::Is(cell::cell_at(d, v)),
-        },
+    if let Err(Misread::OutOfForm) = speed {
+        return speed;
     }
+    let d = direction?;
+    let v = speed?;
+    Ok(cell::cell_at(d, v))
 }
 
-// What it says if it ends here.
-pub(crate) fn says(p: Pending) -> Said
+// The cell that it says if it ends here.
+pub(crate) fn says(p: Pending) -> Result<u32, Misread>
     ensures { (result ≡ pending_says p) × (cell_in result < 208) }
 {
     let n = p.last;
@@ -112,12 +106,8 @@ pub(crate) fn says(p: Pending) -> Said
 }
 
 // Its cell, or 0 where it has none.
-pub(crate) fn cell_in(x: Said) -> u32
+pub(crate) fn cell_in(x: Result<u32, Misread>) -> u32
     ensures { result ≡ cell_in x }
 {
-    match x {
-        Said::OutOfForm => 0,
-        Said::OutOfRange => 0,
-        Said::Is(k) => k,
-    }
+    x.unwrap_or(0)
 }

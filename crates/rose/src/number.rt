@@ -2,7 +2,7 @@
 ghost use Rattle.std.specs.Prelude.{◌≡◌, ◌<◌};
 ghost use Rattle.rose.specs.Pending.{digit_more, sign_more, number_more, number_says};
 
-use crate::{Said, Started};
+use crate::{Misread, Started};
 
 // A number of digits can go on with a digit d if it has from one to six and does not begin with 0.
 fn with_digit(n: Started, d: u64) -> Started
@@ -54,18 +54,18 @@ pub(crate) fn with_byte(n: Started, b: u8) -> Started
     Started { kind: 4, value: 0 }
 }
 
-// What it says if it ends here.
-pub(crate) fn says(top: u32, n: Started) -> Said
+// The number that it says if it ends here.
+pub(crate) fn says(top: u32, n: Started) -> Result<u32, Misread>
     ensures { result ≡ number_says top n }
 {
     if n.kind == 2 {
         if n.value <= top as u64 {
-            return Said::Is(n.value as u32);
+            return Ok(n.value as u32);
         }
-        return Said::OutOfRange;
+        return Err(Misread::OutOfRange);
     }
     if n.kind == 3 {
-        return Said::OutOfRange;
+        return Err(Misread::OutOfRange);
     }
-    Said::OutOfForm
+    Err(Misread::OutOfForm)
 }

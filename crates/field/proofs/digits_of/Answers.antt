@@ -1,9 +1,8 @@
 -- `digits_of` meets its contract: after so many digits the number is below as many tens multiplied, and what the rest
 -- say after it is what all say.
 use Prim.Native.Nat.{◌-◌}
-use mathlib.Core.Path.{refl, sym, ◌∙◌}
+use mathlib.Core.Path.{sym, ◌∙◌}
 use native.Mathlib.Omega.{arith}
-use borrow.Author.Rules.{rules}
 use lib.ListN.{get_or}
 use Rattle.whole.specs.Digits.{value}
 use Rattle.field.proofs.Fields.{read_low, read-high, read_next, read-end, value_grows}

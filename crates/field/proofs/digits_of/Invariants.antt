@@ -1,6 +1,6 @@
 -- `digits_of` meets its contract: after so many digits the number is below 10 ^ i, and what the rest say after it is what
 -- all say.
-use Prim.Native.Nat.{◌≤◌, ◌<◌, ◌-◌, ◌^◌}
+use Prim.Native.Nat.{◌≤◌, ◌<◌, ◌^◌}
 use mathlib.Core.Path.{◌≡◌}
 use lib.ListN.{length, drop}
 use Rattle.field.proofs.Fields.{read_after}

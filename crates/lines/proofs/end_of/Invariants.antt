@@ -1,7 +1,7 @@
 -- `end_of` meets its contract: the first space or LF from `at` on is the first from i on.
-use Prim.Native.Nat.{◌≤◌, ◌+◌, ◌-◌}
+use Prim.Native.Nat.{◌+◌}
 use mathlib.Core.Path.{◌≡◌}
-use lib.ListN.{length, drop}
+use lib.ListN.{drop}
 use Rattle.lines.specs.Held.{field_length}
 use Rattle.lines.proofs.end_of.Given as goal
 

@@ -1,5 +1,4 @@
 -- `line_at` meets its contract: the line that comes of the fields passed and those from `next` on is the whole line.
-use Prim.Native.Nat.{◌-◌}
 use mathlib.Core.Path.{◌≡◌}
 use lib.ListN.{drop}
 use Rattle.lines.specs.Lines.{split}

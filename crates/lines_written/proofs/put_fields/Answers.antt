@@ -8,7 +8,6 @@ use Rattle.lines.specs.Held.{held}
 use Rattle.page.specs.Writing.{Put}
 use Rattle.lines_written.proofs.Texts.{line_first, line-next}
 use Rattle.page.proofs.Put.{then, put-length}
-use borrow.Author.Rules.{rules}
 use Rattle.lines_written.proofs.put_fields.Goals.{After-loop-i, At-loop-i}
 use Rattle.lines_written.proofs.put_fields.Goals as goal
 
@@ -21,19 +20,18 @@ all : (c : After-loop-i)
     → Put c.args.buf.now c.args.at (line_text (held c.args.x)) c.loop-i.buf c.loop-i.next
 all c =
     rw (take_all c.loop-i.i (held c.args.x) (omega (arith, c.loop-i.invariant.0, c.loop-i-test.false)))
-    at (c.loop-i.invariant.2 c.args.buf.now c.args.at (one (goal.at.After-loop-i c).At-loop-i))
+    at (c.loop-i.invariant.1 c.args.buf.now c.args.at (one (goal.at.After-loop-i c).At-loop-i))
 
 pub loop-i-init : goal.loop-i-init
-loop-i-init c = (c.held_count-n.ensures, search rules, λ l a p. p)
+loop-i-init c = (c.held_count-n.ensures, λ l a p. p)
 
 pub loop-i-preserved : goal.loop-i-preserved
 loop-i-preserved c =
     let x = c.args.x in
     let few : c.loop-i.i < length (held x) = omega (arith, c.loop-i.invariant.0, c.loop-i-test.true) in (
       c.loop-i.invariant.0,
-      omega arith,
-      λ m a p. rw (line-next (held x) c.loop-i.i c.loop-i.invariant.1 few)
-          (then (c.loop-i.invariant.2 m a p)
+      λ m a p. rw (line-next (held x) c.loop-i.i c.loop-i.auto.i few)
+          (then (c.loop-i.invariant.1 m a p)
           (then c.put_byte-next.ensures (rw c.field_at-g.ensures at c.put_field-next-in-loop-i.ensures))),
     )
 

@@ -1,5 +1,5 @@
 -- `put_fields` meets its contract: after i fields their text is put, with a space before each but the first.
-use Prim.Native.Nat.{ℕ, ◌≤◌, ◌-◌}
+use Prim.Native.Nat.{ℕ}
 use mathlib.Core.Path.{◌≡◌}
 use mathlib.Core.List.{List}
 use lib.ListN.{length, take}
@@ -11,9 +11,6 @@ use Rattle.lines_written.proofs.put_fields.Given as goal
 -- the loop begins with the second field: whatever the first was put into, the first i fields now stand there
 abbrev pub invariant-loop-i : goal.invariant-loop-i
 invariant-loop-i l =
-    (l.n ≡ length (held l.x)) × (1 ≤ l.i)
+    (l.n ≡ length (held l.x))
     × ((b : List ℕ) (a : ℕ) → Put b a (line_text (take 1 (held l.x))) l.initial.buf l.initial.next
     → Put b a (line_text (take l.i (held l.x))) l.buf l.next)
-
-abbrev pub decreases-loop-i : goal.decreases-loop-i
-decreases-loop-i l = l.n - l.i

@@ -8,15 +8,15 @@ pub loop-i-init : goal.loop-i-init
 unfolding beaufort
 loop-i-init c = omega arith
 
-pub returns-then-speed-i : goal.returns-then-speed-i
+pub returns-then-speed-top : goal.returns-then-speed-top
 unfolding top_speeds
-returns-then-speed-i c =
-    omega (arith, exceeded-here c.args.speed top_speeds c.loop-i.i (omega arith) c.if-speed-i.true)
+returns-then-speed-top c =
+    omega (arith, exceeded-here c.args.speed top_speeds c.loop-i.i (omega arith) c.if-speed-top.true)
 
 pub loop-i-preserved : goal.loop-i-preserved
 unfolding top_speeds
 loop-i-preserved c =
-    omega (arith, exceeded-on c.args.speed top_speeds c.loop-i.i (omega arith) c.if-speed-i.false)
+    omega (arith, exceeded-on c.args.speed top_speeds c.loop-i.i (omega arith) c.if-speed-top.false)
 
 pub returns : goal.returns
 unfolding top_speeds
