@@ -1,10 +1,11 @@
 -- How large the limits of a roof's x are, and what x is compared over.
+use mathlib.Core.Path.{◌≡◌, refl}
 use mathlib.Core.Bool.{Bool, true, false, cond}
-use Prim.Native.Nat.{ℕ, ◌≤◌, ◌<◌}
+use Prim.Native.Nat.{ℕ, zero, suc, ◌≤◌, ◌<◌}
 use native.Mathlib.Omega.{arith}
-use lib.Dec.{T, leb, leb→le, lit<, lit≤}
+use lib.Dec.{T, eqb, leb, leb→le, lit<, lit≤}
 use Rattle.whole.proofs.Table.{all-at, both, both_left, both_right}
-use Rattle.building.specs.Roof.{Roof, roof, roofs, roof_of, across_of}
+use Rattle.building.specs.Roof.{last_kind, Roof, roof, roofs, roof_of, across_of}
 
 abbrev low : Roof → Bool
 low r = both (leb r.least 900) (leb r.greatest 900)
@@ -27,3 +28,15 @@ across-range kind h from to = go (roof_of kind).by_height
     go : (t : Bool) → (0 < cond t h 1) × (cond t h 1 ≤ 30000)
     go true = (omega arith, to)
     go false = (lit< tt, lit≤ tt)
+
+-- x is thousandths of h where a roof is flat with parapet or with curved eaves
+pub by-height : (kind : ℕ) → kind ≤ last_kind → (kind ≡ 3 → ⊥) → eqb kind 4 ≡ (roof_of kind).by_height
+unfolding roof_of
+by-height zero h n = refl
+by-height (suc zero) h n = refl
+by-height (suc (suc zero)) h n = refl
+by-height (suc (suc (suc zero))) h n = absurd (n refl)
+by-height (suc (suc (suc (suc zero)))) h n = refl
+by-height (suc (suc (suc (suc (suc zero))))) h n = refl
+by-height (suc (suc (suc (suc (suc (suc zero)))))) h n = refl
+by-height (suc (suc (suc (suc (suc (suc (suc k))))))) h n = absurd (omega arith)

@@ -1,27 +1,31 @@
 // The tests of a building's line, in their order.
-ghost use Rattle.std.specs.Prelude.{◌≡◌, false, ◌≤◌};
+ghost use Rattle.std.specs.Prelude.{◌≡◌, false, map, ◌≤◌, ℤ, pos};
 ghost use Rattle.building.specs.Roof.{last_kind, roof_of, along_of, across_of};
 ghost use Rattle.building.specs.Order.{Ranged};
 ghost use Rattle.building.specs.Building as building;
+ghost use Rattle.building.specs.Test.{beyond};
+ghost use Rattle.building.specs.Fault.{first_spot, spot_of};
+ghost use Rattle.building.specs.Building.{Range, ranges, range_faults, faults};
 ghost use Rattle.building.specs.Building.{out_of_form, out_of_range, out_of_walls, out_of_roof, sizes};
 
 use super::limits::{beyond, too_long};
 use super::ratio::up_to;
-use super::tests::{any, either};
 use super::year::has_squares;
 use super::{Building, Sizes};
 
 pub(crate) fn out_of_form(g: Building) -> bool
     ensures { result ≡ out_of_form g }
 {
-    any(
+    [
         too_long(g.h),
         too_long(g.a),
         too_long(g.b),
         too_long(g.density),
         too_long(g.kind),
         too_long(g.x),
-    )
+    ]
+    .iter()
+    .any(|t| *t)
 }
 
 // The ranges of the line's numbers.
@@ -37,17 +41,34 @@ pub(crate) const LAST_KIND: i64 = 6;
 
 pub(crate) const MOST_X: i64 = 30000;
 
-pub(crate) fn out_of_range(g: Building) -> bool
-    ensures { result ≡ out_of_range g }
+// Which of the line's numbers lie outside their ranges.
+fn outside(g: Building) -> [bool; 6]
+    ensures { result ≡ map (λ r. beyond (pos r.least) (pos r.greatest) r.number) (ranges g) }
 {
-    any(
+    [
         beyond(LEAST_LENGTH, MOST_LENGTH, g.h),
         beyond(LEAST_LENGTH, MOST_LENGTH, g.a),
         beyond(LEAST_LENGTH, MOST_LENGTH, g.b),
         beyond(LEAST_DENSITY, MOST_DENSITY, g.density),
         beyond(0, LAST_KIND, g.kind),
         beyond(0, MOST_X, g.x),
-    )
+    ]
+}
+
+pub(crate) fn out_of_range(g: Building) -> bool
+    ensures { result ≡ out_of_range g }
+{
+    outside(g).iter().any(|t| *t)
+}
+
+// The field of the first number that is out of its range, 0 where none is.
+pub(crate) fn range_field(g: Building) -> u32
+    ensures { (year : ℤ) → first_spot (range_faults 1 (ranges g)) ≡ spot_of result (faults year g) }
+{
+    match outside(g).iter().position(|t| *t) {
+        Some(i) => i as u32 + 1,
+        None => 0,
+    }
 }
 
 // The least x of each kind, and the greatest.
@@ -86,15 +107,7 @@ fn by_height(kind: usize) -> bool
     requires { kind ≤ last_kind }
     ensures { result ≡ (roof_of kind).by_height }
 {
-    match kind {
-        0 => false,
-        1 => false,
-        2 => false,
-        3 => true,
-        4 => true,
-        5 => false,
-        _ => false,
-    }
+    kind == 3 || kind == 4
 }
 
 // x, or 1000 x where it is compared with h.
@@ -103,19 +116,17 @@ pub(crate) fn along(kind: u64, x: u64) -> u64
     ensures { result ≡ along_of kind x }
 {
     if by_height(kind as usize) {
-        return 1000 * x;
+        1000 * x
+    } else {
+        x
     }
-    x
 }
 
 fn across(kind: u64, h: u64) -> u64
     requires { kind ≤ last_kind }
     ensures { result ≡ across_of kind h }
 {
-    if by_height(kind as usize) {
-        return h;
-    }
-    1
+    if by_height(kind as usize) { h } else { 1 }
 }
 
 pub(crate) fn sizes_of(g: Building) -> Sizes
@@ -139,20 +150,14 @@ pub(crate) fn sizes_of(g: Building) -> Sizes
 fn begun(year: i64, a: u32, b: u32) -> bool
     ensures { result ≡ building.begun year a b }
 {
-    if has_squares(year) {
-        return b <= a;
-    }
-    b < a
+    if has_squares(year) { b <= a } else { b < a }
 }
 
 // h/b over 6; a/b before the table begins; a/b over 4.
 pub(crate) fn out_of_walls(year: i64, s: Sizes) -> bool
     ensures { result ≡ out_of_walls year s }
 {
-    either(
-        !up_to(s.h, s.b, 6, 1),
-        either(!begun(year, s.a, s.b), !up_to(s.a, s.b, 4, 1)),
-    )
+    !up_to(s.h, s.b, 6, 1) || !begun(year, s.a, s.b) || !up_to(s.a, s.b, 4, 1)
 }
 
 // Along over across below the least of the roof's kind, or above the greatest.
@@ -161,8 +166,5 @@ pub(crate) fn out_of_roof(s: Sizes) -> bool
     ensures { result ≡ out_of_roof s }
 {
     let kind = s.kind as usize;
-    either(
-        s.along < least(kind) * s.across,
-        greatest(kind) * s.across < s.along,
-    )
+    s.along < least(kind) * s.across || greatest(kind) * s.across < s.along
 }

@@ -1,12 +1,13 @@
 -- `faults::out_of_roof`: the limits of the roof's kind, times what x is compared over.
 -- a limit of the kind, times what x is compared over
-use mathlib.Core.Path.{◌≡◌, ap₂, ◌∙◌}
-use mathlib.Core.Bool.{◌||◌}
+use mathlib.Core.Path.{◌≡◌, ap}
 use Prim.Native.Nat.{ℕ, ◌*◌, ◌≤◌}
 use native.Mathlib.Nat.{mul-le-mul}
 use native.Mathlib.Omega.{arith}
 use lib.Dec.{ltb}
+use borrow.Author.Tests.{lt-ltb, le-ltb}
 use Rattle.building.specs.Building.{out_of_roof}
+use Rattle.building.proofs.Machine.{or_here, or_there}
 use Rattle.building.proofs.Roofs.{least-most, greatest-most}
 use Rattle.building.proofs.faults.out_of_roof.Goals as goal
 
@@ -17,14 +18,21 @@ pub overflow_mul-least : goal.overflow_mul-least
 overflow_mul-least c =
     omega (arith, small c.least.ensures (least-most c.args.s.kind) c.requires.across-most)
 
-pub overflow_mul-greatest : goal.overflow_mul-greatest
-overflow_mul-greatest c =
+pub overflow_mul-result : goal.overflow_mul-result
+overflow_mul-result c =
     omega (arith, small c.greatest.ensures (greatest-most c.args.s.kind) c.requires.across-most)
 
-pub returns : goal.returns
+pub returns-then-s-least : goal.returns-then-s-least
 unfolding out_of_roof
-returns c =
+returns-then-s-least c =
     let s = c.args.s in
-    c.either.ensures
-    ∙ ap₂ (λ (least greatest : ℕ). ltb s.along (least * s.across) || ltb (greatest * s.across) s.along)
-    c.least.ensures c.greatest.ensures
+    or_here _ (lt-ltb s.along (c.least.result * s.across) c.if-s-least.true)
+    (ap (λ (n : ℕ). ltb s.along (n * s.across)) c.least.ensures)
+
+pub returns-else-s-least : goal.returns-else-s-least
+unfolding out_of_roof
+returns-else-s-least c =
+    let s = c.args.s in
+    or_there (le-ltb s.along (c.least.result * s.across) c.if-s-least.false)
+    (ap (λ (n : ℕ). ltb s.along (n * s.across)) c.least.ensures)
+    (ap (λ (n : ℕ). ltb (n * s.across) s.along) c.greatest.ensures)
