@@ -1,11 +1,14 @@
 -- How large the limits of a roof's x are, and what x is compared over.
-use mathlib.Core.Path.{◌≡◌, refl}
+use mathlib.Core.Path.{◌≡◌}
 use mathlib.Core.Bool.{Bool, true, false, cond}
-use Prim.Native.Nat.{ℕ, zero, suc, ◌≤◌, ◌<◌}
+use Prim.Native.Nat.{ℕ, ◌≤◌, ◌<◌}
 use native.Mathlib.Omega.{arith}
-use lib.Dec.{T, eqb, leb, leb→le, lit<, lit≤}
+use lib.Dec.{T, leb, leb→le, lit<, lit≤}
 use Rattle.whole.proofs.Table.{all-at, both, both_left, both_right}
-use Rattle.building.specs.Roof.{last_kind, Roof, roof, roofs, roof_of, across_of}
+use mathlib.Core.List.{map}
+use lib.ListN.{get_or, get_or-map}
+use Rattle.building.specs.declared.faults.Roof as coded-roofs
+use Rattle.building.specs.Roof.{Roof, roof, roofs, roof_of, across_of}
 
 abbrev low : Roof → Bool
 low r = both (leb r.least 900) (leb r.greatest 900)
@@ -29,14 +32,11 @@ across-range kind h from to = go (roof_of kind).by_height
     go true = (omega arith, to)
     go false = (lit< tt, lit≤ tt)
 
--- x is thousandths of h where a roof is flat with parapet or with curved eaves
-pub by-height : (kind : ℕ) → kind ≤ last_kind → (kind ≡ 3 → ⊥) → eqb kind 4 ≡ (roof_of kind).by_height
+-- ---- the code's rows are the roofs
+
+abbrev coded : Roof → coded-roofs.Roof
+coded r = (r.least, r.greatest, r.by_height)
+
+pub roof_is : (kind : ℕ) → get_or (map coded roofs) kind (coded (roof 0 0 false)) ≡ coded (roof_of kind)
 unfolding roof_of
-by-height zero h n = refl
-by-height (suc zero) h n = refl
-by-height (suc (suc zero)) h n = refl
-by-height (suc (suc (suc zero))) h n = absurd (n refl)
-by-height (suc (suc (suc (suc zero)))) h n = refl
-by-height (suc (suc (suc (suc (suc zero))))) h n = refl
-by-height (suc (suc (suc (suc (suc (suc zero)))))) h n = refl
-by-height (suc (suc (suc (suc (suc (suc (suc k))))))) h n = absurd (omega arith)
+roof_is kind = get_or-map coded roofs kind (roof 0 0 false)

@@ -71,43 +71,28 @@ pub(crate) fn range_field(g: Building) -> u32
     }
 }
 
-// The least x of each kind, and the greatest.
-pub(crate) fn least(kind: usize) -> u64
-    requires { kind ≤ last_kind }
-    ensures { result ≡ (roof_of kind).least }
-{
-    match kind {
-        0 => 0,
-        1 => 0,
-        2 => 0,
-        3 => 25,
-        4 => 50,
-        5 => 300,
-        _ => 50,
-    }
-}
+// A roof: the least x and the greatest, and whether they are thousandths of h.
+#[derive(Clone, Copy)]
+pub(crate) struct Roof(pub u64, pub u64, pub bool);
 
-pub(crate) fn greatest(kind: usize) -> u64
-    requires { kind ≤ last_kind }
-    ensures { result ≡ (roof_of kind).greatest }
-{
-    match kind {
-        0 => 0,
-        1 => 600,
-        2 => 0,
-        3 => 100,
-        4 => 200,
-        5 => 900,
-        _ => 300,
-    }
-}
+// Kind by kind.
+const ROOFS: [Roof; 7] = [
+    Roof(0, 0, false),
+    Roof(0, 600, false),
+    Roof(0, 0, false),
+    Roof(25, 100, true),
+    Roof(50, 200, true),
+    Roof(300, 900, false),
+    Roof(50, 300, false),
+];
 
-// Whether they are thousandths of h.
-fn by_height(kind: usize) -> bool
+pub(crate) fn roof_of(kind: u64) -> Roof
     requires { kind ≤ last_kind }
-    ensures { result ≡ (roof_of kind).by_height }
+    ensures least { result.0 ≡ (roof_of kind).least }
+    ensures greatest { result.1 ≡ (roof_of kind).greatest }
+    ensures by_height { result.2 ≡ (roof_of kind).by_height }
 {
-    kind == 3 || kind == 4
+    ROOFS[kind as usize]
 }
 
 // x, or 1000 x where it is compared with h.
@@ -115,18 +100,16 @@ pub(crate) fn along(kind: u64, x: u64) -> u64
     requires { (kind ≤ last_kind) × (x ≤ 30000) }
     ensures { result ≡ along_of kind x }
 {
-    if by_height(kind as usize) {
-        1000 * x
-    } else {
-        x
-    }
+    let by_height = roof_of(kind).2;
+    if by_height { 1000 * x } else { x }
 }
 
 fn across(kind: u64, h: u64) -> u64
     requires { kind ≤ last_kind }
     ensures { result ≡ across_of kind h }
 {
-    if by_height(kind as usize) { h } else { 1 }
+    let by_height = roof_of(kind).2;
+    if by_height { h } else { 1 }
 }
 
 pub(crate) fn sizes_of(g: Building) -> Sizes
@@ -140,7 +123,7 @@ pub(crate) fn sizes_of(g: Building) -> Sizes
         h: h as u32,
         a: whole::magnitude(g.a) as u32,
         b: b as u32,
-        kind: kind,
+        kind,
         along: along(kind, whole::magnitude(g.x)),
         across: across(kind, h),
     }
@@ -165,6 +148,6 @@ pub(crate) fn out_of_roof(s: Sizes) -> bool
     requires { Ranged s }
     ensures { result ≡ out_of_roof s }
 {
-    let kind = s.kind as usize;
-    s.along < least(kind) * s.across || greatest(kind) * s.across < s.along
+    let roof = roof_of(s.kind);
+    s.along < roof.0 * s.across || roof.1 * s.across < s.along
 }

@@ -69,9 +69,9 @@ fn roof_spot(s: Sizes) -> Spot
     requires { Ranged s }
     ensures { result ≡ roof_spot s }
 {
-    let kind = s.kind as usize;
-    let least = faults::least(kind) * s.across;
-    let greatest = faults::greatest(kind) * s.across;
+    let roof = faults::roof_of(s.kind);
+    let least = roof.0 * s.across;
+    let greatest = roof.1 * s.across;
     let scale = faults::along(s.kind, 1);
     ranged(
         6,
