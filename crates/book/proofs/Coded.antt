@@ -13,15 +13,13 @@ use mir.Val.{hbits}
 use borrow.Author.Tests.{eqb-true, eq-eqb, ne_eqb}
 use Rattle.whole.proofs.Size.{Num, back}
 use Rattle.whole.proofs.Tests.{is_true}
-use Rattle.whole.proofs.Table.{both, both_left, both_right, all, all-at, Each, each_at}
+use Rattle.whole.proofs.Table.{both, both_left, both_right, Each, each_at}
 use Rattle.whole.specs.Lists.{joined}
 use Rattle.whole.proofs.Joined.{begins, joined_at}
-use Rattle.building.specs.Ratio.{Limit, ◌÷◌}
-use Rattle.book.specs.declared.roofs.Limit as coded-limits
 use Rattle.book.specs.declared.roofs.Row as coded-rows
 use Rattle.book.specs.declared.roofs.Slope as coded-slopes
 use Rattle.book.specs.Row.{Row, no_row, hundredths, row_numbered, Standing, rows_of}
-use Rattle.book.specs.Gable.{gable_parts, gable_table, heights}
+use Rattle.book.specs.Gable.{gable_parts, gable_table}
 use Rattle.book.specs.Flat.{flat_parts, flat_table}
 use Rattle.book.specs.SingleSlope.{single_slope, single_table}
 use Rattle.book.specs.Spot.{roof_parts}
@@ -48,14 +46,6 @@ module _ (r : Wall) (col : ℕ) where
 
   pub local : col ≡ 8 → (coded_wall r).6 ≡ hundredths r.row col
   local e = ap (λ (n : ℕ). get_or r.row.cells n (pos 0)) (sym e)
-
--- ---- the limits of h/b of a gable's blocks
-
-abbrev coded-limit : Limit → coded-limits.Limit
-coded-limit t = (t.over, t.under)
-
-pub limit_is : (i : ℕ) → get_or (map coded-limit heights) i (0, 0) ≡ coded-limit (get_or heights i (0 ÷ 0))
-limit_is i = get_or-map coded-limit heights i (0 ÷ 0)
 
 -- ---- the roofs' rows, part after part: a row's number, the number at which it stands, and its hundredths
 
@@ -131,12 +121,6 @@ slope-number =
 pub number_in : (f : Standing → ℕ) → f no_standing ≡ 0 → (k i : ℕ)
     → get_or (map f (part k)) i 0 ≡ f (get_or (part k) i no_standing)
 number_in f none k i = ap (get_or (map f (part k)) i) (sym none) ∙ get_or-map f (part k) i no_standing
-
-pub stands-small : (k i : ℕ) → (get_or (part k) i no_standing).at ≤ 900
-stands-small k i =
-    leb→le _ 900
-    (all-at (λ (s : Standing). leb s.at 900) (part k) no_standing tt
-    (all-at (λ (l : List Standing). all (λ (s : Standing). leb s.at 900) l) roof_parts [] tt tt k) i)
 
 -- ---- the rows of a table by their numbers
 

@@ -1,6 +1,5 @@
--- A way as the code has it, with its rows by their numbers, and the parts of the roofs' tables in the code's
--- order. Only
--- contracts of private functions cite it.
+-- A way as the code has it, with its rows by their numbers, and the parts of the roofs' tables in the code's order.
+-- Only contracts of private functions cite it.
 use Rattle.std.specs.Prelude.{List, [], ◌∷◌, ◌++◌, ℕ}
 use Rattle.book.specs.declared.line.Spot.{Spot}
 use Rattle.book.specs.declared.Values.{Values}

@@ -17,6 +17,7 @@ use super::walls::{wall_number, wall_row, wall_value};
 use super::{Cited, Values};
 use building::Sizes;
 use building::kinds::wall_place;
+use building::limits::beyond;
 
 fn wall_column(wind: u64, place: u8) -> usize
     requires { wall_place place ≡ true }
@@ -35,23 +36,14 @@ fn wall_column(wind: u64, place: u8) -> usize
 fn half_of(zone: u8) -> usize
     ensures { result ≡ half_of zone }
 {
-    if zone <= b'F' {
-        return 0;
-    }
-    1
+    if zone <= b'F' { 0 } else { 1 }
 }
 
 // E,G before F,H.
 fn flank_of(zone: u8) -> usize
     ensures { result ≡ flank_of zone }
 {
-    if zone == b'E' {
-        return 0;
-    }
-    if zone == b'G' {
-        return 0;
-    }
-    1
+    if zone == b'E' || zone == b'G' { 0 } else { 1 }
 }
 
 fn gable_column(wind: u64, zone: u8) -> usize
@@ -182,10 +174,7 @@ pub(crate) fn coefficient(s: Sizes, wind: u64, place: u8) -> Cited
 pub(crate) fn too_great(internal: i64) -> bool
     ensures { result ≡ question.too_great internal }
 {
-    if internal < -100 {
-        return true;
-    }
-    100 < internal
+    beyond(-100, 100, internal)
 }
 
 // Hundredths taken off thousandths.

@@ -91,10 +91,7 @@ fn flat(s: Sizes, w: Spot) -> Four
 fn by_flanks(kind: u64, wind: u64) -> bool
     ensures { result ≡ by_flanks kind wind }
 {
-    if kind == 1 {
-        return wind != 0;
-    }
-    wind == 90
+    if kind == 1 { wind != 0 } else { wind == 90 }
 }
 
 // E to H of a gable or a single slope.

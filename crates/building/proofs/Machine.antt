@@ -1,6 +1,6 @@
 -- A test of numbers as the machine has them, said of the numbers, and the last arm of a `match`.
 use mathlib.Core.Path.{◌≡◌, refl, sym, ap, ◌∙◌}
-use mathlib.Core.Bool.{true, false, true≢false}
+use mathlib.Core.Bool.{Bool, true, false, ◌&&◌, ◌||◌, true≢false}
 use Prim.Native.Nat.{ℕ, zero, suc, ◌^◌, ◌≤◌, ◌<◌}
 use native.Mathlib.Omega.{arith}
 use lib.Dec.{eqb}
@@ -41,6 +41,20 @@ module _ (n z : ℤ) (h : mag n < 2 ^ 63) (k : mag z < 2 ^ 63) where
 
   pub bits-other : (of_z w64 z ≡ of_z w64 n → ⊥) → is n z ≡ false
   bits-other e = sym same_bits ∙ ne_eqb _ _ e
+
+-- ---- a test that goes on to its second only where the first leaves it open
+
+pub or_here : {s t : Bool} (u : Bool) → s ≡ true → s ≡ t → s ≡ (t || u)
+or_here u p q = rw (sym q ∙ p) p
+
+pub or_there : {s t u r : Bool} → s ≡ false → s ≡ t → r ≡ u → r ≡ (t || u)
+or_there p q e = rw (sym q ∙ p) e
+
+pub and_here : {s t : Bool} (u : Bool) → s ≡ false → s ≡ t → s ≡ (t && u)
+and_here u p q = rw (sym q ∙ p) p
+
+pub and_there : {s t u r : Bool} → s ≡ true → s ≡ t → r ≡ u → r ≡ (t && u)
+and_there p q e = rw (sym q ∙ p) e
 
 -- ---- a number that none of the arms 0 to k - 1 of a `match` names, and is no more than k, is k
 

@@ -1,27 +1,31 @@
 // The tests of a building's line, in their order.
-ghost use Rattle.std.specs.Prelude.{◌≡◌, false, ◌≤◌};
+ghost use Rattle.std.specs.Prelude.{◌≡◌, false, map, ◌≤◌, ℤ, pos};
 ghost use Rattle.building.specs.Roof.{last_kind, roof_of, along_of, across_of};
 ghost use Rattle.building.specs.Order.{Ranged};
 ghost use Rattle.building.specs.Building as building;
+ghost use Rattle.building.specs.Test.{beyond};
+ghost use Rattle.building.specs.Fault.{first_spot, spot_of};
+ghost use Rattle.building.specs.Building.{Range, ranges, range_faults, faults};
 ghost use Rattle.building.specs.Building.{out_of_form, out_of_range, out_of_walls, out_of_roof, sizes};
 
 use super::limits::{beyond, too_long};
 use super::ratio::up_to;
-use super::tests::{any, either};
 use super::year::has_squares;
 use super::{Building, Sizes};
 
 pub(crate) fn out_of_form(g: Building) -> bool
     ensures { result ≡ out_of_form g }
 {
-    any(
+    [
         too_long(g.h),
         too_long(g.a),
         too_long(g.b),
         too_long(g.density),
         too_long(g.kind),
         too_long(g.x),
-    )
+    ]
+    .iter()
+    .any(|t| *t)
 }
 
 // The ranges of the line's numbers.
@@ -37,64 +41,58 @@ pub(crate) const LAST_KIND: i64 = 6;
 
 pub(crate) const MOST_X: i64 = 30000;
 
-pub(crate) fn out_of_range(g: Building) -> bool
-    ensures { result ≡ out_of_range g }
+// Which of the line's numbers lie outside their ranges.
+fn outside(g: Building) -> [bool; 6]
+    ensures { result ≡ map (λ r. beyond (pos r.least) (pos r.greatest) r.number) (ranges g) }
 {
-    any(
+    [
         beyond(LEAST_LENGTH, MOST_LENGTH, g.h),
         beyond(LEAST_LENGTH, MOST_LENGTH, g.a),
         beyond(LEAST_LENGTH, MOST_LENGTH, g.b),
         beyond(LEAST_DENSITY, MOST_DENSITY, g.density),
         beyond(0, LAST_KIND, g.kind),
         beyond(0, MOST_X, g.x),
-    )
+    ]
 }
 
-// The least x of each kind, and the greatest.
-pub(crate) fn least(kind: usize) -> u64
-    requires { kind ≤ last_kind }
-    ensures { result ≡ (roof_of kind).least }
+pub(crate) fn out_of_range(g: Building) -> bool
+    ensures { result ≡ out_of_range g }
 {
-    match kind {
-        0 => 0,
-        1 => 0,
-        2 => 0,
-        3 => 25,
-        4 => 50,
-        5 => 300,
-        _ => 50,
+    outside(g).iter().any(|t| *t)
+}
+
+// The field of the first number that is out of its range, 0 where none is.
+pub(crate) fn range_field(g: Building) -> u32
+    ensures { (year : ℤ) → first_spot (range_faults 1 (ranges g)) ≡ spot_of result (faults year g) }
+{
+    match outside(g).iter().position(|t| *t) {
+        Some(i) => i as u32 + 1,
+        None => 0,
     }
 }
 
-pub(crate) fn greatest(kind: usize) -> u64
-    requires { kind ≤ last_kind }
-    ensures { result ≡ (roof_of kind).greatest }
-{
-    match kind {
-        0 => 0,
-        1 => 600,
-        2 => 0,
-        3 => 100,
-        4 => 200,
-        5 => 900,
-        _ => 300,
-    }
-}
+// A roof: the least x and the greatest, and whether they are thousandths of h.
+#[derive(Clone, Copy)]
+pub(crate) struct Roof(pub u64, pub u64, pub bool);
 
-// Whether they are thousandths of h.
-fn by_height(kind: usize) -> bool
+// Kind by kind.
+const ROOFS: [Roof; 7] = [
+    Roof(0, 0, false),
+    Roof(0, 600, false),
+    Roof(0, 0, false),
+    Roof(25, 100, true),
+    Roof(50, 200, true),
+    Roof(300, 900, false),
+    Roof(50, 300, false),
+];
+
+pub(crate) fn roof_of(kind: u64) -> Roof
     requires { kind ≤ last_kind }
-    ensures { result ≡ (roof_of kind).by_height }
+    ensures least { result.0 ≡ (roof_of kind).least }
+    ensures greatest { result.1 ≡ (roof_of kind).greatest }
+    ensures by_height { result.2 ≡ (roof_of kind).by_height }
 {
-    match kind {
-        0 => false,
-        1 => false,
-        2 => false,
-        3 => true,
-        4 => true,
-        5 => false,
-        _ => false,
-    }
+    ROOFS[kind as usize]
 }
 
 // x, or 1000 x where it is compared with h.
@@ -102,20 +100,16 @@ pub(crate) fn along(kind: u64, x: u64) -> u64
     requires { (kind ≤ last_kind) × (x ≤ 30000) }
     ensures { result ≡ along_of kind x }
 {
-    if by_height(kind as usize) {
-        return 1000 * x;
-    }
-    x
+    let by_height = roof_of(kind).2;
+    if by_height { 1000 * x } else { x }
 }
 
 fn across(kind: u64, h: u64) -> u64
     requires { kind ≤ last_kind }
     ensures { result ≡ across_of kind h }
 {
-    if by_height(kind as usize) {
-        return h;
-    }
-    1
+    let by_height = roof_of(kind).2;
+    if by_height { h } else { 1 }
 }
 
 pub(crate) fn sizes_of(g: Building) -> Sizes
@@ -129,7 +123,7 @@ pub(crate) fn sizes_of(g: Building) -> Sizes
         h: h as u32,
         a: whole::magnitude(g.a) as u32,
         b: b as u32,
-        kind: kind,
+        kind,
         along: along(kind, whole::magnitude(g.x)),
         across: across(kind, h),
     }
@@ -139,20 +133,14 @@ pub(crate) fn sizes_of(g: Building) -> Sizes
 fn begun(year: i64, a: u32, b: u32) -> bool
     ensures { result ≡ building.begun year a b }
 {
-    if has_squares(year) {
-        return b <= a;
-    }
-    b < a
+    if has_squares(year) { b <= a } else { b < a }
 }
 
 // h/b over 6; a/b before the table begins; a/b over 4.
 pub(crate) fn out_of_walls(year: i64, s: Sizes) -> bool
     ensures { result ≡ out_of_walls year s }
 {
-    either(
-        !up_to(s.h, s.b, 6, 1),
-        either(!begun(year, s.a, s.b), !up_to(s.a, s.b, 4, 1)),
-    )
+    !up_to(s.h, s.b, 6, 1) || !begun(year, s.a, s.b) || !up_to(s.a, s.b, 4, 1)
 }
 
 // Along over across below the least of the roof's kind, or above the greatest.
@@ -160,9 +148,6 @@ pub(crate) fn out_of_roof(s: Sizes) -> bool
     requires { Ranged s }
     ensures { result ≡ out_of_roof s }
 {
-    let kind = s.kind as usize;
-    either(
-        s.along < least(kind) * s.across,
-        greatest(kind) * s.across < s.along,
-    )
+    let roof = roof_of(s.kind);
+    s.along < roof.0 * s.across || roof.1 * s.across < s.along
 }

@@ -9,6 +9,8 @@ ghost use Rattle.verdict.specs.Verdict.{refusal};
 ghost use Rattle.building.specs.Test.{unless};
 ghost use Rattle.building.specs.Year.{is_year, building_line};
 
+use kinds::{flat, sloped};
+use tests::among;
 use verdict::Verdict;
 
 mod faults;
@@ -99,16 +101,9 @@ pub fn given_fault(d: Dated) -> u32
 pub fn zone_on(kind: i64, zone: u8) -> bool
     ensures { result ≡ zone_on kind zone }
 {
-    tests::either(
-        tests::among(b'A', b'D', zone),
-        tests::either(
-            tests::both(
-                tests::either(kinds::gable(kind), kinds::single(kind)),
-                tests::among(b'E', b'H', zone),
-            ),
-            tests::both(kinds::flat(kind), tests::among(b'E', b'F', zone)),
-        ),
-    )
+    among(b'A', b'D', zone)
+        || sloped(kind) && among(b'E', b'H', zone)
+        || flat(kind) && among(b'E', b'F', zone)
 }
 
 // What a question's year gets, and its building: number 0 where that is in order.

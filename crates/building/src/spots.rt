@@ -5,7 +5,6 @@ ghost use Rattle.building.specs.Fault.{first_spot, spot_of};
 ghost use Rattle.building.specs.Order.{Ranged};
 ghost use Rattle.building.specs.Building.{ranges, range_faults, faults, most_length, walls_spot, roof_spot};
 
-use super::limits::beyond;
 use super::ratio::up_to;
 use super::year::has_squares;
 use super::{Building, Dated, Sizes, Spot, faults};
@@ -42,45 +41,6 @@ pub fn field_spot(field: u32) -> Spot
     ranged(field, 0, 0)
 }
 
-// The number of the first that holds, 0 where none does.
-fn first_of(h: bool, a: bool, b: bool, density: bool, kind: bool, x: bool) -> u32
-    ensures { result ≡ cond h 1 (cond a 2 (cond b 3 (cond density 4 (cond kind 5 (cond x 6 0))))) }
-{
-    if h {
-        return 1;
-    }
-    if a {
-        return 2;
-    }
-    if b {
-        return 3;
-    }
-    if density {
-        return 4;
-    }
-    if kind {
-        return 5;
-    }
-    if x {
-        return 6;
-    }
-    0
-}
-
-// The field of the first number that is out of its range, 0 where none is.
-fn range_field(g: Building) -> u32
-    ensures { (year : ℤ) → first_spot (range_faults 1 (ranges g)) ≡ spot_of result (faults year g) }
-{
-    first_of(
-        beyond(faults::LEAST_LENGTH, faults::MOST_LENGTH, g.h),
-        beyond(faults::LEAST_LENGTH, faults::MOST_LENGTH, g.a),
-        beyond(faults::LEAST_LENGTH, faults::MOST_LENGTH, g.b),
-        beyond(faults::LEAST_DENSITY, faults::MOST_DENSITY, g.density),
-        beyond(0, faults::LAST_KIND, g.kind),
-        beyond(0, faults::MOST_X, g.x),
-    )
-}
-
 // So many times b, but no more than a length may be.
 fn length_to(times: u64, b: u32) -> i64
     requires { times ≤ 6 }
@@ -109,9 +69,9 @@ fn roof_spot(s: Sizes) -> Spot
     requires { Ranged s }
     ensures { result ≡ roof_spot s }
 {
-    let kind = s.kind as usize;
-    let least = faults::least(kind) * s.across;
-    let greatest = faults::greatest(kind) * s.across;
+    let roof = faults::roof_of(s.kind);
+    let least = roof.0 * s.across;
+    let greatest = roof.1 * s.across;
     let scale = faults::along(s.kind, 1);
     ranged(
         6,
@@ -125,7 +85,7 @@ pub fn building_spot(d: Dated) -> Spot
     ensures { result ≡ first_spot (faults d.year d.building) }
 {
     if faults::out_of_range(d.building) {
-        return field_spot(range_field(d.building));
+        return field_spot(faults::range_field(d.building));
     }
     let s = faults::sizes_of(d.building);
     if faults::out_of_walls(d.year, s) {

@@ -17,10 +17,7 @@ pub(crate) fn is_year(year: i64) -> bool
 pub fn has_heights(year: i64) -> bool
     ensures { result ≡ has_heights year }
 {
-    if year == 1 {
-        return false;
-    }
-    true
+    year != 1
 }
 
 // From year 3 on the walls' table has square plans.
@@ -41,18 +38,12 @@ pub fn has_long_sheds(year: i64) -> bool
 pub fn face_limit(year: i64) -> u32
     ensures { result ≡ face_limit year }
 {
-    if has_long_sheds(year) {
-        return 240;
-    }
-    24
+    if has_long_sheds(year) { 240 } else { 24 }
 }
 
 // The line of a sheet that its building stands on.
 pub(crate) fn building_line(year: i64) -> u32
     ensures { result ≡ building_line year }
 {
-    if has_heights(year) {
-        return 4;
-    }
-    2
+    if has_heights(year) { 4 } else { 2 }
 }

@@ -61,4 +61,3 @@ returns c =
     ap Ok (said (λ (z : ℤ). net_cited outside z) a.internal c.net_cited.ensures fits)
     ∙ sym (net-answered a.d.year a.d.building a.direction a.place a.internal
     (sym (asked (goal.at.returns c).After-outside) ∙ c.in_ok-c.was) small)
-

@@ -1,21 +1,18 @@
--- `faults::out_of_range`: each number is read back as it is, and asked in the line's order.
-use lib.IntN.{pos}
-use Rattle.building.specs.Test.{beyond}
-use Rattle.building.specs.Roof.{last_kind}
+-- `faults::out_of_range`: whether one of the six tests holds.
+use mathlib.Core.Path.{ap, ◌∙◌}
+use mathlib.Core.Bool.{Bool}
+use mathlib.Core.List.{List}
+use borrow.Author.Rules.{rules}
+use borrow.Author.Tests.{tests}
+use Rattle.std.specs.List.{list_any}
+use Rattle.std.proofs.lemmas.Iterator.{YieldsList-from_slice}
+use Rattle.std.proofs.lemmas.Iterator.Search.{any_from_yields_List}
 use Rattle.building.specs.Building.{out_of_range}
-use Rattle.whole.proofs.Size.{said}
-use Rattle.building.proofs.Six.{any_same}
 use Rattle.building.proofs.faults.out_of_range.Goals as goal
 
 pub returns : goal.returns
 unfolding out_of_range
 returns c =
-    let g = c.args.g in
-    let bounds = c.struct_told-6-1.given in
-    any_same c.any.ensures
-    (said (beyond (pos 100) (pos 30000)) g.h c.beyond.ensures bounds.0.1)
-    (said (beyond (pos 100) (pos 30000)) g.a c.beyond-2.ensures bounds.1.0.1)
-    (said (beyond (pos 100) (pos 30000)) g.b c.beyond-3.ensures bounds.1.1.0.1)
-    (said (beyond (pos 1000) (pos 1500)) g.density c.beyond-4.ensures bounds.1.1.1.0.1)
-    (said (beyond (pos 0) (pos last_kind)) g.kind c.beyond-5.ensures bounds.1.1.1.1.0.1)
-    (said (beyond (pos 0) (pos 30000)) g.x c.beyond-6.ensures bounds.1.1.1.1.1.0.1)
+    any_from_yields_List (λ (t : Bool). t) _ _ c.any.result c.any.ensures.ran
+    (YieldsList-from_slice _ c.iter.ensures.rest) (λ x b q k. search (rules, tests))
+    ∙ ap (λ (l : List Bool). list_any (λ t. t) l) c.outside.ensures

@@ -7,11 +7,12 @@ use native.Mathlib.Omega.{arith}
 use lib.IntN.{pos}
 use mir.Syntax.{w64}
 use mir.Facts.{to_z_pos}
+use Rattle.building.specs.declared.faults.Roof.{Roof}
 use Rattle.building.specs.Fault.{ranged}
 use Rattle.building.specs.Roof.{roof_of, along_of}
 use Rattle.building.specs.Building.{rounded_up, roof_spot}
 use Rattle.building.proofs.Roofs.{least-most, greatest-most}
-use Rattle.building.proofs.spots.roof_spot.Goals.{After-along-scale, After-greatest, After-least, Start}
+use Rattle.building.proofs.spots.roof_spot.Goals.{After-along-scale}
 use Rattle.building.proofs.spots.roof_spot.Goals as goal
 
 small : {n d k : ℕ} → n ≡ k → k ≤ 900 → d ≤ 30000 → n * d ≤ 27000000
@@ -25,47 +26,41 @@ scale-range kind = go (roof_of kind).by_height
     go false = (omega arith, omega arith)
 
 module _ (c : After-along-scale) where
-  abbrev at-greatest : After-greatest
-  at-greatest = (goal.at.After-along-scale c).After-greatest
-
-  abbrev at_least : After-least
-  at_least = (goal.at.After-greatest at-greatest).After-least
-
-  abbrev start : Start
-  start = (goal.at.After-least at_least).Start
+  abbrev roof : Roof
+  roof = c.roof_of-roof.result
 
   abbrev across : ℕ
-  across = start.args.s.across
+  across = c.args.s.across
 
-  low : at_least.least.result * across ≤ 27000000
-  low = small at_least.least.ensures (least-most start.args.s.kind) start.requires.across-most
+  low : roof.0 * across ≤ 27000000
+  low = small c.roof_of-roof.ensures.least (least-most c.args.s.kind) c.requires.across-most
 
-  high : at-greatest.greatest.result * across ≤ 27000000
-  high = small at-greatest.greatest.ensures (greatest-most start.args.s.kind) start.requires.across-most
+  high : roof.1 * across ≤ 27000000
+  high = small c.roof_of-roof.ensures.greatest (greatest-most c.args.s.kind) c.requires.across-most
 
   scale : (0 < c.along-scale.result) × (c.along-scale.result ≤ 1000)
   scale =
-      let r = scale-range start.args.s.kind in
+      let r = scale-range c.args.s.kind in
       (omega (arith, r.0, c.along-scale.ensures), omega (arith, r.1, c.along-scale.ensures))
 
-  up : at_least.least.result * across + (c.along-scale.result - 1) ≤ 27001000
+  up : roof.0 * across + (c.along-scale.result - 1) ≤ 27001000
   up = omega (arith, low, scale.1)
 
-  up_small : (at_least.least.result * across + (c.along-scale.result - 1)) / c.along-scale.result < 2 ^ 63
+  up_small : (roof.0 * across + (c.along-scale.result - 1)) / c.along-scale.result < 2 ^ 63
   up_small =
-      let n = at_least.least.result * across + (c.along-scale.result - 1) in
+      let n = roof.0 * across + (c.along-scale.result - 1) in
       omega (arith, up, div-le_self n c.along-scale.result)
 
-  down-small : at-greatest.greatest.result * across / c.along-scale.result < 2 ^ 63
-  down-small = omega (arith, high, div-le_self (at-greatest.greatest.result * across) c.along-scale.result)
+  down-small : roof.1 * across / c.along-scale.result < 2 ^ 63
+  down-small = omega (arith, high, div-le_self (roof.1 * across) c.along-scale.result)
 
 pub overflow_mul-least : goal.overflow_mul-least
 overflow_mul-least c =
-    omega (arith, small c.least.ensures (least-most c.args.s.kind) c.requires.across-most)
+    omega (arith, small c.roof_of-roof.ensures.least (least-most c.args.s.kind) c.requires.across-most)
 
 pub overflow_mul-greatest : goal.overflow_mul-greatest
 overflow_mul-greatest c =
-    omega (arith, small c.greatest.ensures (greatest-most c.args.s.kind) c.requires.across-most)
+    omega (arith, small c.roof_of-roof.ensures.greatest (greatest-most c.args.s.kind) c.requires.across-most)
 
 pub overflow_sub-scale : goal.overflow_sub-scale
 overflow_sub-scale c = omega (arith, (scale c).0)
@@ -92,5 +87,5 @@ returns c =
     let k = c.args.s.kind in
     c.ranged.ensures
     ∙ (λ i. ranged 6 (to_z_pos w64 (up_small at_along_scale) i) (to_z_pos w64 (down-small at_along_scale) i))
-    ∙ (λ i. ranged 6 (pos (rounded_up (c.least.ensures i * across at_along_scale) (c.along-scale.ensures i)))
-    (pos (c.greatest.ensures i * across at_along_scale / c.along-scale.ensures i)))
+    ∙ (λ i. ranged 6 (pos (rounded_up (c.roof_of-roof.ensures.least i * across at_along_scale) (c.along-scale.ensures i)))
+    (pos (c.roof_of-roof.ensures.greatest i * across at_along_scale / c.along-scale.ensures i)))
