@@ -1,4 +1,4 @@
--- `number_slot` meets its contract.
+-- `number_field` meets its contract.
 use Prim.Native.Nat.{◌≤◌}
 use mathlib.Core.Bool.{Bool, false}
 use mathlib.Core.Path.{◌≡◌, ◌∙◌, ap, sym}
@@ -9,10 +9,9 @@ use mir.Syntax.{w64}
 use mir.Val.{to_z, of_z}
 use Rattle.whole.proofs.Size.{said, returned}
 use Rattle.building.specs.Test.{too_long}
-use Rattle.lines.specs.Held.{slot}
 use Rattle.entry_written.proofs.Slots.{number-long, number_short, size_small, signed_below, signed_above}
-use Rattle.entry_written.proofs.number_slot.Goals.{After-magnitude-m, Start}
-use Rattle.entry_written.proofs.number_slot.Goals as goal
+use Rattle.entry_written.proofs.number_field.Goals.{After-magnitude-m, Start}
+use Rattle.entry_written.proofs.number_field.Goals as goal
 
 -- behind the test of its length
 module _ (c : After-magnitude-m) where
@@ -36,27 +35,21 @@ module _ (c : After-magnitude-m) where
 
 pub returns-then-too_long : goal.returns-then-too_long
 returns-then-too_long c =
-    c.slot.ensures
-    ∙ ap slot
-    (number-long c.args.z
-    (sym (said too_long c.args.z c.too_long.ensures c.ranges.z.sfits) ∙ c.if-too_long.true))
+    let z = c.args.z in
+    number-long z (sym (said too_long z c.too_long.ensures c.ranges.z.sfits) ∙ c.if-too_long.true)
 
-pub overflow_cast-m : goal.overflow_cast-m
-overflow_cast-m c = omega (arith, small (goal.at.overflow_cast-m c).After-magnitude-m)
+pub overflow_cast-result : goal.overflow_cast-result
+overflow_cast-result c = omega (arith, small (goal.at.overflow_cast-result c).After-magnitude-m)
 
 pub returns-then-z-lt0 : goal.returns-then-z-lt0
 returns-then-z-lt0 c =
-    let at_magnitude_m = (goal.at.returns-then-z-lt0 c).After-magnitude-m in
-    c.slot-then-z-lt0.ensures
-    ∙ ap slot (signed_below (z at_magnitude_m) (size at_magnitude_m) (sign at_magnitude_m _ c.if-z-lt0.true)
-    ∙ number_short (z at_magnitude_m) (short at_magnitude_m))
+    let m = (goal.at.returns-then-z-lt0 c).After-magnitude-m in
+    signed_below (z m) (size m) (sign m _ c.if-z-lt0.true) ∙ number_short (z m) (short m)
 
-pub overflow_cast-m-2 : goal.overflow_cast-m-2
-overflow_cast-m-2 c = omega (arith, small (goal.at.overflow_cast-m-2 c).After-magnitude-m)
+pub overflow_cast-result-2 : goal.overflow_cast-result-2
+overflow_cast-result-2 c = omega (arith, small (goal.at.overflow_cast-result-2 c).After-magnitude-m)
 
 pub returns : goal.returns
 returns c =
-    let at_magnitude_m = (goal.at.returns c).After-magnitude-m in
-    c.slot-2.ensures
-    ∙ ap slot (signed_above (z at_magnitude_m) (size at_magnitude_m) (sign at_magnitude_m _ c.if-z-lt0.false)
-    ∙ number_short (z at_magnitude_m) (short at_magnitude_m))
+    let m = (goal.at.returns c).After-magnitude-m in
+    signed_above (z m) (size m) (sign m _ c.if-z-lt0.false) ∙ number_short (z m) (short m)
