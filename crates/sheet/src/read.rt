@@ -73,14 +73,10 @@ fn accepted(b: Before, winds: Winds, internals: Internals, profile: Profile, fac
 fn opens_tall(s: &[u8]) -> bool
     ensures { walk (sheet result) nothing 1 (lines_in s.now) ≡ reading s.now }
 {
-    if s.len() == 0 {
+    if s.len() == 0 || s[0] != b'V' {
         return false;
     }
-    if s[0] != b'V' {
-        return false;
-    }
-    let x = line_at(s, 0);
-    letter_of(field_at(x, 0)) == b'V'
+    letter_of(field_at(line_at(s, 0), 0)) == b'V'
 }
 
 // What the text s says, with the faces in a lent list as far as it has room.

@@ -1,7 +1,7 @@
 -- `read_into` meets its contract: line by line, what comes of the rest is what comes of the whole text.
-use Prim.Native.Nat.{ℕ, suc, ◌+◌, ◌*◌, ◌≤◌, ◌<◌, ◌-◌}
-use mathlib.Core.Path.{◌≡◌, refl, ap, ◌∙◌, sym, subst}
-use mathlib.Core.Bool.{Bool, true}
+use Prim.Native.Nat.{ℕ, suc, ◌+◌, ◌*◌, ◌<◌, ◌-◌}
+use mathlib.Core.Path.{◌≡◌, refl, ap, ◌∙◌, sym}
+use mathlib.Core.Bool.{Bool}
 use mathlib.Core.List.{List, []}
 use native.Mathlib.Omega.{arith}
 use lib.IntN.{ℤ, pos, neg_ℤ}
@@ -14,26 +14,25 @@ use Rattle.field.specs.declared.Field.{Field}
 use Rattle.lines.specs.declared.Line.{Line}
 use Rattle.lines.specs.Held.{held, line_at}
 use Rattle.rules.specs.declared.Section.{Section}
-use Rattle.rules.specs.declared.Section.TheVariants.{B, W, I, P, F}
+use Rattle.rules.specs.declared.Section.TheVariants.{B}
 use Rattle.rules.specs.declared.Kind.TheVariants.{Count, Entry}
-use Rattle.rules.specs.Sections.{about, sections, section_at, line_fault}
+use Rattle.rules.specs.Sections.{sections, section_at, line_fault}
 use Rattle.building.specs.Year.{has_heights}
 use Rattle.entry.specs.Flat.{flat_faces, per_face}
 use Rattle.entry.specs.Says.{size, at, year_of, building_of, wind_of, internal_of, step_of}
-use Rattle.job.specs.Carried.{most_faces, recorded}
+use Rattle.job.specs.Carried.{recorded}
 use Rattle.job.specs.Walk.{Refused}
 use Rattle.job.proofs.Alone.{few-sections}
-use Rattle.job.proofs.Room.{limit-roomed}
 use Rattle.sheet.specs.declared.plainly.Numbers.{Numbers}
 use Rattle.sheet.specs.declared.said.Counted.{Counted}
-use Rattle.sheet.specs.Said.{Ended, says_of, building_in, wind_in, step_in, entry_said, count_said}
+use Rattle.sheet.specs.Said.{says_of, building_in, wind_in, step_in, entry_said, count_said}
 use Rattle.sheet.specs.Sheet.{reading}
 use Rattle.sheet.proofs.Plain.{read_back}
 use Rattle.sheet.proofs.Unless.{is-sound, is-faulty}
-use Rattle.sheet.proofs.OneMore.{Kept, count_in, no-face-yet}
+use Rattle.sheet.proofs.OneMore.{Kept}
 use Rattle.sheet.proofs.FaceLines.{faces-so-far}
 use Rattle.sheet.proofs.SoFar.{ReadSoFar, EntryLine, read-start, count-stops, count-read, entry-stops}
-use Rattle.sheet.proofs.SoFar.{entry-room, entry_read, end-extra, end-accepted, told-as}
+use Rattle.sheet.proofs.SoFar.{entry_read, end-extra, end-accepted, told-as}
 use mir.ValLaws.{to_z-of_z}
 use mir.Syntax.{w64}
 use mir.Val.{to_z, of_z}
@@ -72,9 +71,6 @@ module _ (c : After-section_at-sec) where
 
   abbrev text : List ℕ
   text = cleared.args.s.now
-
-  text-ended : ending.is_ended-ended.result ≡ true → Ended text
-  text-ended = ending.is_ended-ended.ensures
 
   few : outer.loop-i.i < length (sections heights)
   few = omega (arith, outer.section_count-i-end.ensures, c.loop-i-test.true)
@@ -143,19 +139,6 @@ module _ (c : In-Ok) where
   counted-so-far =
       count-read before-it.loop-i.invariant.2.1 (few (at-section number)) {x = counted number} refl
       (sym in_order.0) refl (ap (λ (r : Counted). r.count) in_order.1) (ap (λ (r : Counted). r.next) in_order.1)
-
-  none_yet : before-it.loop-i.faces ≡ 0
-  none_yet =
-      no-face-yet (heights (at-section number)) before-it.loop-i.i kept-yet
-      (few (at-section number)) before-it.loop-i.invariant.2.1.unread
-
-  faces-fit : number.section_at-sec.result ≡ F → before-it.loop-i.faces + called ≤ most_faces
-  faces-fit e =
-      let year = before-it.loop-i.b.year in
-      let r =
-      subst (λ (t : Section). count_in kept-yet t + called ≤ (about t).most year)
-      (sym number.section_at-sec.ensures ∙ e) counted-so-far.room in
-      omega (arith, r, limit-roomed year)
 
 -- the plain faces, if it is their section
 module _ (c : After-faces_from-plain) where
@@ -274,19 +257,6 @@ module _ (c : In-Ok-entry_said) where
   numbers e =
       ap (λ (r : Numbers). r.number) right.1
       ∙ ap (λ (t : Section). says_of t (has_heights now.loop-left.b.year) fields) (of e)
-
-  -- there is room for it
-  winds-room : here.section_at-sec.result ≡ W → (kept said).setting.winds.count < 8
-  winds-room e = entry-room entry (of e)
-
-  internals-room : here.section_at-sec.result ≡ I → (kept said).setting.internals.count < 4
-  internals-room e = entry-room entry (of e)
-
-  steps-room : here.section_at-sec.result ≡ P → (kept said).setting.profile.count < 16
-  steps-room e = entry-room entry (of e)
-
-  faces-room : here.section_at-sec.result ≡ F → (kept said).faces < most_faces
-  faces-room e = omega (arith, entry-room entry (of e), limit-roomed now.loop-left.b.year)
 
 -- behind the last section
 module _ (c : After-loop-i) where
