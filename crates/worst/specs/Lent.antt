@@ -5,6 +5,7 @@ use Rattle.job.specs.declared.Job.{Job}
 use Rattle.job.specs.declared.Setting.{Setting}
 use Rattle.job.specs.declared.Faces.{Faces}
 use Rattle.job.specs.Setting.{record_with}
+use Rattle.worst.specs.declared.speeds.Factor.{Factor}
 
 abbrev pub faces_by : ℕ → List ℤ → Faces
 faces_by n flat = record { count = n; entry = faces_in n flat }
@@ -18,10 +19,9 @@ pub record Numbered (n : ℕ) (flat : List ℤ) : Type 0 where
   pub stand : per_face * n ≤ length flat
 
 -- and there is room for their factors
-pub record Lent (n : ℕ) (flat parts wholes : List ℤ) : Type 0 where
+pub record Lent (n : ℕ) (flat : List ℤ) (factors : List Factor) : Type 0 where
   pub numbered : Numbered n flat
-  pub parts-room : n ≤ length parts
-  pub wholes-room : n ≤ length wholes
+  pub room : n ≤ length factors
 
 -- six lists for alternatives, which hold zeros
 pub record Blank (x_high x_low y_high y_low z_high z_low : List ℕ) : Type 0 where

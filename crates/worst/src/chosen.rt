@@ -14,7 +14,7 @@ ghost use Rattle.worst.specs.Factors.{profile_of, Fraction, FactorsStand, Fracti
 
 use crate::faces::{face_in, zone_in};
 use crate::outside::{Outside, Table, takes_part};
-use crate::speeds::{Factor, factor_in};
+use crate::speeds::Factor;
 use crate::sums::pressure_of;
 use crate::tops::{Ends, Top, falls_short};
 use crate::winds::{CaseWind, SixWinds, six_winds};
@@ -144,8 +144,7 @@ fn all_chosen(
     flat: &[i64],
     ends: Ends,
     under: SixWinds,
-    parts: &[i64],
-    wholes: &[i64],
+    factors: &[Factor],
     x_high: &mut [u8; 240],
     x_low: &mut [u8; 240],
     y_high: &mut [u8; 240],
@@ -153,9 +152,9 @@ fn all_chosen(
     z_high: &mut [u8; 240],
     z_low: &mut [u8; 240],
 )
-    requires { Lent faces flat.now parts.now wholes.now × Ready (job_by s faces flat.now)
-        × Fractions (faces_by faces flat.now) parts.now wholes.now
-        × FactorsStand (profile_of (job_by s faces flat.now)) (faces_by faces flat.now) parts.now wholes.now
+    requires { Lent faces flat.now factors.now × Ready (job_by s faces flat.now)
+        × Fractions (faces_by faces flat.now) factors.now
+        × FactorsStand (profile_of (job_by s faces flat.now)) (faces_by faces flat.now) factors.now
         × ((axis : Axis) (side : Side) → OnJob (job_by s faces flat.now) (top_at axis side ends))
         × (under ≡ six_winds s.building s.winds ends)
         × Blank x_high.old x_low.old y_high.old y_low.old z_high.old z_low.old }
@@ -178,7 +177,7 @@ fn all_chosen(
             continue;
         }
         let f = face_in(flat, i);
-        let k = factor_in(parts, wholes, i);
+        let k = factors[i];
         x_high[i] = one_of_two(Axis::X, Side::Greatest, b, under.x.greatest, k, f);
         x_low[i] = one_of_two(Axis::X, Side::Least, b, under.x.least, k, f);
         y_high[i] = one_of_two(Axis::Y, Side::Greatest, b, under.y.greatest, k, f);
@@ -195,13 +194,12 @@ pub(crate) fn shown(
     faces: u32,
     flat: &[i64],
     ends: Ends,
-    parts: &[i64],
-    wholes: &[i64],
+    factors: &[Factor],
     table: &mut Table,
 ) -> Six
-    requires { Lent faces flat.now parts.now wholes.now × Ready (job_by s faces flat.now)
-        × Fractions (faces_by faces flat.now) parts.now wholes.now
-        × FactorsStand (profile_of (job_by s faces flat.now)) (faces_by faces flat.now) parts.now wholes.now
+    requires { Lent faces flat.now factors.now × Ready (job_by s faces flat.now)
+        × Fractions (faces_by faces flat.now) factors.now
+        × FactorsStand (profile_of (job_by s faces flat.now)) (faces_by faces flat.now) factors.now
         × ((axis : Axis) (side : Side) → OnJob (job_by s faces flat.now) (top_at axis side ends))
         × (table.old.building ≡ s.building) }
     ensures { result ≡ six_of (job_by s faces flat.now) ends }
@@ -225,8 +223,7 @@ pub(crate) fn shown(
         flat,
         ends,
         under,
-        parts,
-        wholes,
+        factors,
         &mut x_high,
         &mut x_low,
         &mut y_high,

@@ -22,13 +22,13 @@ use Rattle.worst.specs.declared.Side.TheVariants.{Greatest, Least}
 use Rattle.worst.specs.Shown.{padded}
 use Rattle.worst.specs.Forces.{factor_of}
 use Rattle.worst.specs.Engine.{pick_of, top_at, wind_numbered, case_wind, alternatives_of, alternatives_at, six_with}
-use Rattle.worst.specs.Factors.{profile_of, FactorsStand, Fraction}
+use Rattle.worst.specs.Factors.{profile_of, factor_in, FactorsStand, Fraction}
 use Rattle.worst.specs.Small.{Met}
 use Rattle.worst.specs.Lent.{faces_by, job_by}
 use Rattle.worst.proofs.LentFaces.{face-at}
 use Rattle.worst.proofs.Added.{alone-pick, alternatives-next}
 use Rattle.worst.proofs.chosen.all_chosen.Invariants.{HoldsFirst, at}
-use Rattle.worst.proofs.chosen.all_chosen.Goals.{After-factor_in-k, After-loop-i, After-zone_in, At-loop-i, Start}
+use Rattle.worst.proofs.chosen.all_chosen.Goals.{After-face_in-f, After-loop-i, After-zone_in, At-loop-i, Start}
 use Rattle.worst.proofs.chosen.all_chosen.Goals as goal
 
 -- each of the six is the case wind of its top
@@ -89,10 +89,10 @@ module _ (c : After-zone_in) where
     next profile e q =
         (λ j. set (q j) i (e j)) ∙ alternatives-next a.args.s.building profile wind faces i axis s room
 
--- one of zone F, with its factor
-module _ (k : After-factor_in-k) where
+-- one of zone F
+module _ (k : After-face_in-f) where
   abbrev z : After-zone_in
-  z = (goal.at.After-factor_in-k k).After-zone_in
+  z = (goal.at.After-face_in-f k).After-zone_in
 
   abbrev b : Building
   b = z.args.s.building
@@ -104,24 +104,22 @@ module _ (k : After-factor_in-k) where
   read = k.face_in-f.ensures ∙ stands z
 
   module _ (axis : Axis) (s : Side) where
-    asks : Met b (wind z axis s) f × Fraction k.factor_in-k.result × (f.zone ≡ F)
+    asks : Met b (wind z axis s) f × Fraction (factor_in z.args.factors.now (i z)) × (f.zone ≡ F)
         × (at axis s z.args.under ≡ case_wind b (wind z axis s))
     asks =
         let e = reached (goal.at.After-zone_in z).Start axis s in (
           subst (Met b (wind z axis s)) (sym read) (met z axis s),
-          subst Fraction (sym k.factor_in-k.ensures) (z.requires.2 (i z) (counted z)),
+          z.requires.2 (i z) (counted z),
           ap (λ g. g.zone) k.face_in-f.ensures ∙ sym z.zone_in.ensures ∙ k.if-zone_in-ne70.false,
           e ∙ ap (λ u. case_wind b u.wind) (sym e),
         )
 
     picked : (profile : List Step)
-        (stand : FactorsStand profile (faces_by z.args.faces z.args.flat.now) z.args.parts.now
-        z.args.wholes.now)
-        {r : ℕ} → r ≡ pick_of s axis b (wind z axis s) k.factor_in-k.result f
+        (stand : FactorsStand profile (faces_by z.args.faces z.args.flat.now) z.args.factors.now)
+        {r : ℕ} → r ≡ pick_of s axis b (wind z axis s) (factor_in z.args.factors.now (i z)) f
         → r ≡ pick_of s axis b (wind z axis s) (factor_of profile (face z)) (face z)
     picked profile stand e =
-        let factor = k.factor_in-k.ensures ∙ stand (i z) (counted z) in
-        e ∙ (λ j. pick_of s axis b (wind z axis s) (factor j) (read j))
+        e ∙ (λ j. pick_of s axis b (wind z axis s) (stand (i z) (counted z) j) (read j))
 
 -- once every face has been gone through
 module _ (c : After-loop-i) where
@@ -222,43 +220,38 @@ face_in-f-requires c =
     let t = counted (goal.at.face_in-f-requires c).After-zone_in in
     omega (arith, c.requires.0.numbered.stand)
 
-pub factor_in-k-requires : goal.factor_in-k-requires
-factor_in-k-requires c =
-    let t = counted (goal.at.factor_in-k-requires c).After-zone_in in
-    (omega (arith, c.requires.0.parts-room), omega (arith, c.requires.0.wholes-room))
-
 pub one_of_two-requires : goal.one_of_two-requires
-one_of_two-requires c = asks (goal.at.one_of_two-requires c).After-factor_in-k X Greatest
+one_of_two-requires c = asks (goal.at.one_of_two-requires c).After-face_in-f X Greatest
 
 pub bounds-x_high-i-in-loop-i : goal.bounds-x_high-i-in-loop-i
 bounds-x_high-i-in-loop-i c = room (goal.at.bounds-x_high-i-in-loop-i c).After-zone_in
 
 pub one_of_two-requires-in-loop-i : goal.one_of_two-requires-in-loop-i
-one_of_two-requires-in-loop-i c = asks (goal.at.one_of_two-requires-in-loop-i c).After-factor_in-k X Least
+one_of_two-requires-in-loop-i c = asks (goal.at.one_of_two-requires-in-loop-i c).After-face_in-f X Least
 
 pub bounds-x_low-i-in-loop-i : goal.bounds-x_low-i-in-loop-i
 bounds-x_low-i-in-loop-i c = room (goal.at.bounds-x_low-i-in-loop-i c).After-zone_in
 
 pub one_of_two-requires-in-loop-i-2 : goal.one_of_two-requires-in-loop-i-2
-one_of_two-requires-in-loop-i-2 c = asks (goal.at.one_of_two-requires-in-loop-i-2 c).After-factor_in-k Y Greatest
+one_of_two-requires-in-loop-i-2 c = asks (goal.at.one_of_two-requires-in-loop-i-2 c).After-face_in-f Y Greatest
 
 pub bounds-y_high-i-in-loop-i : goal.bounds-y_high-i-in-loop-i
 bounds-y_high-i-in-loop-i c = room (goal.at.bounds-y_high-i-in-loop-i c).After-zone_in
 
 pub one_of_two-requires-in-loop-i-3 : goal.one_of_two-requires-in-loop-i-3
-one_of_two-requires-in-loop-i-3 c = asks (goal.at.one_of_two-requires-in-loop-i-3 c).After-factor_in-k Y Least
+one_of_two-requires-in-loop-i-3 c = asks (goal.at.one_of_two-requires-in-loop-i-3 c).After-face_in-f Y Least
 
 pub bounds-y_low-i-in-loop-i : goal.bounds-y_low-i-in-loop-i
 bounds-y_low-i-in-loop-i c = room (goal.at.bounds-y_low-i-in-loop-i c).After-zone_in
 
 pub one_of_two-requires-in-loop-i-4 : goal.one_of_two-requires-in-loop-i-4
-one_of_two-requires-in-loop-i-4 c = asks (goal.at.one_of_two-requires-in-loop-i-4 c).After-factor_in-k Z Greatest
+one_of_two-requires-in-loop-i-4 c = asks (goal.at.one_of_two-requires-in-loop-i-4 c).After-face_in-f Z Greatest
 
 pub bounds-z_high-i-in-loop-i : goal.bounds-z_high-i-in-loop-i
 bounds-z_high-i-in-loop-i c = room (goal.at.bounds-z_high-i-in-loop-i c).After-zone_in
 
 pub one_of_two-requires-in-loop-i-5 : goal.one_of_two-requires-in-loop-i-5
-one_of_two-requires-in-loop-i-5 c = asks (goal.at.one_of_two-requires-in-loop-i-5 c).After-factor_in-k Z Least
+one_of_two-requires-in-loop-i-5 c = asks (goal.at.one_of_two-requires-in-loop-i-5 c).After-face_in-f Z Least
 
 pub bounds-z_low-i-in-loop-i : goal.bounds-z_low-i-in-loop-i
 bounds-z_low-i-in-loop-i c = room (goal.at.bounds-z_low-i-in-loop-i c).After-zone_in
@@ -274,7 +267,7 @@ loop-i-smaller c = let t = counted (goal.at.loop-i-smaller c).After-zone_in in o
 pub loop-i-preserved : goal.loop-i-preserved
 loop-i-preserved c =
     let at_zone_in = (goal.at.loop-i-preserved c).After-zone_in in
-    let at_factor_in_k = (goal.at.loop-i-preserved c).After-factor_in-k in
+    let at_face_in_f = (goal.at.loop-i-preserved c).After-face_in-f in
     let t = counted at_zone_in in
     let inv = c.loop-i.invariant in (
       omega arith,
@@ -282,20 +275,20 @@ loop-i-preserved c =
           let held = inv.1 p h in
           record {
             x-high =
-                next at_zone_in X Greatest p (picked at_factor_in_k X Greatest p h c.one_of_two.ensures) held.x-high;
+                next at_zone_in X Greatest p (picked at_face_in_f X Greatest p h c.one_of_two.ensures) held.x-high;
             x-low =
-                next at_zone_in X Least p (picked at_factor_in_k X Least p h c.one_of_two-in-loop-i.ensures) held.x-low;
+                next at_zone_in X Least p (picked at_face_in_f X Least p h c.one_of_two-in-loop-i.ensures) held.x-low;
             y-high =
-                next at_zone_in Y Greatest p (picked at_factor_in_k Y Greatest p h c.one_of_two-in-loop-i-2.ensures)
+                next at_zone_in Y Greatest p (picked at_face_in_f Y Greatest p h c.one_of_two-in-loop-i-2.ensures)
                 held.y-high;
             y-low =
-                next at_zone_in Y Least p (picked at_factor_in_k Y Least p h c.one_of_two-in-loop-i-3.ensures)
+                next at_zone_in Y Least p (picked at_face_in_f Y Least p h c.one_of_two-in-loop-i-3.ensures)
                 held.y-low;
             z-high =
-                next at_zone_in Z Greatest p (picked at_factor_in_k Z Greatest p h c.one_of_two-in-loop-i-4.ensures)
+                next at_zone_in Z Greatest p (picked at_face_in_f Z Greatest p h c.one_of_two-in-loop-i-4.ensures)
                 held.z-high;
             z-low =
-                next at_zone_in Z Least p (picked at_factor_in_k Z Least p h c.one_of_two-in-loop-i-5.ensures)
+                next at_zone_in Z Least p (picked at_face_in_f Z Least p h c.one_of_two-in-loop-i-5.ensures)
                 held.z-low;
           },
     )

@@ -44,7 +44,7 @@ pub record All (Holds : Axis → Side → List ℕ → Type 0) (xh xl yh yl zh z
 abbrev pub invariant-loop-i : goal.invariant-loop-i
 invariant-loop-i l =
     (l.i ≤ l.count)
-    × ((profile : List Step) → FactorsStand profile (faces_by l.faces l.flat) l.parts l.wholes
+    × ((profile : List Step) → FactorsStand profile (faces_by l.faces l.flat) l.factors
     → All (HoldsFirst l.b l.under profile (faces_in l.faces l.flat) l.i) l.x_high l.x_low l.y_high l.y_low l.z_high
     l.z_low)
 
