@@ -112,10 +112,8 @@ fn firsts(count: usize) -> [u8; 240]
     ensures { result ≡ padded 240 (replicate count 1) }
 {
     let mut all = [0u8; 240];
-    let mut i = 0;
-    while i < count {
+    for i in 0..count {
         all[i] = 1;
-        i += 1;
     }
     all
 }
@@ -127,14 +125,12 @@ fn before_f(faces: u32, flat: &[i64]) -> usize
         × (result < faces → (face_in flat.now result).zone ≡ F) }
 {
     let count = faces as usize;
-    let mut i = 0;
-    while i < count {
+    for i in 0..count {
         if zone_in(flat, i) == b'F' {
             return i;
         }
-        i += 1;
     }
-    i
+    count
 }
 
 // All six in one pass over the faces, into lists that hold zeros.

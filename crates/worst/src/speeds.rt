@@ -40,15 +40,13 @@ pub(crate) fn factor_at(profile: Profile, height: i64) -> Factor
     if count == 0 {
         return UNCHANGED;
     }
-    let mut i = 1;
     let mut lower = profile.entry[0];
-    while i < count {
+    for i in 1..count {
         let upper = profile.entry[i];
         if height <= upper.height {
             return factor_between(lower, upper, height);
         }
         lower = upper;
-        i += 1;
     }
     Factor {
         part: lower.factor,
