@@ -1,5 +1,5 @@
 // The speed of a wind at a face: the wind's speed × the factor that the profile has at the face's height.
-ghost use Rattle.std.specs.Prelude.{◌≡◌, ◌+◌, ◌*◌, ◌/◌, ◌<◌, ◌≤◌, pos, nat_abs, length, ◌≤ℤ◌};
+ghost use Rattle.std.specs.Prelude.{◌≡◌, ◌+◌, ◌*◌, ◌/◌, ◌<◌, ◌≤◌, pos, nat_abs, ◌≤ℤ◌};
 ghost use Rattle.worst.specs.Speed.{factor_between, factor_at, speed_at};
 ghost use Rattle.worst.specs.Factors.{steps_of, profile_of, Height, StepSmall, ProfileSmall, Profiled};
 ghost use Rattle.worst.specs.Factors.{Fraction, AllOne, FactorsStand};

@@ -1,12 +1,10 @@
 -- `few::few_added` meets its contract: with the sums of the faces before, the sums up to face i are those of the first
 -- i.
 use mathlib.Core.Path.{◌≡◌, sym, ap, ◌∙◌, subst}
-use mathlib.Core.List.{List}
 use Prim.Native.Nat.{ℕ, ◌+◌, ◌<◌, ◌-◌}
 use native.Mathlib.Omega.{arith}
 use lib.ListN.{get_or}
 use Rattle.whole.specs.Lists.{first_of}
-use Rattle.entry.specs.declared.Step.{Step}
 use Rattle.entry.specs.declared.Face.{Face}
 use Rattle.entry.specs.Flat.{faces_in}
 use Rattle.job.specs.Carried.{no_face}
