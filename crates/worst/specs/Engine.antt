@@ -1,5 +1,6 @@
 -- What the engine's own records say. Only contracts of private functions cite it.
-use Rattle.std.specs.Prelude.{◌≡◌, cond, List, map, ℕ, ◌-◌, ◌≤◌, ◌<◌, ℤ, pos, ◌+ℤ◌, ◌-ℤ◌, ◌*ℤ◌, length, get_or, eqb}
+use Rattle.std.specs.Prelude.{◌≡◌, cond, List, map, ℕ, ◌-◌, ◌≤◌, ◌<◌, ℤ, pos, ◌+ℤ◌, ◌-ℤ◌, ◌*ℤ◌, length}
+use Rattle.std.specs.Prelude.{get_or, set, eqb}
 use Rattle.whole.specs.Lists.{first_of, numbers}
 use Rattle.building.specs.declared.Building.{Building}
 use Rattle.building.specs.Places.{F}
@@ -250,6 +251,14 @@ six_with e faces x_high x_low y_high y_low z_high z_low =
       x = with_alternatives e.x faces x_high x_low;
       y = with_alternatives e.y faces y_high y_low;
       z = with_alternatives e.z faces z_high z_low;
+    }
+
+-- those of face i in the two cases of an axis, put there
+abbrev pub put_at : ℕ → ℕ → ℕ → Extremes → Extremes
+put_at i high low e =
+    record {
+      greatest = record e.greatest { alternative = set e.greatest.alternative i high };
+      least = record e.least { alternative = set e.least.alternative i low };
     }
 
 -- those of a job's faces, in the case of a top

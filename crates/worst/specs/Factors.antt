@@ -1,4 +1,4 @@
--- The factors of a job's faces, which the engine finds once for all winds and keeps in two lists. Only contracts of
+-- The factors of a job's faces, which the engine finds once for all winds and keeps in a list. Only contracts of
 -- private functions cite it.
 use Rattle.std.specs.Prelude.{◌≡◌, true, cond, List, [], ℕ, ◌≤◌, ◌<◌, ℤ, pos, nat_abs, ◌≤ℤ◌, length, get_or, replicate}
 use Rattle.whole.specs.Lists.{first_of}
@@ -9,6 +9,7 @@ use Rattle.job.specs.declared.Profile.{Profile}
 use Rattle.job.specs.declared.Faces.{Faces}
 use Rattle.job.specs.Carried.{no_step, no_face}
 use Rattle.worst.specs.declared.speeds.Factor.{Factor}
+use Rattle.worst.specs.Speed.{unchanged}
 use Rattle.worst.specs.Forces.{factor_of}
 
 -- ---- a profile
@@ -49,19 +50,21 @@ pub record Fraction (k : Factor) : Type 0 where
   pub small : nat_abs k.whole ≤ 30000000
 
 -- the one at place i
-abbrev pub factor_in : List ℤ → List ℤ → ℕ → Factor
-factor_in parts wholes i = record { part = get_or parts i (pos 0); whole = get_or wholes i (pos 0) }
+abbrev pub no_factor : Factor
+no_factor = record { part = pos 0; whole = pos 0 }
+
+abbrev pub factor_in : List Factor → ℕ → Factor
+factor_in factors i = get_or factors i no_factor
 
 -- at first each is 1 / 1
-abbrev pub AllOne : List ℤ → List ℤ → Type 0
-AllOne parts wholes =
-    (parts ≡ replicate (length parts) (pos 1)) × (wholes ≡ replicate (length wholes) (pos 1))
+abbrev pub AllOne : List Factor → Type 0
+AllOne factors = factors ≡ replicate (length factors) unchanged
 
 -- then they are those of the faces
-abbrev pub FactorsStand : List Step → Faces → List ℤ → List ℤ → Type 0
-FactorsStand profile fs parts wholes = (i : ℕ) → i < fs.count
-    → factor_in parts wholes i ≡ factor_of profile (get_or fs.entry i no_face)
+abbrev pub FactorsStand : List Step → Faces → List Factor → Type 0
+FactorsStand profile fs factors = (i : ℕ) → i < fs.count
+    → factor_in factors i ≡ factor_of profile (get_or fs.entry i no_face)
 
 -- and each is a fraction from 0 to 1
-abbrev pub Fractions : Faces → List ℤ → List ℤ → Type 0
-Fractions fs parts wholes = (i : ℕ) → i < fs.count → Fraction (factor_in parts wholes i)
+abbrev pub Fractions : Faces → List Factor → Type 0
+Fractions fs factors = (i : ℕ) → i < fs.count → Fraction (factor_in factors i)

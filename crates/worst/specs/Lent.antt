@@ -1,10 +1,11 @@
 -- A job whose faces stand as numbers in a lent list. Only contracts of private functions cite it.
-use Rattle.std.specs.Prelude.{◌≡◌, List, ℕ, ◌*◌, ◌≤◌, ℤ, length, replicate}
+use Rattle.std.specs.Prelude.{List, ℕ, ◌*◌, ◌≤◌, ℤ, length}
 use Rattle.entry.specs.Flat.{per_face, faces_in}
 use Rattle.job.specs.declared.Job.{Job}
 use Rattle.job.specs.declared.Setting.{Setting}
 use Rattle.job.specs.declared.Faces.{Faces}
 use Rattle.job.specs.Setting.{record_with}
+use Rattle.worst.specs.declared.speeds.Factor.{Factor}
 
 abbrev pub faces_by : ℕ → List ℤ → Faces
 faces_by n flat = record { count = n; entry = faces_in n flat }
@@ -18,16 +19,6 @@ pub record Numbered (n : ℕ) (flat : List ℤ) : Type 0 where
   pub stand : per_face * n ≤ length flat
 
 -- and there is room for their factors
-pub record Lent (n : ℕ) (flat parts wholes : List ℤ) : Type 0 where
+pub record Lent (n : ℕ) (flat : List ℤ) (factors : List Factor) : Type 0 where
   pub numbered : Numbered n flat
-  pub parts-room : n ≤ length parts
-  pub wholes-room : n ≤ length wholes
-
--- six lists for alternatives, which hold zeros
-pub record Blank (x_high x_low y_high y_low z_high z_low : List ℕ) : Type 0 where
-  pub x-high : x_high ≡ replicate 240 0
-  pub x-low : x_low ≡ replicate 240 0
-  pub y-high : y_high ≡ replicate 240 0
-  pub y-low : y_low ≡ replicate 240 0
-  pub z-high : z_high ≡ replicate 240 0
-  pub z-low : z_low ≡ replicate 240 0
+  pub room : n ≤ length factors

@@ -7,14 +7,15 @@ ghost use Rattle.worst.specs.declared.Axis.{Axis};
 ghost use Rattle.worst.specs.declared.Side.{Side};
 ghost use Rattle.worst.specs.Forces.{area};
 ghost use Rattle.worst.specs.Shown.{padded};
-ghost use Rattle.worst.specs.Engine.{pick, pick_of, top_at, extreme_with, six_with, case_wind, six_winds, six_of};
+ghost use Rattle.worst.specs.Engine.{pick, pick_of, top_at, extreme_with, six_with, put_at};
+ghost use Rattle.worst.specs.Engine.{case_wind, six_winds, six_of};
 ghost use Rattle.worst.specs.Small.{OutsideSmall, Weight, Met, Ready, OnJob};
-ghost use Rattle.worst.specs.Lent.{faces_by, job_by, Numbered, Lent, Blank};
+ghost use Rattle.worst.specs.Lent.{faces_by, job_by, Numbered, Lent};
 ghost use Rattle.worst.specs.Factors.{profile_of, Fraction, FactorsStand, Fractions};
 
 use crate::faces::{face_in, zone_in};
 use crate::outside::{Outside, Table, takes_part};
-use crate::speeds::{Factor, factor_in};
+use crate::speeds::Factor;
 use crate::sums::pressure_of;
 use crate::tops::{Compared, Ends, Top};
 use crate::winds::{CaseWind, SixWinds, six_winds};
@@ -59,7 +60,7 @@ fn one_of_two(axis: Axis, side: Side, b: Building, under: CaseWind, factor: Fact
     1
 }
 
-// A case with its alternatives, and all six.
+// A case with its alternatives, and all six with the same.
 fn extreme(top: Top, faces: u32, alternative: [u8; 240]) -> Extreme
     ensures { result ≡ extreme_with top faces alternative }
 {
@@ -73,24 +74,15 @@ fn extreme(top: Top, faces: u32, alternative: [u8; 240]) -> Extreme
     }
 }
 
-fn six_cases(
-    ends: Ends,
-    faces: u32,
-    x_high: [u8; 240],
-    x_low: [u8; 240],
-    y_high: [u8; 240],
-    y_low: [u8; 240],
-    z_high: [u8; 240],
-    z_low: [u8; 240],
-) -> Six
-    ensures { result ≡ six_with ends faces x_high x_low y_high y_low z_high z_low }
+fn six_cases(ends: Ends, faces: u32, alternative: [u8; 240]) -> Six
+    ensures { result ≡ six_with ends faces alternative alternative alternative alternative alternative alternative }
 {
-    let x_most = extreme(ends.x.greatest, faces, x_high);
-    let x_least = extreme(ends.x.least, faces, x_low);
-    let y_most = extreme(ends.y.greatest, faces, y_high);
-    let y_least = extreme(ends.y.least, faces, y_low);
-    let z_most = extreme(ends.z.greatest, faces, z_high);
-    let z_least = extreme(ends.z.least, faces, z_low);
+    let x_most = extreme(ends.x.greatest, faces, alternative);
+    let x_least = extreme(ends.x.least, faces, alternative);
+    let y_most = extreme(ends.y.greatest, faces, alternative);
+    let y_least = extreme(ends.y.least, faces, alternative);
+    let z_most = extreme(ends.z.greatest, faces, alternative);
+    let z_least = extreme(ends.z.least, faces, alternative);
     let x = Extremes {
         greatest: x_most,
         least: x_least,
@@ -112,10 +104,8 @@ fn firsts(count: usize) -> [u8; 240]
     ensures { result ≡ padded 240 (replicate count 1) }
 {
     let mut all = [0u8; 240];
-    let mut i = 0;
-    while i < count {
+    for i in 0..count {
         all[i] = 1;
-        i += 1;
     }
     all
 }
@@ -127,66 +117,61 @@ fn before_f(faces: u32, flat: &[i64]) -> usize
         × (result < faces → (face_in flat.now result).zone ≡ F) }
 {
     let count = faces as usize;
-    let mut i = 0;
-    while i < count {
+    for i in 0..count {
         if zone_in(flat, i) == b'F' {
             return i;
         }
-        i += 1;
     }
-    i
+    count
 }
 
-// All six in one pass over the faces, into lists that hold zeros.
+// The alternatives of face i in the two cases of an axis, put there.
+fn put(cases: &mut Extremes, i: usize, greatest: u8, least: u8)
+    requires { i < 240 }
+    ensures { cases.new ≡ put_at i greatest least cases.old }
+{
+    cases.greatest.alternative[i] = greatest;
+    cases.least.alternative[i] = least;
+}
+
+// All six in one pass over the faces.
 fn all_chosen(
     s: Setting,
     faces: u32,
     flat: &[i64],
     ends: Ends,
     under: SixWinds,
-    parts: &[i64],
-    wholes: &[i64],
-    x_high: &mut [u8; 240],
-    x_low: &mut [u8; 240],
-    y_high: &mut [u8; 240],
-    y_low: &mut [u8; 240],
-    z_high: &mut [u8; 240],
-    z_low: &mut [u8; 240],
-)
-    requires { Lent faces flat.now parts.now wholes.now × Ready (job_by s faces flat.now)
-        × Fractions (faces_by faces flat.now) parts.now wholes.now
-        × FactorsStand (profile_of (job_by s faces flat.now)) (faces_by faces flat.now) parts.now wholes.now
+    factors: &[Factor],
+) -> Six
+    requires { Lent faces flat.now factors.now × Ready (job_by s faces flat.now)
+        × Fractions (faces_by faces flat.now) factors.now
+        × FactorsStand (profile_of (job_by s faces flat.now)) (faces_by faces flat.now) factors.now
         × ((axis : Axis) (side : Side) → OnJob (job_by s faces flat.now) (top_at axis side ends))
-        × (under ≡ six_winds s.building s.winds ends)
-        × Blank x_high.old x_low.old y_high.old y_low.old z_high.old z_low.old }
-    ensures { six_with ends faces x_high.new x_low.new y_high.new
-        y_low.new z_high.new z_low.new
-        ≡ six_of (job_by s faces flat.now) ends }
+        × (under ≡ six_winds s.building s.winds ends) }
+    ensures { result ≡ six_of (job_by s faces flat.now) ends }
 {
     let b = s.building;
-    let count = faces as usize;
-    let mut i = 0;
-    while i < count {
+    let mut six = six_cases(ends, faces, [0; 240]);
+    for i in 0..faces as usize {
         if zone_in(flat, i) != b'F' {
-            x_high[i] = 1;
-            x_low[i] = 1;
-            y_high[i] = 1;
-            y_low[i] = 1;
-            z_high[i] = 1;
-            z_low[i] = 1;
-            i += 1;
+            put(&mut six.x, i, 1, 1);
+            put(&mut six.y, i, 1, 1);
+            put(&mut six.z, i, 1, 1);
             continue;
         }
         let f = face_in(flat, i);
-        let k = factor_in(parts, wholes, i);
-        x_high[i] = one_of_two(Axis::X, Side::Greatest, b, under.x.greatest, k, f);
-        x_low[i] = one_of_two(Axis::X, Side::Least, b, under.x.least, k, f);
-        y_high[i] = one_of_two(Axis::Y, Side::Greatest, b, under.y.greatest, k, f);
-        y_low[i] = one_of_two(Axis::Y, Side::Least, b, under.y.least, k, f);
-        z_high[i] = one_of_two(Axis::Z, Side::Greatest, b, under.z.greatest, k, f);
-        z_low[i] = one_of_two(Axis::Z, Side::Least, b, under.z.least, k, f);
-        i += 1;
+        let k = factors[i];
+        let x_up = one_of_two(Axis::X, Side::Greatest, b, under.x.greatest, k, f);
+        let x_down = one_of_two(Axis::X, Side::Least, b, under.x.least, k, f);
+        let y_up = one_of_two(Axis::Y, Side::Greatest, b, under.y.greatest, k, f);
+        let y_down = one_of_two(Axis::Y, Side::Least, b, under.y.least, k, f);
+        let z_up = one_of_two(Axis::Z, Side::Greatest, b, under.z.greatest, k, f);
+        let z_down = one_of_two(Axis::Z, Side::Least, b, under.z.least, k, f);
+        put(&mut six.x, i, x_up, x_down);
+        put(&mut six.y, i, y_up, y_down);
+        put(&mut six.z, i, z_up, z_down);
     }
+    six
 }
 
 // The six cases: without a face of zone F nothing is chosen.
@@ -195,13 +180,12 @@ pub(crate) fn shown(
     faces: u32,
     flat: &[i64],
     ends: Ends,
-    parts: &[i64],
-    wholes: &[i64],
+    factors: &[Factor],
     table: &mut Table,
 ) -> Six
-    requires { Lent faces flat.now parts.now wholes.now × Ready (job_by s faces flat.now)
-        × Fractions (faces_by faces flat.now) parts.now wholes.now
-        × FactorsStand (profile_of (job_by s faces flat.now)) (faces_by faces flat.now) parts.now wholes.now
+    requires { Lent faces flat.now factors.now × Ready (job_by s faces flat.now)
+        × Fractions (faces_by faces flat.now) factors.now
+        × FactorsStand (profile_of (job_by s faces flat.now)) (faces_by faces flat.now) factors.now
         × ((axis : Axis) (side : Side) → OnJob (job_by s faces flat.now) (top_at axis side ends))
         × (table.old.building ≡ s.building) }
     ensures { result ≡ six_of (job_by s faces flat.now) ends }
@@ -209,30 +193,8 @@ pub(crate) fn shown(
     let count = faces as usize;
     let before = before_f(faces, flat);
     if before == count {
-        let all = firsts(count);
-        return six_cases(ends, faces, all, all, all, all, all, all);
+        return six_cases(ends, faces, firsts(count));
     }
     let under = six_winds(table, s.winds, ends);
-    let mut x_high = [0u8; 240];
-    let mut x_low = [0u8; 240];
-    let mut y_high = [0u8; 240];
-    let mut y_low = [0u8; 240];
-    let mut z_high = [0u8; 240];
-    let mut z_low = [0u8; 240];
-    all_chosen(
-        s,
-        faces,
-        flat,
-        ends,
-        under,
-        parts,
-        wholes,
-        &mut x_high,
-        &mut x_low,
-        &mut y_high,
-        &mut y_low,
-        &mut z_high,
-        &mut z_low,
-    );
-    six_cases(ends, faces, x_high, x_low, y_high, y_low, z_high, z_low)
+    all_chosen(s, faces, flat, ends, under, factors)
 }

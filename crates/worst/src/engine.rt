@@ -21,35 +21,26 @@ use crate::few_tops::{settled_ends, with_few_sums};
 use crate::furthest::{over_internals, over_winds};
 use crate::inside::insides_of;
 use crate::outside::Table;
-use crate::speeds::fill;
+use crate::speeds::{Factor, UNCHANGED, fill};
 use crate::sums::added;
 use crate::tops::{Ends, NO_PAIR, no_ends};
 use crate::{Six, Stored};
 use job::Setting;
 
 // The cells of each wind in order, stored.
-fn all_cells(
-    s: Setting,
-    faces: u32,
-    flat: &[i64],
-    parts: &[i64],
-    wholes: &[i64],
-    table: &mut Table,
-) -> Stored
-    requires { Lent faces flat.now parts.now wholes.now × InOrder (carried (job_by s faces flat.now))
-        × FactorsStand (profile_of (job_by s faces flat.now)) (faces_by faces flat.now) parts.now wholes.now
+fn all_cells(s: Setting, faces: u32, flat: &[i64], factors: &[Factor], table: &mut Table) -> Stored
+    requires { Lent faces flat.now factors.now × InOrder (carried (job_by s faces flat.now))
+        × FactorsStand (profile_of (job_by s faces flat.now)) (faces_by faces flat.now) factors.now
         × (table.old.building ≡ s.building) }
     ensures { result ≡ stored_of (carried (job_by s faces flat.now)) }
 {
     let b = s.building;
     let winds = s.winds;
     let internals = s.internals;
-    let count = winds.count as usize;
     let mut stored = none_stored();
-    let mut w = 0;
-    while w < count {
+    for w in 0..winds.count as usize {
         let wind = winds.entry[w];
-        let sums = added(b, faces, flat, parts, wholes, wind, table);
+        let sums = added(b, faces, flat, factors, wind, table);
         let four = of_wind(sums, internals);
         let one = four.cell[0];
         let two = four.cell[1];
@@ -60,22 +51,14 @@ fn all_cells(
         stored.cell[at + 1] = two;
         stored.cell[at + 2] = three;
         stored.cell[at + 3] = last_one;
-        w += 1;
     }
     stored
 }
 
 // The furthest of the cells of each wind in order, none of them stored.
-fn best_cells(
-    s: Setting,
-    faces: u32,
-    flat: &[i64],
-    parts: &[i64],
-    wholes: &[i64],
-    table: &mut Table,
-) -> Ends
-    requires { Lent faces flat.now parts.now wholes.now × InOrder (carried (job_by s faces flat.now))
-        × FactorsStand (profile_of (job_by s faces flat.now)) (faces_by faces flat.now) parts.now wholes.now
+fn best_cells(s: Setting, faces: u32, flat: &[i64], factors: &[Factor], table: &mut Table) -> Ends
+    requires { Lent faces flat.now factors.now × InOrder (carried (job_by s faces flat.now))
+        × FactorsStand (profile_of (job_by s faces flat.now)) (faces_by faces flat.now) factors.now
         × (table.old.building ≡ s.building) }
     ensures { ((axis : Axis) (side : Side) → top_of (top_at axis side result)
         ≡ best_up_to axis side (stored_of (carried (job_by s faces flat.now))) s.internals.count
@@ -85,31 +68,21 @@ fn best_cells(
     let b = s.building;
     let winds = s.winds;
     let internals = s.internals;
-    let count = winds.count;
     let mut ends = no_ends(NO_PAIR);
-    let mut w: u32 = 0;
-    while w < count {
+    for w in 0..winds.count {
         let wind = winds.entry[w as usize];
-        let sums = added(b, faces, flat, parts, wholes, wind, table);
+        let sums = added(b, faces, flat, factors, wind, table);
         let four = of_wind(sums, internals);
-        w += 1;
-        ends = over_internals(ends, four, internals.count as usize, w);
+        ends = over_internals(ends, four, internals.count as usize, w + 1);
     }
     ends
 }
 
 // The same of up to 24 faces.
-fn few_best(
-    s: Setting,
-    faces: u32,
-    flat: &[i64],
-    parts: &[i64],
-    wholes: &[i64],
-    table: &mut Table,
-) -> Ends
-    requires { (faces ≤ 24) × Lent faces flat.now parts.now wholes.now
+fn few_best(s: Setting, faces: u32, flat: &[i64], factors: &[Factor], table: &mut Table) -> Ends
+    requires { (faces ≤ 24) × Lent faces flat.now factors.now
         × InOrder (carried (job_by s faces flat.now))
-        × FactorsStand (profile_of (job_by s faces flat.now)) (faces_by faces flat.now) parts.now wholes.now
+        × FactorsStand (profile_of (job_by s faces flat.now)) (faces_by faces flat.now) factors.now
         × (table.old.building ≡ s.building) }
     ensures { ((axis : Axis) (side : Side) → top_of (top_at axis side result)
         ≡ best_up_to axis side (stored_of (carried (job_by s faces flat.now))) s.internals.count
@@ -119,30 +92,19 @@ fn few_best(
     let b = s.building;
     let winds = s.winds;
     let insides = insides_of(s.internals);
-    let count = winds.count;
-    let to = faces as usize;
     let mut ends = no_ends(0);
-    let mut w: u32 = 0;
-    while w < count {
+    for w in 0..winds.count {
         let wind = winds.entry[w as usize];
-        let few = few_added(b, flat, parts, wholes, 0, to, wind, table);
-        w += 1;
-        ends = with_few_sums(ends, few, insides, w);
+        let few = few_added(b, flat, factors, 0, faces as usize, wind, table);
+        ends = with_few_sums(ends, few, insides, w + 1);
     }
     settled_ends(ends)
 }
 
 // The furthest cells: few faces take less.
-fn best(
-    s: Setting,
-    faces: u32,
-    flat: &[i64],
-    parts: &[i64],
-    wholes: &[i64],
-    table: &mut Table,
-) -> Ends
-    requires { Lent faces flat.now parts.now wholes.now × InOrder (carried (job_by s faces flat.now))
-        × FactorsStand (profile_of (job_by s faces flat.now)) (faces_by faces flat.now) parts.now wholes.now
+fn best(s: Setting, faces: u32, flat: &[i64], factors: &[Factor], table: &mut Table) -> Ends
+    requires { Lent faces flat.now factors.now × InOrder (carried (job_by s faces flat.now))
+        × FactorsStand (profile_of (job_by s faces flat.now)) (faces_by faces flat.now) factors.now
         × (table.old.building ≡ s.building) }
     ensures { ((axis : Axis) (side : Side) → top_of (top_at axis side result)
         ≡ best_up_to axis side (stored_of (carried (job_by s faces flat.now))) s.internals.count
@@ -150,9 +112,9 @@ fn best(
         × ProperEnds result × (table.new.building ≡ s.building) }
 {
     if faces <= 24 {
-        return few_best(s, faces, flat, parts, wholes, table);
+        return few_best(s, faces, flat, factors, table);
     }
-    best_cells(s, faces, flat, parts, wholes, table)
+    best_cells(s, faces, flat, factors, table)
 }
 
 // The sums of a job that is in order.
@@ -160,11 +122,10 @@ pub(crate) fn sums_of(s: Setting, faces: u32, flat: &[i64]) -> Stored
     requires { Numbered faces flat.now × InOrder (carried (job_by s faces flat.now)) }
     ensures { result ≡ stored_of (carried (job_by s faces flat.now)) }
 {
-    let mut parts = [1i64; 240];
-    let mut wholes = [1i64; 240];
-    fill(s, faces, flat, &mut parts, &mut wholes);
+    let mut factors = [UNCHANGED; 240];
+    fill(s, faces, flat, &mut factors);
     let mut table = Table::new(s.building);
-    all_cells(s, faces, flat, &parts, &wholes, &mut table)
+    all_cells(s, faces, flat, &factors, &mut table)
 }
 
 // The six extremes that stored sums tell of such a job.
@@ -173,23 +134,22 @@ pub(crate) fn six_by(s: Setting, faces: u32, flat: &[i64], stored: Stored) -> Si
     ensures { result ≡ six_by stored (carried (job_by s faces flat.now)) }
 {
     let ends = over_winds(stored, s.winds.count, s.internals.count);
-    let mut parts = [1i64; 240];
-    let mut wholes = [1i64; 240];
-    fill(s, faces, flat, &mut parts, &mut wholes);
+    let mut factors = [UNCHANGED; 240];
+    fill(s, faces, flat, &mut factors);
     let mut table = Table::new(s.building);
-    shown(s, faces, flat, ends, &parts, &wholes, &mut table)
+    shown(s, faces, flat, ends, &factors, &mut table)
 }
 
-// And its own, with two lists that hold 1 / 1 throughout.
-fn own_six(s: Setting, faces: u32, flat: &[i64], parts: &mut [i64], wholes: &mut [i64]) -> Six
-    requires { Lent faces flat.now parts.old wholes.old × AllOne parts.old wholes.old
+// And its own, with a list that holds 1 / 1 throughout.
+fn own_six(s: Setting, faces: u32, flat: &[i64], factors: &mut [Factor]) -> Six
+    requires { Lent faces flat.now factors.old × AllOne factors.old
         × InOrder (carried (job_by s faces flat.now)) }
     ensures { result ≡ six_extremes (carried (job_by s faces flat.now)) }
 {
-    fill(s, faces, flat, parts, wholes);
+    fill(s, faces, flat, factors);
     let mut table = Table::new(s.building);
-    let ends = best(s, faces, flat, parts, wholes, &mut table);
-    shown(s, faces, flat, ends, parts, wholes, &mut table)
+    let ends = best(s, faces, flat, factors, &mut table);
+    shown(s, faces, flat, ends, factors, &mut table)
 }
 
 // Few faces need less room, and take less: this is the way of nearly every report, by itself so that no record is
@@ -198,19 +158,17 @@ pub(crate) fn few_six(s: Setting, faces: u32, flat: &[i64]) -> Six
     requires { (faces ≤ 24) × Numbered faces flat.now × InOrder (carried (job_by s faces flat.now)) }
     ensures { result ≡ six_extremes (carried (job_by s faces flat.now)) }
 {
-    let mut parts = [1i64; 24];
-    let mut wholes = [1i64; 24];
-    fill(s, faces, flat, &mut parts, &mut wholes);
+    let mut factors = [UNCHANGED; 24];
+    fill(s, faces, flat, &mut factors);
     let mut table = Table::new(s.building);
-    let ends = few_best(s, faces, flat, &parts, &wholes, &mut table);
-    shown(s, faces, flat, ends, &parts, &wholes, &mut table)
+    let ends = few_best(s, faces, flat, &factors, &mut table);
+    shown(s, faces, flat, ends, &factors, &mut table)
 }
 
 pub(crate) fn six_of(s: Setting, faces: u32, flat: &[i64]) -> Six
     requires { Numbered faces flat.now × InOrder (carried (job_by s faces flat.now)) }
     ensures { result ≡ six_extremes (carried (job_by s faces flat.now)) }
 {
-    let mut parts = [1i64; 240];
-    let mut wholes = [1i64; 240];
-    own_six(s, faces, flat, &mut parts, &mut wholes)
+    let mut factors = [UNCHANGED; 240];
+    own_six(s, faces, flat, &mut factors)
 }

@@ -16,7 +16,7 @@ ghost use Rattle.worst.specs.Factors.{Fraction, FactorsStand, Fractions};
 use crate::Side;
 use crate::faces::face_in;
 use crate::outside::{Outside, Table, takes_part};
-use crate::speeds::{Factor, factor_in};
+use crate::speeds::Factor;
 use crate::sums::pressure_of;
 use crate::tops::Compared;
 use building::Building;
@@ -120,30 +120,26 @@ fn none() -> FewSums
 pub(crate) fn few_added(
     b: Building,
     flat: &[i64],
-    parts: &[i64],
-    wholes: &[i64],
+    factors: &[Factor],
     from: usize,
     to: usize,
     w: Wind,
     table: &mut Table,
 ) -> FewSums
-    requires { Lent to flat.now parts.now wholes.now × (from ≤ to) × (to ≤ from + 24)
-        × AllMet b (faces_by to flat.now) w × Fractions (faces_by to flat.now) parts.now wholes.now
+    requires { Lent to flat.now factors.now × (from ≤ to) × (to ≤ from + 24)
+        × AllMet b (faces_by to flat.now) w × Fractions (faces_by to flat.now) factors.now
         × (table.old.building ≡ b) }
     ensures { FewSmall (to - from) result
         × ((profile : List Step)
-        → FactorsStand profile (faces_by to flat.now) parts.now wholes.now
+        → FactorsStand profile (faces_by to flat.now) factors.now
         → plus_axes (axes_of b profile w (first_of no_face from (faces_in to flat.now))) (few_axes result)
         ≡ axes_of b profile w (faces_of (faces_by to flat.now)))
         × (table.new.building ≡ b) }
 {
     let mut sums = none();
-    let mut i = from;
-    while i < to {
+    for i in from..to {
         let f = face_in(flat, i);
-        let factor = factor_in(parts, wholes, i);
-        sums = with_face(sums, b, w, factor, f, table);
-        i += 1;
+        sums = with_face(sums, b, w, factors[i], f, table);
     }
     sums
 }

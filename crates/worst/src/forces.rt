@@ -16,7 +16,7 @@ ghost use Rattle.worst.specs.Small.{FaceSmall, Pressure, Met, AllMet};
 use crate::faces::{face_in, lay};
 use crate::outside::takes_part;
 use crate::reckon::setting_of;
-use crate::speeds::{Factor, factor_in, fill};
+use crate::speeds::{Factor, UNCHANGED, fill};
 use crate::sums::pressure_of;
 use crate::{AxisForces, CellForces, FaceForces};
 use book::Values;
@@ -131,23 +131,17 @@ fn cell(s: Setting, count: u32, flat: &[i64], w: Wind, internal: i64) -> CellFor
         × AllMet s.building (faces_by count flat.now) w × (nat_abs internal ≤ 100) }
     ensures { result ≡ cell_forces (given (carried (job_by s count flat.now))) w internal }
 {
-    let mut parts = [1i64; 240];
-    let mut wholes = [1i64; 240];
-    fill(s, count, flat, &mut parts, &mut wholes);
+    let mut factors = [UNCHANGED; 240];
+    fill(s, count, flat, &mut factors);
     let b = s.building;
     let d = Dated {
         year: s.year,
         building: b,
     };
-    let n = count as usize;
     let mut all = no_cell();
-    let mut i = 0;
-    while i < n {
+    for i in 0..count as usize {
         let f = face_in(flat, i);
-        let factor = factor_in(&parts, &wholes, i);
-        let one = face_forces(d, w, factor, f, internal);
-        all.face[i] = one;
-        i += 1;
+        all.face[i] = face_forces(d, w, factors[i], f, internal);
     }
     all
 }

@@ -1,8 +1,8 @@
 // The speed of a wind at a face: the wind's speed × the factor that the profile has at the face's height.
-ghost use Rattle.std.specs.Prelude.{◌≡◌, ◌+◌, ◌*◌, ◌/◌, ◌<◌, ◌≤◌, pos, nat_abs, length, ◌≤ℤ◌};
+ghost use Rattle.std.specs.Prelude.{◌≡◌, ◌+◌, ◌*◌, ◌/◌, ◌<◌, ◌≤◌, pos, nat_abs, ◌≤ℤ◌};
 ghost use Rattle.worst.specs.Speed.{factor_between, factor_at, speed_at};
 ghost use Rattle.worst.specs.Factors.{steps_of, profile_of, Height, StepSmall, ProfileSmall, Profiled};
-ghost use Rattle.worst.specs.Factors.{Fraction, factor_in, AllOne, FactorsStand};
+ghost use Rattle.worst.specs.Factors.{Fraction, AllOne, FactorsStand};
 ghost use Rattle.worst.specs.Lent.{faces_by, job_by, Lent};
 
 use crate::faces::face_in;
@@ -16,6 +16,9 @@ pub struct Factor {
     pub part: i64,
     pub whole: i64,
 }
+
+// The one that leaves a speed as it is.
+pub(crate) const UNCHANGED: Factor = Factor { part: 1, whole: 1 };
 
 // On the straight line from one step of the profile to the next.
 fn factor_between(s: Step, t: Step, height: i64) -> Factor
@@ -35,17 +38,15 @@ pub(crate) fn factor_at(profile: Profile, height: i64) -> Factor
 {
     let count = profile.count as usize;
     if count == 0 {
-        return Factor { part: 1, whole: 1 };
+        return UNCHANGED;
     }
-    let mut i = 1;
     let mut lower = profile.entry[0];
-    while i < count {
+    for i in 1..count {
         let upper = profile.entry[i];
         if height <= upper.height {
             return factor_between(lower, upper, height);
         }
         lower = upper;
-        i += 1;
     }
     Factor {
         part: lower.factor,
@@ -53,39 +54,21 @@ pub(crate) fn factor_at(profile: Profile, height: i64) -> Factor
     }
 }
 
-// The factors of a job's faces, into two lists that hold 1 / 1 throughout: so they stay in a year without heights.
-pub(crate) fn fill(s: Setting, faces: u32, flat: &[i64], parts: &mut [i64], wholes: &mut [i64])
-    requires { Lent faces flat.now parts.old wholes.old × AllOne parts.old wholes.old
+// The factors of a job's faces, into a list that holds 1 / 1 throughout: so it stays in a year without heights.
+pub(crate) fn fill(s: Setting, faces: u32, flat: &[i64], factors: &mut [Factor])
+    requires { Lent faces flat.now factors.old × AllOne factors.old
         × Profiled (job_by s faces flat.now) }
     ensures { FactorsStand (profile_of (job_by s faces flat.now)) (faces_by faces flat.now)
-        parts.new wholes.new }
+        factors.new }
 {
     if !has_heights(s.year) {
         return;
     }
     let profile = s.profile;
-    let count = faces as usize;
-    let mut i = 0;
-    while i < count {
+    for i in 0..faces as usize {
         let f = face_in(flat, i);
-        let height = f.height;
-        let factor = factor_at(profile, height);
-        let part = factor.part;
-        let whole = factor.whole;
-        parts[i] = part;
-        wholes[i] = whole;
-        i += 1;
+        factors[i] = factor_at(profile, f.height);
     }
-}
-
-// The factor at place i of the two lists.
-pub(crate) fn factor_in(parts: &[i64], wholes: &[i64], i: usize) -> Factor
-    requires { (i < length parts.now) × (i < length wholes.now) }
-    ensures { result ≡ factor_in parts.now wholes.now i }
-{
-    let part = parts[i];
-    let whole = wholes[i];
-    Factor { part, whole }
 }
 
 // speed × part / whole to the nearest whole number, a half going up.

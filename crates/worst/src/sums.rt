@@ -103,17 +103,16 @@ pub(crate) fn added(
     b: Building,
     faces: u32,
     flat: &[i64],
-    parts: &[i64],
-    wholes: &[i64],
+    factors: &[Factor],
     w: Wind,
     table: &mut Table,
 ) -> AllSums
-    requires { Lent faces flat.now parts.now wholes.now × AllMet b (faces_by faces flat.now) w
-        × Fractions (faces_by faces flat.now) parts.now wholes.now
+    requires { Lent faces flat.now factors.now × AllMet b (faces_by faces flat.now) w
+        × Fractions (faces_by faces flat.now) factors.now
         × (table.old.building ≡ b) }
     ensures { AllSumsSmall 240 result
         × ((profile : List Step)
-        → FactorsStand profile (faces_by faces flat.now) parts.now wholes.now
+        → FactorsStand profile (faces_by faces flat.now) factors.now
         → axes_in result ≡ axes_of b profile w (faces_of (faces_by faces flat.now)))
         × (table.new.building ≡ b) }
 {
@@ -122,7 +121,7 @@ pub(crate) fn added(
     let mut i = 0;
     while i < count {
         let to = end_of_few(i, count);
-        let few = few_added(b, flat, parts, wholes, i, to, w, table);
+        let few = few_added(b, flat, factors, i, to, w, table);
         sums = with_all_few(sums, few);
         i = to;
     }

@@ -1,10 +1,9 @@
--- `chosen::all_chosen` meets its contract: after i faces the alternatives of the first i stand in all six arrays.
+-- `chosen::all_chosen` meets its contract: after i faces the alternatives of the first i stand in all six cases.
 -- one of the six
 use mathlib.Core.Path.{◌≡◌, sym, ap, ◌∙◌, subst}
 use mathlib.Core.List.{List}
 use Prim.Native.Nat.{ℕ, ◌+◌, ◌-◌, ◌<◌}
 use native.Mathlib.Omega.{arith}
-use borrow.Author.Rules.{rules}
 use lib.ListN.{get_or, set}
 use Rattle.whole.specs.Lists.{first_of}
 use Rattle.building.specs.declared.Building.{Building}
@@ -13,22 +12,23 @@ use Rattle.entry.specs.declared.Wind.{Wind}
 use Rattle.entry.specs.declared.Step.{Step}
 use Rattle.entry.specs.declared.Face.{Face}
 use Rattle.entry.specs.Flat.{face_in, faces_in}
-use Rattle.job.specs.declared.Job.{Job}
 use Rattle.job.specs.Carried.{no_face}
 use Rattle.worst.specs.declared.Axis.{Axis}
 use Rattle.worst.specs.declared.Axis.TheVariants.{X, Y, Z}
 use Rattle.worst.specs.declared.Side.{Side}
 use Rattle.worst.specs.declared.Side.TheVariants.{Greatest, Least}
+use Rattle.worst.specs.declared.Extremes.{Extremes}
+use Rattle.worst.specs.declared.tops.Tops.{Tops}
 use Rattle.worst.specs.Shown.{padded}
 use Rattle.worst.specs.Forces.{factor_of}
-use Rattle.worst.specs.Engine.{pick_of, top_at, wind_numbered, case_wind, alternatives_of, alternatives_at, six_with}
-use Rattle.worst.specs.Factors.{profile_of, FactorsStand, Fraction}
+use Rattle.worst.specs.Engine.{pick_of, top_at, wind_numbered, case_wind, alternatives_of, with_alternatives, put_at}
+use Rattle.worst.specs.Factors.{profile_of, factor_in, FactorsStand, Fraction}
 use Rattle.worst.specs.Small.{Met}
 use Rattle.worst.specs.Lent.{faces_by, job_by}
 use Rattle.worst.proofs.LentFaces.{face-at}
 use Rattle.worst.proofs.Added.{alone-pick, alternatives-next}
-use Rattle.worst.proofs.chosen.all_chosen.Invariants.{HoldsFirst, at}
-use Rattle.worst.proofs.chosen.all_chosen.Goals.{After-factor_in-k, After-loop-i, After-zone_in, At-loop-i, Start}
+use Rattle.worst.proofs.chosen.all_chosen.Invariants.{at, six_at}
+use Rattle.worst.proofs.chosen.all_chosen.Goals.{After-face_in-f, After-zone_in, At-loop-i, Start}
 use Rattle.worst.proofs.chosen.all_chosen.Goals as goal
 
 -- each of the six is the case wind of its top
@@ -81,18 +81,32 @@ module _ (c : After-zone_in) where
         subst (λ w. Met a.args.s.building w face) (sym (ap (λ u. u.wind) (reached a axis s)))
         ((a.requires.1.met k counts).each i counted)
 
-    -- its alternative is stored
-    next : (profile : List Step) {k : ℕ} {h : List ℕ}
-        → k ≡ pick_of s axis a.args.s.building wind (factor_of profile face) face
-        → HoldsFirst a.args.s.building a.args.under profile faces i axis s h
-        → HoldsFirst a.args.s.building a.args.under profile faces (i + 1) axis s (set h i k)
-    next profile e q =
-        (λ j. set (q j) i (e j)) ∙ alternatives-next a.args.s.building profile wind faces i axis s room
+  -- the alternatives of the first n faces
+  abbrev first : List Step → ℕ → Axis → Side → List ℕ
+  first profile n axis s =
+      alternatives_of axis s a.args.s.building profile (at axis s a.args.under).wind (first_of no_face n faces)
 
--- one of zone F, with its factor
-module _ (k : After-factor_in-k) where
+  abbrev pick : List Step → Axis → Side → ℕ
+  pick profile axis s =
+      pick_of s axis a.args.s.building (at axis s a.args.under).wind (factor_of profile face) face
+
+  -- with those of face i they are the alternatives of one face more
+  next : (profile : List Step) (axis : Axis) (t : Tops) {old new : Extremes} {high low : ℕ}
+      → new ≡ put_at i high low old
+      → old ≡ with_alternatives t a.args.faces (first profile i axis Greatest) (first profile i axis Least)
+      → high ≡ pick profile axis Greatest → low ≡ pick profile axis Least
+      → new ≡ with_alternatives t a.args.faces (first profile (i + 1) axis Greatest) (first profile (i + 1) axis Least)
+  next profile axis t e q up down =
+      let more : (s : Side) → set (first profile i axis s) i (pick profile axis s) ≡ first profile (i + 1) axis s =
+      λ s. alternatives-next a.args.s.building profile (at axis s a.args.under).wind faces i axis s room in
+      e
+      ∙ (λ j. put_at i (up j) (down j) (q j))
+      ∙ (λ j. with_alternatives t a.args.faces (more Greatest j) (more Least j))
+
+-- one of zone F
+module _ (k : After-face_in-f) where
   abbrev z : After-zone_in
-  z = (goal.at.After-factor_in-k k).After-zone_in
+  z = (goal.at.After-face_in-f k).After-zone_in
 
   abbrev b : Building
   b = z.args.s.building
@@ -104,61 +118,26 @@ module _ (k : After-factor_in-k) where
   read = k.face_in-f.ensures ∙ stands z
 
   module _ (axis : Axis) (s : Side) where
-    asks : Met b (wind z axis s) f × Fraction k.factor_in-k.result × (f.zone ≡ F)
+    asks : Met b (wind z axis s) f × Fraction (factor_in z.args.factors.now (i z)) × (f.zone ≡ F)
         × (at axis s z.args.under ≡ case_wind b (wind z axis s))
     asks =
         let e = reached (goal.at.After-zone_in z).Start axis s in (
           subst (Met b (wind z axis s)) (sym read) (met z axis s),
-          subst Fraction (sym k.factor_in-k.ensures) (z.requires.2 (i z) (counted z)),
+          z.requires.2 (i z) (counted z),
           ap (λ g. g.zone) k.face_in-f.ensures ∙ sym z.zone_in.ensures ∙ k.if-zone_in-ne70.false,
           e ∙ ap (λ u. case_wind b u.wind) (sym e),
         )
 
     picked : (profile : List Step)
-        (stand : FactorsStand profile (faces_by z.args.faces z.args.flat.now) z.args.parts.now
-        z.args.wholes.now)
-        {r : ℕ} → r ≡ pick_of s axis b (wind z axis s) k.factor_in-k.result f
+        (stand : FactorsStand profile (faces_by z.args.faces z.args.flat.now) z.args.factors.now)
+        {r : ℕ} → r ≡ pick_of s axis b (wind z axis s) (factor_in z.args.factors.now (i z)) f
         → r ≡ pick_of s axis b (wind z axis s) (factor_of profile (face z)) (face z)
     picked profile stand e =
-        let factor = k.factor_in-k.ensures ∙ stand (i z) (counted z) in
-        e ∙ (λ j. pick_of s axis b (wind z axis s) (factor j) (read j))
-
--- once every face has been gone through
-module _ (c : After-loop-i) where
-  abbrev start : Start
-  start = (goal.at.After-loop-i c).Start
-
-  abbrev job : Job
-  job = job_by start.args.s start.args.faces start.args.flat.now
-
-  done : (axis : Axis) (s : Side) {h : List ℕ}
-      → HoldsFirst job.building start.args.under (profile_of job) job.faces.entry c.loop-i.i axis s
-      h
-      → h ≡ alternatives_at axis s job (top_at axis s start.args.ends)
-  done axis s q =
-      let inv = c.loop-i.invariant.0 in
-      let left = c.loop-i-test.false in
-      let all : c.loop-i.i ≡ job.faces.count = omega arith in
-      q
-      ∙ (λ j.
-      alternatives_of axis s job.building (profile_of job) (reached start axis s j).wind
-      (first_of no_face (all j) job.faces.entry))
+        e ∙ (λ j. pick_of s axis b (wind z axis s) (stand (i z) (counted z) j) (read j))
 
 pub loop-i-init : goal.loop-i-init
 unfolding padded first_of
-loop-i-init c = (
-  search rules,
-  λ profile h.
-      let z = c.requires.6 in
-      record {
-        x-high = z.x-high;
-        x-low = z.x-low;
-        y-high = z.y-high;
-        y-low = z.y-low;
-        z-high = z.z-high;
-        z-low = z.z-low;
-      },
-)
+loop-i-init c = λ profile h. c.six_cases-six.ensures
 
 pub zone_in-requires : goal.zone_in-requires
 zone_in-requires c =
@@ -166,143 +145,95 @@ zone_in-requires c =
     let t = c.loop-i-test.true in
     omega (arith, lent.numbered.stand)
 
-pub bounds-x_high-i : goal.bounds-x_high-i
-bounds-x_high-i c = room (goal.at.bounds-x_high-i c).After-zone_in
+pub put-requires : goal.put-requires
+put-requires c = room (goal.at.put-requires c).After-zone_in
 
-pub bounds-x_low-i : goal.bounds-x_low-i
-bounds-x_low-i c = room (goal.at.bounds-x_low-i c).After-zone_in
+pub put-requires-then-zone_in-ne70 : goal.put-requires-then-zone_in-ne70
+put-requires-then-zone_in-ne70 c = room (goal.at.put-requires-then-zone_in-ne70 c).After-zone_in
 
-pub bounds-y_high-i : goal.bounds-y_high-i
-bounds-y_high-i c = room (goal.at.bounds-y_high-i c).After-zone_in
-
-pub bounds-y_low-i : goal.bounds-y_low-i
-bounds-y_low-i c = room (goal.at.bounds-y_low-i c).After-zone_in
-
-pub bounds-z_high-i : goal.bounds-z_high-i
-bounds-z_high-i c = room (goal.at.bounds-z_high-i c).After-zone_in
-
-pub bounds-z_low-i : goal.bounds-z_low-i
-bounds-z_low-i c = room (goal.at.bounds-z_low-i c).After-zone_in
-
-pub overflow_add-i : goal.overflow_add-i
-overflow_add-i c = let t = room (goal.at.overflow_add-i c).After-zone_in in record { fits = omega arith }
-
-pub loop-i-smaller-then-zone_in-ne70 : goal.loop-i-smaller-then-zone_in-ne70
-loop-i-smaller-then-zone_in-ne70 c =
-    let t = counted (goal.at.loop-i-smaller-then-zone_in-ne70 c).After-zone_in in
-    omega arith
+pub put-requires-then-zone_in-ne70-2 : goal.put-requires-then-zone_in-ne70-2
+put-requires-then-zone_in-ne70-2 c = room (goal.at.put-requires-then-zone_in-ne70-2 c).After-zone_in
 
 pub loop-i-preserved-then-zone_in-ne70 : goal.loop-i-preserved-then-zone_in-ne70
 loop-i-preserved-then-zone_in-ne70 c =
-    let at_zone_in = (goal.at.loop-i-preserved-then-zone_in-ne70 c).After-zone_in in
-    let t = counted at_zone_in in
-    let inv = c.loop-i.invariant in
+    let z = (goal.at.loop-i-preserved-then-zone_in-ne70 c).After-zone_in in
     let b = c.args.s.building in
-    let other : (face at_zone_in).zone ≡ F → ⊥ =
-    λ e. c.if-zone_in-ne70.true (c.zone_in.ensures ∙ ap (λ f. f.zone) (stands at_zone_in) ∙ e) in
-    let one : (axis : Axis) (s : Side) (p : List Step)
-    → 1 ≡ pick_of s axis b (wind at_zone_in axis s) (factor_of p (face at_zone_in)) (face at_zone_in) =
-    λ axis s p. sym (alone-pick s axis b (wind at_zone_in axis s) (factor_of p (face at_zone_in)) (face at_zone_in)
-    (met at_zone_in axis s) other) in (
-      omega arith,
-      λ p h.
-          let held = inv.1 p h in
-          record {
-            x-high = next at_zone_in X Greatest p (one X Greatest p) held.x-high;
-            x-low = next at_zone_in X Least p (one X Least p) held.x-low;
-            y-high = next at_zone_in Y Greatest p (one Y Greatest p) held.y-high;
-            y-low = next at_zone_in Y Least p (one Y Least p) held.y-low;
-            z-high = next at_zone_in Z Greatest p (one Z Greatest p) held.z-high;
-            z-low = next at_zone_in Z Least p (one Z Least p) held.z-low;
-          },
-    )
+    let other : (face z).zone ≡ F → ⊥ =
+    λ e. c.if-zone_in-ne70.true (c.zone_in.ensures ∙ ap (λ f. f.zone) (stands z) ∙ e) in
+    let one : (p : List Step) (axis : Axis) (s : Side) → 1 ≡ pick z p axis s =
+    λ p axis s. sym (alone-pick s axis b (wind z axis s) (factor_of p (face z)) (face z) (met z axis s) other) in
+    λ p h.
+    let was = c.loop-i.invariant p h in
+    let e = c.args.ends in
+    (λ j. record {
+      x = next z p X e.x c.put.ensures (ap (λ t. t.x) was) (one p X Greatest) (one p X Least) j;
+      y = next z p Y e.y c.put-then-zone_in-ne70.ensures (ap (λ t. t.y) was) (one p Y Greatest) (one p Y Least) j;
+      z = next z p Z e.z c.put-then-zone_in-ne70-2.ensures (ap (λ t. t.z) was) (one p Z Greatest) (one p Z Least) j;
+    })
 
 pub face_in-f-requires : goal.face_in-f-requires
 face_in-f-requires c =
     let t = counted (goal.at.face_in-f-requires c).After-zone_in in
     omega (arith, c.requires.0.numbered.stand)
 
-pub factor_in-k-requires : goal.factor_in-k-requires
-factor_in-k-requires c =
-    let t = counted (goal.at.factor_in-k-requires c).After-zone_in in
-    (omega (arith, c.requires.0.parts-room), omega (arith, c.requires.0.wholes-room))
+pub one_of_two-x_up-requires : goal.one_of_two-x_up-requires
+one_of_two-x_up-requires c = asks (goal.at.one_of_two-x_up-requires c).After-face_in-f X Greatest
 
-pub one_of_two-requires : goal.one_of_two-requires
-one_of_two-requires c = asks (goal.at.one_of_two-requires c).After-factor_in-k X Greatest
+pub one_of_two-x_down-requires : goal.one_of_two-x_down-requires
+one_of_two-x_down-requires c = asks (goal.at.one_of_two-x_down-requires c).After-face_in-f X Least
 
-pub bounds-x_high-i-in-loop-i : goal.bounds-x_high-i-in-loop-i
-bounds-x_high-i-in-loop-i c = room (goal.at.bounds-x_high-i-in-loop-i c).After-zone_in
+pub one_of_two-y_up-requires : goal.one_of_two-y_up-requires
+one_of_two-y_up-requires c = asks (goal.at.one_of_two-y_up-requires c).After-face_in-f Y Greatest
 
-pub one_of_two-requires-in-loop-i : goal.one_of_two-requires-in-loop-i
-one_of_two-requires-in-loop-i c = asks (goal.at.one_of_two-requires-in-loop-i c).After-factor_in-k X Least
+pub one_of_two-y_down-requires : goal.one_of_two-y_down-requires
+one_of_two-y_down-requires c = asks (goal.at.one_of_two-y_down-requires c).After-face_in-f Y Least
 
-pub bounds-x_low-i-in-loop-i : goal.bounds-x_low-i-in-loop-i
-bounds-x_low-i-in-loop-i c = room (goal.at.bounds-x_low-i-in-loop-i c).After-zone_in
+pub one_of_two-z_up-requires : goal.one_of_two-z_up-requires
+one_of_two-z_up-requires c = asks (goal.at.one_of_two-z_up-requires c).After-face_in-f Z Greatest
 
-pub one_of_two-requires-in-loop-i-2 : goal.one_of_two-requires-in-loop-i-2
-one_of_two-requires-in-loop-i-2 c = asks (goal.at.one_of_two-requires-in-loop-i-2 c).After-factor_in-k Y Greatest
+pub one_of_two-z_down-requires : goal.one_of_two-z_down-requires
+one_of_two-z_down-requires c = asks (goal.at.one_of_two-z_down-requires c).After-face_in-f Z Least
 
-pub bounds-y_high-i-in-loop-i : goal.bounds-y_high-i-in-loop-i
-bounds-y_high-i-in-loop-i c = room (goal.at.bounds-y_high-i-in-loop-i c).After-zone_in
+pub put-requires-in-loop-i : goal.put-requires-in-loop-i
+put-requires-in-loop-i c = room (goal.at.put-requires-in-loop-i c).After-zone_in
 
-pub one_of_two-requires-in-loop-i-3 : goal.one_of_two-requires-in-loop-i-3
-one_of_two-requires-in-loop-i-3 c = asks (goal.at.one_of_two-requires-in-loop-i-3 c).After-factor_in-k Y Least
+pub put-requires-in-loop-i-2 : goal.put-requires-in-loop-i-2
+put-requires-in-loop-i-2 c = room (goal.at.put-requires-in-loop-i-2 c).After-zone_in
 
-pub bounds-y_low-i-in-loop-i : goal.bounds-y_low-i-in-loop-i
-bounds-y_low-i-in-loop-i c = room (goal.at.bounds-y_low-i-in-loop-i c).After-zone_in
-
-pub one_of_two-requires-in-loop-i-4 : goal.one_of_two-requires-in-loop-i-4
-one_of_two-requires-in-loop-i-4 c = asks (goal.at.one_of_two-requires-in-loop-i-4 c).After-factor_in-k Z Greatest
-
-pub bounds-z_high-i-in-loop-i : goal.bounds-z_high-i-in-loop-i
-bounds-z_high-i-in-loop-i c = room (goal.at.bounds-z_high-i-in-loop-i c).After-zone_in
-
-pub one_of_two-requires-in-loop-i-5 : goal.one_of_two-requires-in-loop-i-5
-one_of_two-requires-in-loop-i-5 c = asks (goal.at.one_of_two-requires-in-loop-i-5 c).After-factor_in-k Z Least
-
-pub bounds-z_low-i-in-loop-i : goal.bounds-z_low-i-in-loop-i
-bounds-z_low-i-in-loop-i c = room (goal.at.bounds-z_low-i-in-loop-i c).After-zone_in
-
-pub overflow_add-i-in-loop-i : goal.overflow_add-i-in-loop-i
-overflow_add-i-in-loop-i c =
-    let t = room (goal.at.overflow_add-i-in-loop-i c).After-zone_in in
-    record { fits = omega arith }
-
-pub loop-i-smaller : goal.loop-i-smaller
-loop-i-smaller c = let t = counted (goal.at.loop-i-smaller c).After-zone_in in omega arith
+pub put-requires-in-loop-i-3 : goal.put-requires-in-loop-i-3
+put-requires-in-loop-i-3 c = room (goal.at.put-requires-in-loop-i-3 c).After-zone_in
 
 pub loop-i-preserved : goal.loop-i-preserved
 loop-i-preserved c =
-    let at_zone_in = (goal.at.loop-i-preserved c).After-zone_in in
-    let at_factor_in_k = (goal.at.loop-i-preserved c).After-factor_in-k in
-    let t = counted at_zone_in in
-    let inv = c.loop-i.invariant in (
-      omega arith,
-      λ p h.
-          let held = inv.1 p h in
-          record {
-            x-high =
-                next at_zone_in X Greatest p (picked at_factor_in_k X Greatest p h c.one_of_two.ensures) held.x-high;
-            x-low =
-                next at_zone_in X Least p (picked at_factor_in_k X Least p h c.one_of_two-in-loop-i.ensures) held.x-low;
-            y-high =
-                next at_zone_in Y Greatest p (picked at_factor_in_k Y Greatest p h c.one_of_two-in-loop-i-2.ensures)
-                held.y-high;
-            y-low =
-                next at_zone_in Y Least p (picked at_factor_in_k Y Least p h c.one_of_two-in-loop-i-3.ensures)
-                held.y-low;
-            z-high =
-                next at_zone_in Z Greatest p (picked at_factor_in_k Z Greatest p h c.one_of_two-in-loop-i-4.ensures)
-                held.z-high;
-            z-low =
-                next at_zone_in Z Least p (picked at_factor_in_k Z Least p h c.one_of_two-in-loop-i-5.ensures)
-                held.z-low;
-          },
-    )
+    let z = (goal.at.loop-i-preserved c).After-zone_in in
+    let f = (goal.at.loop-i-preserved c).After-face_in-f in
+    λ p h.
+    let was = c.loop-i.invariant p h in
+    let e = c.args.ends in
+    (λ j. record {
+      x =
+          next z p X e.x c.put-in-loop-i.ensures (ap (λ t. t.x) was)
+          (picked f X Greatest p h c.one_of_two-x_up.ensures)
+          (picked f X Least p h c.one_of_two-x_down.ensures) j;
+      y =
+          next z p Y e.y c.put-in-loop-i-2.ensures (ap (λ t. t.y) was)
+          (picked f Y Greatest p h c.one_of_two-y_up.ensures)
+          (picked f Y Least p h c.one_of_two-y_down.ensures) j;
+      z =
+          next z p Z e.z c.put-in-loop-i-3.ensures (ap (λ t. t.z) was)
+          (picked f Z Greatest p h c.one_of_two-z_up.ensures)
+          (picked f Z Least p h c.one_of_two-z_down.ensures) j;
+    })
 
 pub returns : goal.returns
-returns d =
-    let held = d.loop-i.invariant.1 (profile_of (job d)) d.requires.3 in
-    λ j. six_with d.args.ends (job d).faces.count (done d X Greatest held.x-high j)
-    (done d X Least held.x-low j) (done d Y Greatest held.y-high j) (done d Y Least held.y-low j)
-    (done d Z Greatest held.z-high j) (done d Z Least held.z-low j)
+returns c =
+    let a = (goal.at.returns c).Start in
+    let job = job_by a.args.s a.args.faces a.args.flat.now in
+    let left = c.loop-i-test.false in
+    let all : c.loop-i.i ≡ job.faces.count = omega (arith, c.loop-i.auto.i-end) in
+    c.loop-i.invariant (profile_of job) c.requires.3
+    ∙ (λ j.
+    six_at a.args.ends a.args.faces
+    (λ axis s.
+    alternatives_of axis s job.building (profile_of job) (reached a axis s j).wind
+    (first_of no_face (all j) job.faces.entry)))

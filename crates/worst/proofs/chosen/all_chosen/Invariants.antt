@@ -1,21 +1,20 @@
--- `chosen::all_chosen` meets its contract: after i faces the alternatives of the first i stand in all six arrays.
--- one of the six
+-- `chosen::all_chosen` meets its contract: after i faces the alternatives of the first i stand in all six cases.
 use mathlib.Core.Path.{◌≡◌}
 use mathlib.Core.List.{List}
-use Prim.Native.Nat.{ℕ, ◌-◌, ◌≤◌}
+use Prim.Native.Nat.{ℕ}
 use Rattle.whole.specs.Lists.{first_of}
-use Rattle.building.specs.declared.Building.{Building}
 use Rattle.entry.specs.declared.Step.{Step}
-use Rattle.entry.specs.declared.Face.{Face}
 use Rattle.entry.specs.Flat.{faces_in}
 use Rattle.job.specs.Carried.{no_face}
 use Rattle.worst.specs.declared.Axis.{Axis}
 use Rattle.worst.specs.declared.Axis.TheVariants.{X, Y, Z}
 use Rattle.worst.specs.declared.Side.{Side}
 use Rattle.worst.specs.declared.Side.TheVariants.{Greatest, Least}
+use Rattle.worst.specs.declared.Six.{Six}
+use Rattle.worst.specs.declared.tops.Ends.{Ends}
 use Rattle.worst.specs.declared.winds.CaseWind.{CaseWind}
 use Rattle.worst.specs.declared.winds.SixWinds.{SixWinds}
-use Rattle.worst.specs.Engine.{alternatives_of}
+use Rattle.worst.specs.Engine.{alternatives_of, six_with}
 use Rattle.worst.specs.Factors.{FactorsStand}
 use Rattle.worst.specs.Lent.{faces_by}
 use Rattle.worst.proofs.chosen.all_chosen.Given as goal
@@ -28,25 +27,13 @@ at Y Least u = u.y.least
 at Z Greatest u = u.z.greatest
 at Z Least u = u.z.least
 
--- an array that holds the alternatives of the first i faces, and all six
-abbrev pub HoldsFirst : Building → SixWinds → List Step → List Face → ℕ → Axis → Side → List ℕ → Type 0
-HoldsFirst b under profile faces i axis s l =
-    l ≡ alternatives_of axis s b profile (at axis s under).wind (first_of no_face i faces)
-
-pub record All (Holds : Axis → Side → List ℕ → Type 0) (xh xl yh yl zh zl : List ℕ) : Type 0 where
-  pub x-high : Holds X Greatest xh
-  pub x-low : Holds X Least xl
-  pub y-high : Holds Y Greatest yh
-  pub y-low : Holds Y Least yl
-  pub z-high : Holds Z Greatest zh
-  pub z-low : Holds Z Least zl
+-- the six cases with these alternatives
+abbrev pub six_at : Ends → ℕ → (Axis → Side → List ℕ) → Six
+six_at e n h = six_with e n (h X Greatest) (h X Least) (h Y Greatest) (h Y Least) (h Z Greatest) (h Z Least)
 
 abbrev pub invariant-loop-i : goal.invariant-loop-i
 invariant-loop-i l =
-    (l.i ≤ l.count)
-    × ((profile : List Step) → FactorsStand profile (faces_by l.faces l.flat) l.parts l.wholes
-    → All (HoldsFirst l.b l.under profile (faces_in l.faces l.flat) l.i) l.x_high l.x_low l.y_high l.y_low l.z_high
-    l.z_low)
-
-abbrev pub decreases-loop-i : goal.decreases-loop-i
-decreases-loop-i l = l.count - l.i
+    (profile : List Step) → FactorsStand profile (faces_by l.faces l.flat) l.factors
+    → l.six ≡ six_at l.fn.ends l.faces
+    (λ axis s.
+    alternatives_of axis s l.b profile (at axis s l.under).wind (first_of no_face l.i (faces_in l.faces l.flat)))

@@ -1,12 +1,9 @@
 -- `chosen::before_f` meets its contract: no face before the one that is looked at is of zone F.
 use mathlib.Core.Path.{◌≡◌}
-use Prim.Native.Nat.{ℕ, ◌≤◌, ◌<◌, ◌-◌}
+use Prim.Native.Nat.{ℕ, ◌<◌}
 use Rattle.building.specs.Places.{F}
 use Rattle.entry.specs.Flat.{face_in}
 use Rattle.worst.proofs.chosen.before_f.Given as goal
 
 abbrev pub invariant-loop-i : goal.invariant-loop-i
-invariant-loop-i l = (l.i ≤ l.count) × ((k : ℕ) → k < l.i → (face_in l.flat k).zone ≡ F → ⊥)
-
-abbrev pub decreases-loop-i : goal.decreases-loop-i
-decreases-loop-i l = l.count - l.i
+invariant-loop-i l = (k : ℕ) → k < l.i → (face_in l.flat k).zone ≡ F → ⊥

@@ -1,7 +1,7 @@
 -- `chosen::shown` meets its contract: without a face of zone F every alternative is the first, and with one zone F has
 -- a place under every wind.
 -- the case of an axis and a side
-use mathlib.Core.Path.{◌≡◌, refl, sym, ap, ◌∙◌, subst}
+use mathlib.Core.Path.{◌≡◌, sym, ap, ◌∙◌, subst}
 use mathlib.Core.List.{List}
 use Prim.Native.Nat.{ℕ, ◌-◌, ◌<◌}
 use native.Mathlib.Omega.{arith}
@@ -83,8 +83,8 @@ returns-then-before-count c =
     let none : (k : ℕ) → k < c.args.faces → (face_in c.args.flat.now k).zone ≡ F → ⊥ =
     λ k h. told.1 k (omega arith) in
     let e : (axis : Axis) (s : Side)
-    → c.firsts-all.result ≡ alternatives_at axis s (job at_start axis s) (top_at axis s c.args.ends) =
-    λ axis s. firsts at_start axis s none c.firsts-all.ensures in
+    → c.firsts.result ≡ alternatives_at axis s (job at_start axis s) (top_at axis s c.args.ends) =
+    λ axis s. firsts at_start axis s none c.firsts.ensures in
     c.six_cases.ensures
     ∙ (λ j.
     six_with c.args.ends c.args.faces (e X Greatest j) (e X Least j) (e Y Greatest j) (e Y Least j)
@@ -107,8 +107,7 @@ all_chosen-requires c =
       p.3,
       p.4,
       c.six_winds-under.ensures ∙ ap (λ b. six_winds b c.args.s.winds c.args.ends) p.5,
-      record { x-high = refl; x-low = refl; y-high = refl; y-low = refl; z-high = refl; z-low = refl },
     )
 
 pub returns : goal.returns
-returns c = c.six_cases-2.ensures ∙ c.all_chosen.ensures
+returns c = c.all_chosen.ensures

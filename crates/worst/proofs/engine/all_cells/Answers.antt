@@ -3,7 +3,6 @@ use mathlib.Core.Path.{◌≡◌, sym, ap, ◌∙◌, subst}
 use mathlib.Core.List.{List}
 use Prim.Native.Nat.{ℕ, ◌+◌, ◌*◌, ◌<◌}
 use native.Mathlib.Omega.{arith}
-use borrow.Author.Rules.{rules}
 use lib.IntN.{pos}
 use lib.ListN.{get_or}
 use Rattle.entry.specs.declared.Step.{Step}
@@ -45,7 +44,7 @@ module _ (d : In-loop-w) where
   met : AllMet job.building job.faces (get_or job.winds.entry w no_wind)
   met = ready.met w counted
 
-  fractions : Fractions job.faces a.args.parts.now a.args.wholes.now
+  fractions : Fractions job.faces a.args.factors.now
   fractions i t = subst Fraction (sym (a.requires.2 i t)) (ready.factors i t)
 
 -- the four cells of the wind
@@ -63,7 +62,7 @@ module _ (c : After-last_one-1) where
   cell i = get_or called.of_wind-four.result.cell i no_cell
 
   four_are : (profile : List Step)
-      → FactorsStand profile (job d).faces d.args.parts.now d.args.wholes.now
+      → FactorsStand profile (job d).faces d.args.factors.now
       → (h : ℕ → StoredCell)
       → CellsReckoned (job d).building profile (job d).winds (job d).internals (job d).faces h
       → (i : ℕ) → i < 4 → h (4 * w d + i) ≡ cell i
@@ -83,7 +82,6 @@ module _ (c : After-last_one-1) where
 pub loop-w-init : goal.loop-w-init
 loop-w-init c =
     let e = ap (λ t. t.cell) c.none_stored-stored.ensures in (
-      search rules,
       c.requires.3,
       λ profile s h r. subst (UpTo stored_cells h 0) (sym e) (up-to-none stored_cells h),
     )
@@ -97,7 +95,7 @@ bounds-winds-w c = omega (arith, below c)
 pub added-sums-requires : goal.added-sums-requires
 added-sums-requires c =
     let at_loop_w = (goal.at.added-sums-requires c).In-loop-w in
-    (c.requires.0, met at_loop_w, fractions at_loop_w, c.loop-w.invariant.1)
+    (c.requires.0, met at_loop_w, fractions at_loop_w, c.loop-w.invariant.0)
 
 pub of_wind-four-requires : goal.of_wind-four-requires
 of_wind-four-requires c = (c.added-sums.ensures.0, (ready (goal.at.of_wind-four-requires c).In-loop-w).internals)
@@ -138,22 +136,15 @@ offset_bounds-stored-at-in-loop-w-3 c = record { fits = omega (arith, room c) }
 pub bounds-stored-at-in-loop-w-3 : goal.bounds-stored-at-in-loop-w-3
 bounds-stored-at-in-loop-w-3 c = omega (arith, room c)
 
-pub overflow_add-w : goal.overflow_add-w
-overflow_add-w c = record { fits = omega (arith, below (goal.at.overflow_add-w c).In-loop-w) }
-
-pub loop-w-smaller : goal.loop-w-smaller
-loop-w-smaller c = let t = counted (goal.at.loop-w-smaller c).In-loop-w in omega arith
-
 pub loop-w-preserved : goal.loop-w-preserved
 loop-w-preserved c =
     let at_loop_w = (goal.at.loop-w-preserved c).In-loop-w in
     let t = counted at_loop_w in
     let next : 4 * w at_loop_w + 4 ≡ 4 * (w at_loop_w + 1) = omega arith in (
-      omega arith,
       c.added-sums.ensures.2,
       λ profile s h r. up-to-four stored_cells h (4 * w at_loop_w) (4 * (w at_loop_w + 1)) next c.loop-w.stored.cell
           (cell c)
-          (room c) (c.loop-w.invariant.2 profile s h r) (four_are c profile s h r),
+          (room c) (c.loop-w.invariant.1 profile s h r) (four_are c profile s h r),
     )
 
 pub returns : goal.returns
@@ -161,8 +152,8 @@ returns c =
     let l = c.loop-w in
     let j = job_by c.args.s c.args.faces c.args.flat.now in
     let left = c.loop-w-test.false in
-    let all : l.w ≡ j.winds.count = omega (arith, l.invariant.0) in
+    let all : l.w ≡ j.winds.count = omega (arith, l.auto.w-end) in
     let h = sums_at (given (carried j)) in
     all-stored j c.requires.1 l.stored.cell
     (subst (λ n. UpTo stored_cells h (4 * n) l.stored.cell) all
-    (l.invariant.2 (profile_of j) c.requires.2 h (job-reckoned j c.requires.1)))
+    (l.invariant.1 (profile_of j) c.requires.2 h (job-reckoned j c.requires.1)))

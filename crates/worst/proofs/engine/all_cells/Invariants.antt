@@ -1,7 +1,7 @@
 -- `engine::all_cells` meets its contract: after w winds the cells stand up to those of the next.
 use mathlib.Core.Path.{◌≡◌}
 use mathlib.Core.List.{List}
-use Prim.Native.Nat.{ℕ, ◌-◌, ◌*◌, ◌≤◌}
+use Prim.Native.Nat.{ℕ, ◌*◌}
 use Rattle.entry.specs.declared.Step.{Step}
 use Rattle.worst.specs.declared.StoredCell.{StoredCell}
 use Rattle.worst.specs.Stored.{stored_cells}
@@ -13,11 +13,7 @@ use Rattle.worst.proofs.engine.all_cells.Given as goal
 
 abbrev pub invariant-loop-w : goal.invariant-loop-w
 invariant-loop-w l =
-    (l.w ≤ l.count) × (l.table.building ≡ l.b)
-    × ((profile : List Step) → FactorsStand profile (faces_by l.faces l.flat) l.parts l.wholes → (h : ℕ → StoredCell)
+    (l.table.building ≡ l.b)
+    × ((profile : List Step) → FactorsStand profile (faces_by l.faces l.flat) l.factors → (h : ℕ → StoredCell)
     → CellsReckoned l.b profile l.winds l.internals (faces_by l.faces l.flat) h
     → UpTo stored_cells h (4 * l.w) l.stored.cell)
-
-abbrev pub decreases-loop-w : goal.decreases-loop-w
-decreases-loop-w l =
-    l.count - l.w

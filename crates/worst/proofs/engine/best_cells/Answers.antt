@@ -2,7 +2,6 @@
 use mathlib.Core.Path.{◌≡◌, refl, sym, ap, ◌∙◌, subst}
 use Prim.Native.Nat.{ℕ, ◌<◌}
 use native.Mathlib.Omega.{arith}
-use borrow.Author.Rules.{rules}
 use lib.IntN.{pos}
 use lib.ListN.{get_or}
 use Rattle.whole.specs.Lists.{numbers}
@@ -49,7 +48,7 @@ module _ (d : In-loop-w) where
   below : w < 8
   below = let t = counted in omega (arith, ready.winds)
 
-  fractions : Fractions job.faces a.args.parts.now a.args.wholes.now
+  fractions : Fractions job.faces a.args.factors.now
   fractions i t = subst Fraction (sym (a.requires.2 i t)) (ready.factors i t)
 
 -- the cells of the wind, as the engine reckons them
@@ -59,7 +58,7 @@ module _ (c : After-of_wind-four) where
 
   -- whatever profile has the factors
   are : (profile : List Step)
-      → FactorsStand profile (job d).faces d.args.parts.now d.args.wholes.now
+      → FactorsStand profile (job d).faces d.args.factors.now
       → (i : ℕ) → i < (job d).internals.count
       → get_or c.of_wind-four.result.cell i no_cell
       ≡ cell_with (axes_of (job d).building profile (get_or (job d).winds.entry (w d) no_wind) (faces_of (job d).faces))
@@ -76,7 +75,6 @@ pub loop-w-init : goal.loop-w-init
 unfolding over numbers
 loop-w-init c =
     let e = c.no_ends-ends.ensures in (
-      search rules,
       c.requires.3,
       subst ProperEnds (sym e) no-ends-proper,
       λ profile q h r axis side. ap (λ x. top_of (top_at axis side x)) e ∙ no_top units no_pair axis side,
@@ -94,13 +92,10 @@ bounds-winds-w c = omega (arith, below c)
 pub added-sums-requires : goal.added-sums-requires
 added-sums-requires c =
     let at_loop_w = (goal.at.added-sums-requires c).In-loop-w in
-    (c.requires.0, (ready at_loop_w).met (w at_loop_w) (counted at_loop_w), fractions at_loop_w, c.loop-w.invariant.1)
+    (c.requires.0, (ready at_loop_w).met (w at_loop_w) (counted at_loop_w), fractions at_loop_w, c.loop-w.invariant.0)
 
 pub of_wind-four-requires : goal.of_wind-four-requires
 of_wind-four-requires c = (c.added-sums.ensures.0, (ready (goal.at.of_wind-four-requires c).In-loop-w).internals)
-
-pub overflow_add-w : goal.overflow_add-w
-overflow_add-w c = omega (arith, below (goal.at.overflow_add-w c).In-loop-w)
 
 pub over_internals-ends-requires : goal.over_internals-ends-requires
 over_internals-ends-requires c =
@@ -108,15 +103,12 @@ over_internals-ends-requires c =
     let at_of_wind_four = (goal.at.over_internals-ends-requires c).After-of_wind-four in (
       (ready at_loop_w).internals.0,
       omega arith,
-      c.loop-w.invariant.2,
+      c.loop-w.invariant.1,
       four-proper (job at_loop_w).building (profile_of (job at_loop_w)) (job at_loop_w).winds (job at_loop_w).internals
           (job at_loop_w).faces (w at_loop_w)
           (counted at_loop_w) (below at_loop_w) (ready at_loop_w).internals.0 c.of_wind-four.result.cell
           (are at_of_wind_four (profile_of (job at_loop_w)) c.requires.2),
     )
-
-pub loop-w-smaller : goal.loop-w-smaller
-loop-w-smaller c = let t = counted (goal.at.loop-w-smaller c).In-loop-w in omega arith
 
 pub loop-w-preserved : goal.loop-w-preserved
 loop-w-preserved c =
@@ -124,11 +116,10 @@ loop-w-preserved c =
     let at_of_wind_four = (goal.at.loop-w-preserved c).After-of_wind-four in
     let j = job at_loop_w in
     let t = counted at_loop_w in (
-      omega arith,
       c.added-sums.ensures.2,
       c.over_internals-ends.ensures.1,
       λ profile q h r axis side. c.over_internals-ends.ensures.0 axis side
-          ∙ (λ i. better side (c.loop-w.invariant.3 profile q h r axis side i)
+          ∙ (λ i. better side (c.loop-w.invariant.2 profile q h r axis side i)
           (four-own j.building profile j.winds j.internals j.faces (w at_loop_w) t (below at_loop_w)
           (ready at_loop_w).internals.0
           c.of_wind-four.result.cell (are at_of_wind_four profile q) h r axis side i))
@@ -141,10 +132,10 @@ returns c =
     let l = c.loop-w in
     let j = job_by c.args.s c.args.faces c.args.flat.now in
     let left = c.loop-w-test.false in
-    let all : l.w ≡ j.winds.count = omega (arith, l.invariant.0) in (
-      λ axis side. l.invariant.3 (profile_of j) c.requires.2 (sums_at (given (carried j)))
+    let all : l.w ≡ j.winds.count = omega (arith, l.auto.w-end) in (
+      λ axis side. l.invariant.2 (profile_of j) c.requires.2 (sums_at (given (carried j)))
           (job-reckoned j c.requires.1) axis side
           ∙ ap (best_up_to axis side (stored_of (carried j)) j.internals.count) all,
-      l.invariant.2,
       l.invariant.1,
+      l.invariant.0,
     )

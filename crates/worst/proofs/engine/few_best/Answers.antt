@@ -4,7 +4,6 @@ use mathlib.Core.Path.{◌≡◌, sym, ap, ◌∙◌, subst}
 use mathlib.Core.List.{List}
 use Prim.Native.Nat.{ℕ, ◌+◌, ◌-◌, ◌≤◌, ◌<◌}
 use native.Mathlib.Omega.{arith}
-use borrow.Author.Rules.{rules}
 use lib.IntN.{pos}
 use lib.ListN.{get_or}
 use Rattle.whole.specs.Lists.{first_of, numbers}
@@ -59,7 +58,7 @@ module _ (d : In-loop-w) where
   below : w < 8
   below = let t = counted in omega (arith, (ready a).winds)
 
-  fractions : Fractions (job a).faces a.args.parts.now a.args.wholes.now
+  fractions : Fractions (job a).faces a.args.factors.now
   fractions i t = subst Fraction (sym (a.requires.3 i t)) ((ready a).factors i t)
 
 -- the sums of its faces
@@ -76,14 +75,14 @@ module _ (f : After-few_added-few) where
       (faces_of (job start).faces)
 
   are : (profile : List Step)
-      → FactorsStand profile (job start).faces start.args.parts.now start.args.wholes.now
+      → FactorsStand profile (job start).faces start.args.factors.now
       → few_axes f.few_added-few.result ≡ sums profile
   unfolding first_of sum
   are profile q = sym (no-axes-plus (few_axes f.few_added-few.result)) ∙ f.few_added-few.ensures.1 profile q
 
   -- the furthest of its cells
   wind-is : (profile : List Step)
-      → FactorsStand profile (job start).faces start.args.parts.now start.args.wholes.now
+      → FactorsStand profile (job start).faces start.args.factors.now
       → (is : Internals) → is.count ≤ 4
       → Furthest is is.count in-loop.insides_of-insides.result → (h : ℕ → StoredCell)
       → CellsReckoned (job start).building profile (job start).winds is (job start).faces h
@@ -112,7 +111,6 @@ pub loop-w-init : goal.loop-w-init
 unfolding over numbers
 loop-w-init c =
     let e = c.no_ends-ends.ensures in (
-      search rules,
       c.requires.4,
       λ profile q is few r h k axis side. ap (λ x. few_top_of (top_at axis side x)) e ∙ no_top (λ z. z) (pos 0) axis side,
     )
@@ -134,11 +132,8 @@ few_added-few-requires c =
       c.requires.0,
       (ready (goal.at.few_added-few-requires c).Start).met (w at_loop_w) (counted at_loop_w),
       fractions at_loop_w,
-      c.loop-w.invariant.1,
+      c.loop-w.invariant.0,
     )
-
-pub overflow_add-w : goal.overflow_add-w
-overflow_add-w c = omega (arith, below (goal.at.overflow_add-w c).In-loop-w)
 
 pub with_few_sums-ends-requires : goal.with_few_sums-ends-requires
 with_few_sums-ends-requires f = (
@@ -147,17 +142,13 @@ with_few_sums-ends-requires f = (
   f.insides_of-insides.ensures.0,
 )
 
-pub loop-w-smaller : goal.loop-w-smaller
-loop-w-smaller c = let t = counted (goal.at.loop-w-smaller c).In-loop-w in omega arith
-
 pub loop-w-preserved : goal.loop-w-preserved
 loop-w-preserved c =
     let at_loop_w = (goal.at.loop-w-preserved c).In-loop-w in
     let t = counted at_loop_w in (
-      omega arith,
       c.few_added-few.ensures.2,
       λ profile q is few r h k axis side. c.with_few_sums-ends.ensures axis side
-          ∙ (λ i. better side (c.loop-w.invariant.2 profile q is few r h k axis side i)
+          ∙ (λ i. better side (c.loop-w.invariant.1 profile q is few r h k axis side i)
           (wind-is (goal.at.loop-w-preserved c).After-few_added-few profile q is few r h k axis side i))
           ∙ over-next side (wind_best axis side (cells_of h) is.count) (w at_loop_w),
     )
@@ -169,12 +160,12 @@ returns c =
     let l = c.loop-w in
     let j = job at_start in
     let left = c.loop-w-test.false in
-    let all : l.w ≡ j.winds.count = omega (arith, l.invariant.0) in (
+    let all : l.w ≡ j.winds.count = omega (arith, l.auto.w-end) in (
       λ axis side. c.settled_ends.ensures.0 axis side
-          ∙ l.invariant.2 (profile_of j) c.requires.3 j.internals (ready at_start).internals.0
+          ∙ l.invariant.1 (profile_of j) c.requires.3 j.internals (ready at_start).internals.0
           c.insides_of-insides.ensures.1 (sums_at (given (carried j)))
           (job-reckoned j c.requires.2) axis side
           ∙ ap (best_up_to axis side (stored_of (carried j)) j.internals.count) all,
       c.settled_ends.ensures.1,
-      l.invariant.1,
+      l.invariant.0,
     )

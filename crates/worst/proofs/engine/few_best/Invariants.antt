@@ -2,7 +2,7 @@
 -- at the internal coefficient that the side takes.
 use mathlib.Core.Path.{◌≡◌}
 use mathlib.Core.List.{List}
-use Prim.Native.Nat.{ℕ, ◌-◌, ◌≤◌}
+use Prim.Native.Nat.{ℕ, ◌≤◌}
 use Rattle.entry.specs.declared.Step.{Step}
 use Rattle.job.specs.declared.Internals.{Internals}
 use Rattle.worst.specs.declared.Axis.{Axis}
@@ -19,12 +19,8 @@ use Rattle.worst.proofs.engine.few_best.Given as goal
 
 abbrev pub invariant-loop-w : goal.invariant-loop-w
 invariant-loop-w l =
-    (l.w ≤ l.count) × (l.table.building ≡ l.b)
-    × ((profile : List Step) → FactorsStand profile (faces_by l.faces l.flat) l.parts l.wholes → (is : Internals)
+    (l.table.building ≡ l.b)
+    × ((profile : List Step) → FactorsStand profile (faces_by l.faces l.flat) l.factors → (is : Internals)
     → is.count ≤ 4 → Furthest is is.count l.insides → (h : ℕ → StoredCell)
     → CellsReckoned l.b profile l.winds is (faces_by l.faces l.flat) h → (axis : Axis) (side : Side)
     → few_top_of (top_at axis side l.ends) ≡ best_up_to axis side (cells_of h) is.count l.w)
-
-abbrev pub decreases-loop-w : goal.decreases-loop-w
-decreases-loop-w l =
-    l.count - l.w

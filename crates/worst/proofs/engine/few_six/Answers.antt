@@ -29,14 +29,12 @@ module _ (f : After-fill) where
   abbrev a : Start
   a = (goal.at.After-fill f).Start
 
-  lent : Lent a.args.faces a.args.flat.now f.fill.new.parts
-      f.fill.new.wholes
+  lent : Lent a.args.faces a.args.flat.now f.fill.new.factors
   lent =
       let few = a.requires.0 in
       record {
         numbered = a.requires.1;
-        parts-room = omega (arith, f.fill.auto.parts);
-        wholes-room = omega (arith, f.fill.auto.wholes);
+        room = omega (arith, f.fill.auto);
       }
 
 -- what was found, as the best of the job's own sums
@@ -58,8 +56,8 @@ module _ (c : After-few_best-ends) where
 pub fill-requires : goal.fill-requires
 fill-requires c =
     let few = c.requires.0 in (
-      record { numbered = c.requires.1; parts-room = omega arith; wholes-room = omega arith },
-      (refl, refl),
+      record { numbered = c.requires.1; room = omega arith },
+      refl,
       (ready (goal.at.fill-requires c).Start).profiled,
     )
 

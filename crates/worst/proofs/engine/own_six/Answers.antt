@@ -46,8 +46,7 @@ best-ends-requires c =
     let lent = c.requires.0 in (
       record {
         numbered = lent.numbered;
-        parts-room = omega (arith, c.fill.auto.parts, lent.parts-room);
-        wholes-room = omega (arith, c.fill.auto.wholes, lent.wholes-room);
+        room = omega (arith, c.fill.auto, lent.room);
       },
       c.requires.2,
       c.fill.ensures,
@@ -60,8 +59,7 @@ shown-requires c =
     let lent = c.requires.0 in (
       record {
         numbered = lent.numbered;
-        parts-room = omega (arith, c.fill.auto, lent.parts-room);
-        wholes-room = omega (arith, c.fill.auto, lent.wholes-room);
+        room = omega (arith, c.fill.auto, lent.room);
       },
       ready at_start,
       λ i t. subst Fraction (sym (c.fill.ensures i t)) ((ready at_start).factors i t),

@@ -36,8 +36,8 @@ over_winds-ends-requires a = ((ready a).winds, (ready a).internals.0, a.requires
 pub fill-requires : goal.fill-requires
 fill-requires c =
     let few = c.requires.0.few in (
-      record { numbered = c.requires.0; parts-room = omega arith; wholes-room = omega arith },
-      (refl, refl),
+      record { numbered = c.requires.0; room = omega arith },
+      refl,
       (ready (goal.at.fill-requires c).Start).profiled,
     )
 
@@ -47,8 +47,7 @@ shown-requires c =
     let few = c.requires.0.few in (
       record {
         numbered = c.requires.0;
-        parts-room = omega (arith, c.fill.auto.parts);
-        wholes-room = omega (arith, c.fill.auto.wholes);
+        room = omega (arith, c.fill.auto);
       },
       ready at_start,
       λ i t. subst Fraction (sym (c.fill.ensures i t)) ((ready at_start).factors i t),

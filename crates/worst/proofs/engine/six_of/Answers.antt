@@ -6,8 +6,8 @@ use Rattle.worst.proofs.engine.six_of.Goals as goal
 pub own_six-requires : goal.own_six-requires
 own_six-requires c =
     let few = c.requires.0.few in (
-      record { numbered = c.requires.0; parts-room = omega arith; wholes-room = omega arith },
-      (refl, refl),
+      record { numbered = c.requires.0; room = omega arith },
+      refl,
       c.requires.1,
     )
 

@@ -9,8 +9,8 @@ pub fill-requires : goal.fill-requires
 fill-requires c =
     let j = job_by c.args.s c.args.faces c.args.flat.now in
     let few = c.requires.0.few in (
-      record { numbered = c.requires.0; parts-room = omega arith; wholes-room = omega arith },
-      (refl, refl),
+      record { numbered = c.requires.0; room = omega arith },
+      refl,
       (job-ready j c.requires.1).profiled,
     )
 
@@ -19,8 +19,7 @@ all_cells-requires c =
     let few = c.requires.0.few in (
       record {
         numbered = c.requires.0;
-        parts-room = omega (arith, c.fill.auto.parts);
-        wholes-room = omega (arith, c.fill.auto.wholes);
+        room = omega (arith, c.fill.auto);
       },
       c.requires.1,
       c.fill.ensures,

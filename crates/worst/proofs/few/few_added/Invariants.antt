@@ -2,7 +2,7 @@
 -- i.
 use mathlib.Core.Path.{◌≡◌}
 use mathlib.Core.List.{List}
-use Prim.Native.Nat.{◌≤◌, ◌-◌}
+use Prim.Native.Nat.{◌-◌}
 use Rattle.whole.specs.Lists.{first_of}
 use Rattle.entry.specs.declared.Step.{Step}
 use Rattle.entry.specs.Flat.{faces_in}
@@ -16,11 +16,8 @@ use Rattle.worst.proofs.few.few_added.Given as goal
 
 abbrev pub invariant-loop-i : goal.invariant-loop-i
 invariant-loop-i l =
-    (l.from ≤ l.i) × (l.i ≤ l.to) × FewSmall (l.i - l.from) l.sums
-    × ((profile : List Step) → FactorsStand profile (faces_by l.to l.flat) l.parts l.wholes
+    FewSmall (l.i - l.from) l.sums
+    × ((profile : List Step) → FactorsStand profile (faces_by l.to l.flat) l.factors
     → plus_axes (axes_of l.b profile l.w (first_of no_face l.from (faces_in l.to l.flat))) (few_axes l.sums)
     ≡ axes_of l.b profile l.w (first_of no_face l.i (faces_in l.to l.flat)))
     × (l.table.building ≡ l.b)
-
-abbrev pub decreases-loop-i : goal.decreases-loop-i
-decreases-loop-i l = l.to - l.i

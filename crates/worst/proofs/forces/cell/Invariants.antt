@@ -1,7 +1,6 @@
 -- `forces::cell` meets its contract: after i faces the forces of the first i stand in the array.
 use mathlib.Core.Path.{◌≡◌}
 use mathlib.Core.List.{List}
-use Prim.Native.Nat.{◌-◌, ◌≤◌}
 use Rattle.whole.specs.Lists.{first_of}
 use Rattle.entry.specs.declared.Step.{Step}
 use Rattle.entry.specs.Flat.{faces_in}
@@ -13,10 +12,5 @@ use Rattle.worst.proofs.forces.cell.Given as goal
 
 abbrev pub invariant-loop-i : goal.invariant-loop-i
 invariant-loop-i l =
-    (l.i ≤ l.n)
-    × ((profile : List Step) → FactorsStand profile (faces_by l.count l.flat) l.parts l.wholes
-    → l.all
-    ≡ rows_of l.d.year l.d.building profile l.w l.internal (first_of no_face l.i (faces_in l.count l.flat)))
-
-abbrev pub decreases-loop-i : goal.decreases-loop-i
-decreases-loop-i l = l.n - l.i
+    (profile : List Step) → FactorsStand profile (faces_by l.count l.flat) l.factors
+    → l.all ≡ rows_of l.d.year l.d.building profile l.w l.internal (first_of no_face l.i (faces_in l.count l.flat))

@@ -53,7 +53,7 @@ pub loop-i-init : goal.loop-i-init
 loop-i-init c =
     let p = c.args.profile in
     let some : 0 < p.count = omega (arith, c.if-count-eq0.false) in
-    (some, c.requires.0.each 0 some, walk_begins p.count p.entry _ some)
+    (c.requires.0.each 0 some, walk_begins p.count p.entry _ some)
 
 pub offset_bounds-profile-i : goal.offset_bounds-profile-i
 offset_bounds-profile-i c = record { fits = omega (arith, below c) }
@@ -62,7 +62,7 @@ pub factor_between-requires : goal.factor_between-requires
 factor_between-requires c =
     let at_line = (goal.at.factor_between-requires c).In-loop-i in
     let height = read (goal.at.factor_between-requires c).At-loop-i in
-    (c.loop-i.invariant.1, small at_line, subst Height (sym height) c.requires.1)
+    (c.loop-i.invariant.0, small at_line, subst Height (sym height) c.requires.1)
 
 pub returns-then-height-upper : goal.returns-then-height-upper
 returns-then-height-upper c =
@@ -70,31 +70,24 @@ returns-then-height-upper c =
     c.factor_between.ensures
     ∙ walk-stops p.count p.entry _ c.loop-i.i c.loop-i.lower c.loop-i-test.true
     (tested (goal.at.returns-then-height-upper c).In-loop-i c.if-height-upper.true)
-    ∙ sym c.loop-i.invariant.2
+    ∙ sym c.loop-i.invariant.1
     ∙ ap (factor_at (steps_of p)) (read (goal.at.returns-then-height-upper c).At-loop-i)
-
-pub overflow_add-i : goal.overflow_add-i
-overflow_add-i c = record { fits = omega (arith, below (goal.at.overflow_add-i c).In-loop-i) }
-
-pub loop-i-smaller : goal.loop-i-smaller
-loop-i-smaller c = let t = c.loop-i-test.true in omega arith
 
 pub loop-i-preserved : goal.loop-i-preserved
 loop-i-preserved c =
     let at_loop_i = (goal.at.loop-i-preserved c).In-loop-i in
     let t = c.loop-i-test.true in
     let p = c.args.profile in (
-      omega arith,
       small at_loop_i,
-      c.loop-i.invariant.2
+      c.loop-i.invariant.1
           ∙ walk-goes-on p.count p.entry _ c.loop-i.i c.loop-i.lower t (tested at_loop_i c.if-height-upper.false),
     )
 
 pub returns : goal.returns
 returns c =
     let p = c.args.profile in
-    let factor = (back w64 (num≤ c.loop-i.lower.factor c.loop-i.invariant.1.factor) tt).same in
+    let factor = (back w64 (num≤ c.loop-i.lower.factor c.loop-i.invariant.0.factor) tt).same in
     (λ j. record { part = factor j; whole = pos 1000 })
     ∙ walk_ends p.count p.entry _ c.loop-i.i c.loop-i.lower c.loop-i-test.false
-    ∙ sym c.loop-i.invariant.2
+    ∙ sym c.loop-i.invariant.1
     ∙ ap (factor_at (steps_of p)) (read (goal.at.returns c).At-loop-i)

@@ -1,8 +1,5 @@
 -- `speeds::fill` meets its contract: in year 1 nothing is changed, and otherwise after i faces the factors of the
 -- first i stand in the arrays.
-use mathlib.Core.Path.{◌≡◌}
-use Prim.Native.Nat.{◌-◌, ◌≤◌}
-use lib.ListN.{length}
 use Rattle.entry.specs.Flat.{faces_in}
 use Rattle.worst.specs.Factors.{steps_of}
 use Rattle.worst.proofs.Factors.{FirstStand}
@@ -10,8 +7,4 @@ use Rattle.worst.proofs.speeds.fill.Given as goal
 
 abbrev pub invariant-loop-i : goal.invariant-loop-i
 invariant-loop-i l =
-    (l.i ≤ l.count) × FirstStand l.faces (steps_of l.profile) (faces_in l.faces l.flat) l.i l.parts l.wholes
-    × (length l.parts ≡ length l.initial.parts) × (length l.wholes ≡ length l.initial.wholes)
-
-abbrev pub decreases-loop-i : goal.decreases-loop-i
-decreases-loop-i l = l.count - l.i
+    FirstStand l.faces (steps_of l.profile) (faces_in l.faces l.flat) l.i l.factors

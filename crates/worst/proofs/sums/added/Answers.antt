@@ -73,8 +73,7 @@ few_added-few-requires d =
     let r = lent.numbered in (
       record {
         numbered = record { few = omega (arith, r.few); stand = omega (arith, r.stand) };
-        parts-room = omega (arith, lent.parts-room);
-        wholes-room = omega (arith, lent.wholes-room);
+        room = omega (arith, lent.room);
       },
       omega arith,
       few at_end_of_few_to,

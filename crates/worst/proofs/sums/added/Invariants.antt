@@ -15,7 +15,7 @@ use Rattle.worst.proofs.sums.added.Given as goal
 abbrev pub invariant-loop-i : goal.invariant-loop-i
 invariant-loop-i l =
     (l.i ≤ l.count) × AllSumsSmall l.i l.sums
-    × ((profile : List Step) → FactorsStand profile (faces_by l.faces l.flat) l.parts l.wholes
+    × ((profile : List Step) → FactorsStand profile (faces_by l.faces l.flat) l.factors
     → axes_in l.sums ≡ axes_of l.b profile l.w (first_of no_face l.i (faces_in l.faces l.flat)))
     × (l.table.building ≡ l.b)
 

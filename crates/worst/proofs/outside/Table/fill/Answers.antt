@@ -42,20 +42,20 @@ module _ (c : After-keep-4) where
   kept₂ : Kept b c.keep.new.place c.keep-2.new.place (k + 1)
   kept₂ =
       kept b c.args.direction (c.args.from + 1)
-      (half-placed c.args.direction c.args.from 1 c.requires.1 c.requires.0 (lit< tt)) _ _ (k + 1) _ kept₁.filled (next 1)
-      (ap (λ (f : Four). f.second) four) c.keep-2.ensures
+      (half-placed c.args.direction c.args.from 1 c.requires.1 c.requires.0 (lit< tt)) _ _ (k + 1) _
+      kept₁.filled (next 1) (ap (λ (f : Four). f.second) four) c.keep-2.ensures
 
   kept₃ : Kept b c.keep-2.new.place c.keep-3.new.place (k + 2)
   kept₃ =
       kept b c.args.direction (c.args.from + 2)
-      (half-placed c.args.direction c.args.from 2 c.requires.1 c.requires.0 (lit< tt)) _ _ (k + 2) _ kept₂.filled (next 2)
-      (ap (λ (f : Four). f.third) four) c.keep-3.ensures
+      (half-placed c.args.direction c.args.from 2 c.requires.1 c.requires.0 (lit< tt)) _ _ (k + 2) _
+      kept₂.filled (next 2) (ap (λ (f : Four). f.third) four) c.keep-3.ensures
 
   kept₄ : Kept b c.keep-3.new.place c.keep-4.new.place (k + 3)
   kept₄ =
       kept b c.args.direction (c.args.from + 3)
-      (half-placed c.args.direction c.args.from 3 c.requires.1 c.requires.0 (lit< tt)) _ _ (k + 3) _ kept₃.filled (next 3)
-      (ap (λ (f : Four). f.fourth) four) c.keep-4.ensures
+      (half-placed c.args.direction c.args.from 3 c.requires.1 c.requires.0 (lit< tt)) _ _ (k + 3) _
+      kept₃.filled (next 3) (ap (λ (f : Four). f.fourth) four) c.keep-4.ensures
 
 pub invariant_of-self : goal.invariant_of-self
 invariant_of-self c = record { filled = (kept₄ c).filled }

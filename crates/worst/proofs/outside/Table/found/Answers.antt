@@ -25,8 +25,12 @@ returns-in-Some c =
     let a = c.args in
     let t = a.self.now in
     let p = place (goal.at.returns-in-Some c).After-place_of-k in
-    let right = t.filled.right c.place_of-k.result c.in-Some.o c.in-Some.is in
-    (right ∙ ap (λ n. outside_at t.building (direction_at n) (zone_at n)) p ∙ place-back t.building a.w.direction a.zone c.requires, refl)
+    let right = t.filled.right c.place_of-k.result c.in-Some.o c.in-Some.is in (
+      right
+          ∙ ap (λ n. outside_at t.building (direction_at n) (zone_at n)) p
+          ∙ place-back t.building a.w.direction a.zone c.requires,
+      refl,
+    )
 
 pub returns : goal.returns
 returns c =
