@@ -10,7 +10,7 @@ ghost use Rattle.worst.specs.Table.{Filled};
 ghost use Rattle.worst.specs.Sums.{no_axes, plus_axes};
 ghost use Rattle.worst.specs.Few.{few_in, few_axes, FewAxisSmall, FewSmall};
 ghost use Rattle.worst.specs.Lent.{faces_by, Lent};
-ghost use Rattle.worst.specs.Engine.{further, faces_of, with_weight, with_pressure, with_face, axes_of};
+ghost use Rattle.worst.specs.Engine.{faces_of, with_weight, with_pressure, with_face, axes_of};
 ghost use Rattle.worst.specs.Small.{OutsideSmall, FaceSmall, Pressure, Weight, Met, AllMet};
 ghost use Rattle.worst.specs.Factors.{Fraction, FactorsStand, Fractions};
 
@@ -19,7 +19,7 @@ use crate::faces::face_in;
 use crate::outside::{Outside, found, takes_part};
 use crate::speeds::{Factor, factor_in};
 use crate::sums::pressure_of;
-use crate::tops::Compared;
+use crate::tops::the_further;
 use building::Building;
 use entry::{Face, Wind};
 
@@ -37,16 +37,6 @@ pub struct FewSums {
     pub x: FewAxis,
     pub y: FewAxis,
     pub z: FewAxis,
-}
-
-// The further out of two, the first where they are alike.
-fn the_further(side: Side, first: i64, last: i64) -> i64
-    ensures { result ≡ further side first last }
-{
-    if first.falls_short(side, last) {
-        return last;
-    }
-    first
 }
 
 // One face more on one axis, at its weight there.
