@@ -6,9 +6,6 @@ use Prim.Native.Nat.{ℕ, ◌<◌}
 use native.Mathlib.Omega.{arith}
 use borrow.Author.Tests.{eq-eqb, ne_eqb}
 use lib.IntN.{ℤ}
-use mir.Syntax.{w64}
-use mir.Val.{SFits, to_z, of_z}
-use mir.ValLaws.{to_z-of_z}
 use Rattle.pair.specs.declared.Pair.{Pair}
 use Rattle.pair.specs.Total.{no_pair}
 use Rattle.worst.specs.declared.Side.{Side}
@@ -37,11 +34,6 @@ module _ (s : Side) (u : ℤ) (x k : ℕ) (v : ℤ) (w i : ℕ) where
   pub kept-earlier : (x ≡ 0 → ⊥) → short s u v ≡ false → top_with u x k ≡ better s (top_with u x k) (at v (cell w i))
   unfolding better
   kept-earlier e h = rw (ne_eqb x 0 e, h)
-
--- a test on what the machine reads back is the test on the numbers
-pub short-read : (s : Side) {x y : ℤ} → SFits w64 x → SFits w64 y
-    → short s (to_z w64 (of_z w64 x)) (to_z w64 (of_z w64 y)) ≡ short s x y
-short-read s {x} {y} fx fy = λ i. short s (to_z-of_z w64 x fx i) (to_z-of_z w64 y fy i)
 
 -- what holds on both sides
 pub either : (P : Side → Type 0) → P Greatest → P Least → (s : Side) → P s

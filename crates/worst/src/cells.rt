@@ -9,9 +9,9 @@ ghost use Rattle.worst.specs.Small.{LowInternals};
 
 use crate::amounts::{less_times, settled};
 use crate::sums::{AllSums, AxisSums};
+use crate::tops::NO_PAIR;
 use crate::{Span, Stored, StoredCell};
 use job::Internals;
-use pair::Pair;
 
 // The cells of one wind, one for each internal coefficient.
 #[derive(Clone, Copy)]
@@ -23,13 +23,9 @@ pub(crate) struct WindCells {
 fn no_cell() -> StoredCell
     ensures { result ≡ no_cell }
 {
-    let zero = Pair {
-        newtons: 0,
-        remainder: 0,
-    };
     let none = Span {
-        greatest: zero,
-        least: zero,
+        greatest: NO_PAIR,
+        least: NO_PAIR,
     };
     StoredCell {
         x: none,

@@ -9,7 +9,7 @@ ghost use Rattle.job.specs.Carried.{no_face};
 ghost use Rattle.worst.specs.Sums.{no_axes, plus_axes};
 ghost use Rattle.worst.specs.Few.{few_in, few_axes, FewAxisSmall, FewSmall};
 ghost use Rattle.worst.specs.Lent.{faces_by, Lent};
-ghost use Rattle.worst.specs.Engine.{further, faces_of, with_weight, with_pressure, with_face, axes_of};
+ghost use Rattle.worst.specs.Engine.{faces_of, with_weight, with_pressure, with_face, axes_of};
 ghost use Rattle.worst.specs.Small.{OutsideSmall, FaceSmall, Pressure, Weight, Met, AllMet};
 ghost use Rattle.worst.specs.Factors.{Fraction, FactorsStand, Fractions};
 
@@ -18,7 +18,7 @@ use crate::faces::face_in;
 use crate::outside::{Outside, Table, takes_part};
 use crate::speeds::Factor;
 use crate::sums::pressure_of;
-use crate::tops::Compared;
+use crate::tops::the_further;
 use building::Building;
 use entry::{Face, Wind};
 
@@ -36,16 +36,6 @@ pub struct FewSums {
     pub x: FewAxis,
     pub y: FewAxis,
     pub z: FewAxis,
-}
-
-// The further out of two, the first where they are alike.
-fn the_further(side: Side, first: i64, last: i64) -> i64
-    ensures { result ≡ further side first last }
-{
-    if first.falls_short(side, last) {
-        return last;
-    }
-    first
 }
 
 // One face more on one axis, at its weight there.

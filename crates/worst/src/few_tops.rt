@@ -29,7 +29,12 @@ fn with_few_axis(tops: Tops<i64>, sums: FewAxis, insides: Insides, wind: u32) ->
     Tops { greatest, least }
 }
 
-pub(crate) fn with_few_sums(ends: Ends<i64>, sums: FewSums, insides: Insides, wind: u32) -> Ends<i64>
+pub(crate) fn with_few_sums(
+    ends: Ends<i64>,
+    sums: FewSums,
+    insides: Insides,
+    wind: u32,
+) -> Ends<i64>
     requires { (0 < wind) × FewSmall 24 sums × InsidesSmall insides }
     ensures { (axis : Axis) (s : Side) → few_top_of (top_at axis s result)
         ≡ better s (few_top_of (top_at axis s ends)) (furthest_cell s (sums_on axis (few_axes sums)) insides wind) }

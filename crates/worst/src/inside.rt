@@ -1,12 +1,11 @@
 // The internal coefficients at which the cells of a wind are furthest out: by the sign of the weight the least or the
 // greatest of them, and the first where nothing weighs.
-ghost use Rattle.std.specs.Prelude.{◌≡◌, cond, ◌+◌, ◌<◌};
-ghost use Rattle.worst.specs.Best.{short};
+ghost use Rattle.std.specs.Prelude.{◌≡◌, ◌+◌, ◌<◌};
 ghost use Rattle.worst.specs.Inside.{inside_numbered, sides_of, InsidesSmall, Furthest};
 ghost use Rattle.worst.specs.Small.{LowInternals};
 
 use crate::Side;
-use crate::tops::Compared;
+use crate::tops::{Compared, the_further};
 use job::Internals;
 
 // One of them in thousandths, with its number.
@@ -14,6 +13,14 @@ use job::Internals;
 pub struct Inside {
     pub part: i64,
     pub number: u32,
+}
+
+impl Compared for Inside {
+    ghost number = { λ c. c.part };
+
+    fn falls_short(self, side: Side, later: Inside) -> bool {
+        self.part.falls_short(side, later.part)
+    }
 }
 
 // The first, the least and the greatest: of those that are alike the first.
@@ -29,16 +36,6 @@ pub struct Insides {
 pub struct Sides {
     pub up: Inside,
     pub down: Inside,
-}
-
-// The further out of two, the first where they are alike.
-fn further(side: Side, first: Inside, last: Inside) -> Inside
-    ensures { result ≡ cond (short side first.part last.part) last first }
-{
-    if first.part.falls_short(side, last.part) {
-        return last;
-    }
-    first
 }
 
 // The one at a place, from 0.
@@ -63,8 +60,8 @@ pub(crate) fn insides_of(internals: Internals) -> Insides
     let mut high = first;
     for i in 1..count {
         let next = inside_at(internals, i);
-        low = further(Side::Least, low, next);
-        high = further(Side::Greatest, high, next);
+        low = the_further(Side::Least, low, next);
+        high = the_further(Side::Greatest, high, next);
     }
     Insides { first, low, high }
 }

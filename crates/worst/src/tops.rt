@@ -1,5 +1,5 @@
 // The best cell so far: a total, with the numbers of its wind and its internal coefficient.
-ghost use Rattle.std.specs.Prelude.{◌≡◌, ℤ, true, ◌<◌};
+ghost use Rattle.std.specs.Prelude.{◌≡◌, ℤ, true, cond, ◌<◌};
 ghost use Rattle.pair.specs.Total.{units, proper};
 ghost use Rattle.worst.specs.Best.{short, at, better};
 ghost use Rattle.worst.specs.Engine.{cell, top_by, no_ends};
@@ -12,7 +12,7 @@ pub(crate) trait Compared: Copy {
     ghost number: { Self → ℤ };
 
     // It stands for one.
-    ghost Stands: { Self → Type 0 };
+    ghost Stands: { Self → Type 0 } = { λ x. Unit {0} };
 
     // Whether the later of two is strictly further out.
     fn falls_short(self, side: Side, later: Self) -> bool
@@ -22,8 +22,6 @@ pub(crate) trait Compared: Copy {
 
 impl Compared for i64 {
     ghost number = { λ x. x };
-
-    ghost Stands = { λ x. Unit {0} };
 
     fn falls_short(self, side: Side, later: i64) -> bool {
         match side {
@@ -44,6 +42,17 @@ impl Compared for Pair {
             Side::Least => pair::less(later, self),
         }
     }
+}
+
+// The further out of two, the first where they are alike.
+pub(crate) fn the_further<T: Compared>(side: Side, first: T, last: T) -> T
+    requires { T.Stands first × T.Stands last }
+    ensures { result ≡ cond (short side (T.number first) (T.number last)) last first }
+{
+    if first.falls_short(side, last) {
+        return last;
+    }
+    first
 }
 
 // Nothing yet, where the wind is 0.
@@ -93,7 +102,13 @@ pub(crate) fn no_ends<T: Copy>(zero: T) -> Ends<T>
 }
 
 // A later cell takes the place of an earlier one only where that falls short of it.
-pub(crate) fn kept<T: Compared>(side: Side, top: Top<T>, total: T, wind: u32, internal: u32) -> Top<T>
+pub(crate) fn kept<T: Compared>(
+    side: Side,
+    top: Top<T>,
+    total: T,
+    wind: u32,
+    internal: u32,
+) -> Top<T>
     requires { (0 < wind) × T.Stands top.total × T.Stands total }
     ensures { (top_by T.number result ≡ better side (top_by T.number top) (at (T.number total) (cell wind internal)))
         × T.Stands result.total }

@@ -65,7 +65,7 @@ loop-i-preserved c =
     let at_loop = (goal.at.loop-i-preserved c).In-loop-i in
     let stored = c.cell_of.ensures ∙ ap (cell_with (axes_in c.args.sums)) (internal at_loop) in
     λ h e. up-to-next 4 h (i at_loop) c.loop-i.four.cell c.cell_of.result (few at_loop) (c.loop-i.invariant h e)
-        (e (i at_loop) (counted at_loop) ∙ sym stored)
+    (e (i at_loop) (counted at_loop) ∙ sym stored)
 
 pub returns : goal.returns
 returns c =

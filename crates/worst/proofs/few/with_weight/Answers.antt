@@ -1,5 +1,6 @@
 -- `few::with_weight` meets its contract: what the face reaches is added on each side, and its weight.
 use mathlib.Core.Path.{◌≡◌, ◌∙◌}
+use mathlib.Core.Bool.{cond}
 use native.Mathlib.Omega.{arith}
 use lib.IntN.{ℤ}
 use mir.Syntax.{w64}
@@ -7,6 +8,7 @@ use Rattle.whole.proofs.Size.{Num, num≤, back, fit, nat_abs-add, ◌⊕◌}
 use Rattle.worst.specs.declared.Side.{Side}
 use Rattle.worst.specs.declared.Side.TheVariants.{Greatest, Least}
 use Rattle.worst.specs.Few.{FewAxisSmall}
+use Rattle.worst.specs.Best.{short}
 use Rattle.worst.specs.Engine.{further, reach}
 use Rattle.worst.proofs.ReadBack.{read_back, product}
 use Rattle.worst.proofs.Ranges.{reach-small}
@@ -21,11 +23,17 @@ module _ (a : Start) where
   last = product a.args.o.last a.args.weight a.requires.1.last a.requires.2
 
   -- what a call of `the_further` gave
-  gained : (s : Side) (r : ℤ) → r ≡ further s (back w64 first tt).has (back w64 last tt).has
-      → r ≡ reach s a.args.o a.args.weight
+  abbrev Gained : Side → ℤ → Type 0
+  Gained s r =
+      let a = (back w64 first tt).has in
+      let b = (back w64 last tt).has in
+      r ≡ cond (short s a b) b a
+
+  gained : (s : Side) (r : ℤ) → Gained s r → r ≡ reach s a.args.o a.args.weight
+  unfolding further
   gained s r e = e ∙ (λ j. further s ((back w64 first tt).same j) ((back w64 last tt).same j))
 
-  abbrev reached : (s : Side) (r : ℤ) → r ≡ further s (back w64 first tt).has (back w64 last tt).has → Num
+  abbrev reached : (s : Side) (r : ℤ) → Gained s r → Num
   reached s r e =
       read_back r (reach s a.args.o a.args.weight) (gained s r e)
       (reach-small s a.args.o a.args.weight a.requires.1 a.requires.2) tt

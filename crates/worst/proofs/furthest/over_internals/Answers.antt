@@ -83,8 +83,7 @@ with_cell-z-requires c =
 
 pub loop-i-preserved : goal.loop-i-preserved
 loop-i-preserved c =
-    let at_loop_i = (goal.at.loop-i-preserved c).In-loop-i in
-    (
+    let at_loop_i = (goal.at.loop-i-preserved c).In-loop-i in (
       record { x = c.with_cell-x.ensures.1; y = c.with_cell-y.ensures.1; z = c.with_cell-z.ensures.1 },
       every-axis _ (λ s. stepped at_loop_i X s (end_of s c.with_cell-x.result) (c.with_cell-x.ensures.0 s))
           (λ s. stepped at_loop_i Y s (end_of s c.with_cell-y.result) (c.with_cell-y.ensures.0 s))

@@ -50,8 +50,8 @@ loop-i-preserved c =
     let next = c.inside_at-next.result in
     let t = counted (goal.at.loop-i-preserved c).In-loop-i in
     let old = made first loop.low loop.high in
-    let same : made first c.further-low.result c.further-high.result ≡ with_inside old (inside_numbered is (loop.i + 1)) =
-    (λ j. made first (c.further-low.ensures j) (c.further-high.ensures j))
+    let same : made first c.the_further-low.result c.the_further-high.result ≡ with_inside old (inside_numbered is (loop.i + 1)) =
+    (λ j. made first (c.the_further-low.ensures j) (c.the_further-high.ensures j))
     ∙ ap (with_inside old) c.inside_at-next.ensures in (
       subst InsidesSmall (sym same)
           (with-small old (inside_numbered is (loop.i + 1)) loop.invariant.0 (small is c.requires.0 loop.i t)),

@@ -14,6 +14,6 @@ returns c =
     let n = 16500000 * c.face_limit.result in
     let limit = said face_limit c.args.year c.face_limit.ensures c.ranges.year.sfits in
     all_from_yields_List (cell_within n) _ _ _ c.all.ensures.ran (YieldsList-from_slice cells cc)
-        (λ x b q k. search (rules, tests))
+    (λ x b q k. search (rules, tests))
     ∙ each-within n cells
     ∙ ap (λ k. all_within (16500000 * k) cells) limit
