@@ -1,30 +1,19 @@
 // Questions at the corners of paper 01, each with its answer.
-use crate::print::{print_number, print_refusal};
+use crate::print::print_refusal;
 use book::{Answer, Cited, Values};
 use building::{Building, Dated};
 use std::io;
 
-fn print_value(rt: &impl Print, v: i32) -> io::Result<()> {
-    print_number(rt, v as i64)
-}
-
 fn print_values(rt: &impl Print, values: Values) -> io::Result<()> {
     match values {
-        Values::One(v) => print_value(rt, v),
-        Values::Two(v, w) => {
-            print_value(rt, v)?;
-            print_value(rt, w)
-        }
+        Values::One(v) => print!(rt; " {v}"),
+        Values::Two(v, w) => print!(rt; " {v} {w}"),
     }
 }
 
 // The two rows, and the fraction of the way from one to the other.
 fn print_rows(rt: &impl Print, c: Cited) -> io::Result<()> {
-    print!(rt; " rows")?;
-    print_number(rt, c.lower as i64)?;
-    print_number(rt, c.upper as i64)?;
-    print_number(rt, c.part as i64)?;
-    print_number(rt, c.whole as i64)
+    print!(rt; " rows {} {} {} {}", c.lower, c.upper, c.part, c.whole)
 }
 
 fn print_answer(rt: &impl Print, title: &str, a: Answer) -> io::Result<()> {

@@ -9,14 +9,10 @@ fn find(s: &[u8], at: usize, b: u8) -> usize
     requires { at ≤ length s.now }
     ensures { (at ≤ result) × (result ≤ length s.now) }
 {
-    let mut i = at;
-    while i < s.len() {
-        if s[i] == b {
-            return i;
-        }
-        i += 1;
+    match s[at..].iter().position(|&x| x == b) {
+        Some(n) => at + n,
+        None => s.len(),
     }
-    i
 }
 
 fn answer(rt: &impl Print, sheet: &[u8]) -> io::Result<()> {

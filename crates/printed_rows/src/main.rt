@@ -52,56 +52,26 @@ const SINGLE_WINDS: [i64; 6] = [0, 45, 90, 135, 180, 30];
 
 const SINGLE_PLACES: [u8; 7] = [69, 70, 71, 72, 65, 119, 49];
 
-fn put(rt: &impl Print, z: i64) -> io::Result<()> {
-    print!(rt; "{z} ")
-}
-
-fn put_value(rt: &impl Print, v: i32) -> io::Result<()> {
-    put(rt, v as i64)
-}
-
-fn put_values(rt: &impl Print, values: Values) -> io::Result<()> {
-    match values {
-        Values::One(v) => put_value(rt, v),
-        Values::Two(v, w) => {
-            put_value(rt, v)?;
-            put_value(rt, w)
-        }
-    }
-}
-
 fn put_answer(rt: &impl Print, answer: Answer) -> io::Result<()> {
     match answer {
-        Ok(c) => put_values(rt, c.values),
-        Err(v) => {
-            print!(rt; "refused ")?;
-            put(rt, v.number as i64)?;
-            put(rt, v.line as i64)
-        }
+        Ok(c) => match c.values {
+            Values::One(v) => print!(rt; "{v} "),
+            Values::Two(v, w) => print!(rt; "{v} {w} "),
+        },
+        Err(v) => print!(rt; "refused {} {} ", v.number, v.line),
     }
 }
 
 // Between which rows it lies, and the fraction of the way.
 fn put_rows(rt: &impl Print, answer: Answer) -> io::Result<()> {
     match answer {
-        Ok(c) => {
-            print!(rt; "rows ")?;
-            put(rt, c.lower as i64)?;
-            put(rt, c.upper as i64)?;
-            put(rt, c.part as i64)?;
-            put(rt, c.whole as i64)
-        }
+        Ok(c) => print!(rt; "rows {} {} {} {} ", c.lower, c.upper, c.part, c.whole),
         Err(_) => Ok(()),
     }
 }
 
 fn show_in(rt: &impl Print, year: i64, g: Building, direction: i64, place: u8) -> io::Result<()> {
-    put(rt, g.h)?;
-    put(rt, g.a)?;
-    put(rt, g.b)?;
-    put(rt, g.kind)?;
-    put(rt, g.x)?;
-    put(rt, direction)?;
+    print!(rt; "{} {} {} {} {} {direction} ", g.h, g.a, g.b, g.kind, g.x)?;
     rt.write_all(&[place, b' '])?;
     let d = Dated { year, building: g };
     put_answer(rt, book::outside(d, direction, place))?;
@@ -175,8 +145,7 @@ fn square(rt: &impl Print, n: usize) -> io::Result<()> {
         x: 0,
     };
     let year = YEARS[n / 300 % 6];
-    print!(rt; "year ")?;
-    put(rt, year)?;
+    print!(rt; "year {year} ")?;
     show_in(rt, year, g, WALL_WINDS[n % 10], WALL_PLACES[n % 10])
 }
 
