@@ -1,6 +1,5 @@
 // The faces of a lent list, as a job's record holds them.
-ghost use Rattle.std.specs.Prelude.{◌≡◌, ◌+◌, min, ◌<◌, length, get_or};
-ghost use Rattle.job.specs.Carried.{no_face, most_faces};
+ghost use Rattle.std.specs.Prelude.{◌≡◌};
 ghost use Rattle.column.specs.Listed.{listed};
 ghost use Rattle.column.specs.OneByOne.{no_faces, with_one};
 
@@ -9,14 +8,6 @@ use job::{Faces, MOST_FACES, no_face};
 
 // The room of a record, as it is counted there.
 const ROOM: u32 = MOST_FACES as u32;
-
-// One face of the list.
-fn face_at(faces: &[Face], i: usize) -> Face
-    requires { i < length faces.now }
-    ensures { result ≡ get_or faces.now i no_face }
-{
-    faces[i]
-}
 
 fn none() -> Faces
     ensures { result ≡ no_faces }
@@ -41,27 +32,14 @@ fn put(faces: Faces, f: Face) -> Faces
     all
 }
 
-// How many of n faces tell all that a record says of them.
-fn telling(n: usize) -> usize
-    ensures { result ≡ min n (most_faces + 1) }
-{
-    let most = (ROOM + 1) as usize;
-    if n < most {
-        return n;
-    }
-    most
-}
-
 // All that a record says of the faces. Of a list that is longer it reads one more than there is room for.
 pub fn gather(faces: &[Face]) -> Faces
     ensures { result ≡ listed faces.now }
 {
-    let n = telling(faces.len());
+    let telling = &faces[..faces.len().min(MOST_FACES + 1)];
     let mut all = none();
-    let mut i: usize = 0;
-    while i < n {
-        all = put(all, face_at(faces, i));
-        i += 1;
+    for f in telling {
+        all = put(all, *f);
     }
     all
 }

@@ -46,13 +46,8 @@ pub(crate) fn at_choice(
     let mut all = Forces {
         face: [0i64; MOST_FACES],
     };
-    let mut i = 0;
-    while i < faces {
-        let f = forces.face[i];
-        let k = alternative[i];
-        let one = force_at(line, f, k);
-        all.face[i] = one;
-        i += 1;
+    for i in 0..faces {
+        all.face[i] = force_at(line, forces.face[i], alternative[i]);
     }
     all
 }

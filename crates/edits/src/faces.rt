@@ -39,11 +39,8 @@ pub(crate) fn taken_out(held: Faces, k: usize) -> Faces
 {
     let mut r = held;
     let last = (held.count - 1) as usize;
-    let mut i = k - 1;
-    while i < last {
-        let next = r.entry[i + 1];
-        r.entry[i] = next;
-        i += 1;
+    for i in k - 1..last {
+        r.entry[i] = r.entry[i + 1];
     }
     r.entry[last] = no_face();
     r.count -= 1;

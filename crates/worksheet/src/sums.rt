@@ -39,14 +39,8 @@ fn moved(held: Stored, out: Stored, new: Stored) -> Stored
     ensures { result ≡ kept.moved held out new }
 {
     let mut all = held;
-    let mut k = 0;
-    while k < 32 {
-        let was = held.cell[k];
-        let less = out.cell[k];
-        let more = new.cell[k];
-        let cell = moved_cell(was, less, more);
-        all.cell[k] = cell;
-        k += 1;
+    for k in 0..32 {
+        all.cell[k] = moved_cell(held.cell[k], out.cell[k], new.cell[k]);
     }
     all
 }

@@ -1,26 +1,27 @@
 -- `faces::gather`: one face more is one more of the list, and so many tell all.
-use mathlib.Core.Path.{◌∙◌}
+use mathlib.Core.Path.{◌≡◌, sym, ap, ◌∙◌}
+use Prim.Native.Nat.{◌+◌, min}
 use native.Mathlib.Omega.{arith}
-use Rattle.column.proofs.Gathered.{start, more, all}
+use lib.ListN.{length, take}
+use lib.Seq.{take_all}
+use Rattle.job.specs.Carried.{most_faces}
+use Rattle.column.specs.Listed.{listed}
+use Rattle.column.proofs.Gathered.{start, more, telling}
 use Rattle.column.proofs.faces.gather.Goals as goal
 
-pub loop-i-init : goal.loop-i-init
-loop-i-init c = (omega arith, c.telling-n.ensures, c.none-all.ensures ∙ start c.args.faces.now)
+pub loop-f-init : goal.loop-f-init
+loop-f-init c = c.none-all.ensures ∙ start
 
-pub face_at-requires : goal.face_at-requires
-face_at-requires c = omega (arith, c.loop-i-test.true, c.loop-i.invariant.1)
-
-pub loop-i-preserved : goal.loop-i-preserved
-loop-i-preserved c =
-    let l = c.loop-i in (
-      omega (arith, c.loop-i-test.true),
-      l.invariant.1,
-      more c.args.faces.now l.all c.put-all.result c.face_at.result l.i l.invariant.2 c.face_at.ensures
-          c.put-all.ensures,
-    )
+pub loop-f-preserved : goal.loop-f-preserved
+loop-f-preserved c =
+    more (take c.min.result c.args.faces.now) c.loop-f.all c.put-all.result c.loop-f.f-index c.loop-f-test.true
+    c.loop-f.invariant c.put-all.ensures
 
 pub returns : goal.returns
 returns c =
-    let l = c.loop-i in
-    all c.args.faces.now l.all l.i (omega (arith, l.invariant.0, l.invariant.1))
-    (omega (arith, c.loop-i-test.false, l.invariant.1)) l.invariant.2
+    let fs = c.args.faces.now in
+    let n : c.min.result ≡ min (length fs) (most_faces + 1) = omega arith in
+    c.loop-f.invariant
+    ∙ ap listed (take_all c.loop-f.f-index (take c.min.result fs) c.loop-f-test.false)
+    ∙ ap (λ k. listed (take k fs)) n
+    ∙ telling fs

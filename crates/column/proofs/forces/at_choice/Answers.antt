@@ -31,21 +31,17 @@ abbrev line_of : Start → ℤ
 line_of s = to_z w64 (of_z w64 s.args.line)
 
 pub loop-i-init : goal.loop-i-init
-loop-i-init c = let a = c.args in (omega arith, nothing_yet (axis_of (line_of c)) a.forces.face a.alternative)
+loop-i-init c = nothing_yet (axis_of (line_of c)) c.args.forces.face c.args.alternative
 
 pub loop-i-preserved : goal.loop-i-preserved
 loop-i-preserved c =
     let at_start = (goal.at.loop-i-preserved c).Start in
     let l = c.loop-i in
-    let a = c.args in (
-      omega arith,
-      (λ j. set (l.invariant.1 j) l.i
-          ((to_z-of_z w64 c.force_at-one.result (record { sfits = c.force_at-one.type_inv })
-          ∙ c.force_at-one.ensures) j))
-          ∙ choice-next (force_in (axis_of (line_of at_start))) no_face_forces 0 a.forces.face a.alternative
-          most_faces l.i
-          (omega arith),
-    )
+    let a = c.args in
+    (λ j. set (l.invariant j) l.i
+    ((to_z-of_z w64 c.force_at.result (record { sfits = c.force_at.type_inv }) ∙ c.force_at.ensures) j))
+    ∙ choice-next (force_in (axis_of (line_of at_start))) no_face_forces 0 a.forces.face a.alternative most_faces l.i
+    (omega arith)
 
 pub returns : goal.returns
 returns c =
@@ -53,6 +49,6 @@ returns c =
     let a = c.args in
     let all : l.i ≡ a.faces = omega arith in
     let line = to_z-of_z w64 a.line c.ranges.line in
-    l.invariant.1
+    l.invariant
     ∙ (λ j. first_of (pos 0) most_faces (up_to (force_in (axis_of
     (line j))) no_face_forces 0 a.forces.face a.alternative (all j)))

@@ -1,6 +1,5 @@
 -- `forces::at_choice` meets its contract: a pass over the faces, each force behind those before it.
 use mathlib.Core.Path.{◌≡◌}
-use Prim.Native.Nat.{◌-◌, ◌≤◌}
 use lib.IntN.{pos}
 use Rattle.whole.specs.Lists.{first_of}
 use Rattle.job.specs.Carried.{most_faces}
@@ -12,9 +11,5 @@ use Rattle.column.proofs.forces.at_choice.Given as goal
 
 abbrev pub invariant-loop-i : goal.invariant-loop-i
 invariant-loop-i l =
-    (l.i ≤ l.faces)
-    × (l.all.face ≡ first_of (pos 0) most_faces
-    (up_to (force_in (axis_of l.line)) no_face_forces 0 l.forces.face l.alternative l.i))
-
-abbrev pub decreases-loop-i : goal.decreases-loop-i
-decreases-loop-i l = l.faces - l.i
+    l.all.face ≡ first_of (pos 0) most_faces
+    (up_to (force_in (axis_of l.line)) no_face_forces 0 l.forces.face l.alternative l.i)

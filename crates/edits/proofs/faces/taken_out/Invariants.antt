@@ -8,9 +8,8 @@ use Rattle.edits.proofs.faces.taken_out.Given as goal
 
 abbrev pub invariant-loop-i : goal.invariant-loop-i
 invariant-loop-i l =
-    (l.i ≤ l.last) × (l.last + 1 ≡ l.initial.r.count) × (length l.r.entry ≡ most_faces)
-    × (l.r.count ≡ l.initial.r.count)
-    × (moved no_face (l.last + 1) l.i l.r.entry ≡ moved no_face (l.last + 1) (l.k - 1) l.initial.r.entry)
-
-abbrev pub decreases-loop-i : goal.decreases-loop-i
-decreases-loop-i l = l.last - l.i
+    record {
+      long : length l.r.entry ≡ most_faces;
+      count : l.r.count ≡ l.initial.r.count;
+      moved : moved no_face (l.last + 1) l.i l.r.entry ≡ moved no_face (l.last + 1) (l.k - 1) l.initial.r.entry;
+    }

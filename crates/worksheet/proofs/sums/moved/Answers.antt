@@ -14,28 +14,26 @@ use Rattle.worksheet.proofs.sums.moved.Goals as goal
 pub loop-k-init : goal.loop-k-init
 loop-k-init c =
     let room = c.well_formed.0.1.1.0.1.0.1 in
-    (omega arith, room, λ i t. absurd (omega arith))
+    record { long = room; moved = λ i t. absurd (omega arith) }
 
 pub loop-k-preserved : goal.loop-k-preserved
 loop-k-preserved c =
     let a = c.args in
     let k = c.loop-k.k in
     let cells = c.loop-k.all.cell in
-    let cell = c.moved_cell-cell.result in
+    let cell = c.moved_cell.result in
     let inv = c.loop-k.invariant in
-    let in-loop = c.loop-k-test.true in
-    let is : cell ≡ moves a.held a.out a.new k = c.moved_cell-cell.ensures in (
-      omega arith,
-      length-set cells k cell ∙ inv.1,
-      below_next (λ i. get_or (set cells k cell) i no_cell ≡ moves a.held a.out a.new i) k
-          (λ i t. get_or-set_other cells k i cell no_cell (λ e. absurd (omega (arith, e))) ∙ inv.2 i t)
-          (get_or-set_same cells k cell no_cell (omega (arith, inv.1)) ∙ is),
-    )
+    record {
+      long = length-set cells k cell ∙ inv.long;
+      moved =
+          below_next (λ i. get_or (set cells k cell) i no_cell ≡ moves a.held a.out a.new i) k
+          (λ i t. get_or-set_other cells k i cell no_cell (λ e. absurd (omega (arith, e))) ∙ inv.moved i t)
+          (get_or-set_same cells k cell no_cell (omega arith) ∙ c.moved_cell.ensures);
+    }
 
 pub returns : goal.returns
 unfolding kept.moved
 returns c =
     let l = c.loop-k in
     let a = c.args in
-    let left = c.loop-k-test.false in
-    cells-by (moves a.held a.out a.new) l.all.cell l.invariant.1 (λ k t. l.invariant.2 k (omega arith))
+    cells-by (moves a.held a.out a.new) l.all.cell l.invariant.long (λ k t. l.invariant.moved k (omega arith))

@@ -1,6 +1,6 @@
 -- `sums::moved`: the cells before the next stand as they are to.
 use mathlib.Core.Path.{◌≡◌}
-use Prim.Native.Nat.{ℕ, ◌-◌, ◌≤◌, ◌<◌}
+use Prim.Native.Nat.{ℕ, ◌<◌}
 use lib.ListN.{length, get_or}
 use Rattle.worst.specs.declared.Stored.{Stored}
 use Rattle.worst.specs.declared.StoredCell.{StoredCell}
@@ -13,8 +13,7 @@ moves held out new k = moved_cell (cell_at held k) (cell_at out k) (cell_at new 
 
 abbrev pub invariant-loop-k : goal.invariant-loop-k
 invariant-loop-k l =
-    (l.k ≤ 32) × (length l.all.cell ≡ 32) × ((i : ℕ) → i < l.k
-    → get_or l.all.cell i no_cell ≡ moves l.held l.out l.new i)
-
-abbrev pub decreases-loop-k : goal.decreases-loop-k
-decreases-loop-k l = 32 - l.k
+    record {
+      long : length l.all.cell ≡ 32;
+      moved : (i : ℕ) → i < l.k → get_or l.all.cell i no_cell ≡ moves l.held l.out l.new i;
+    }
