@@ -1,6 +1,6 @@
 -- `faces::taken_out`: what is still to be moved, moved, is the list without the face that is taken out.
 use mathlib.Core.Path.{◌≡◌}
-use Prim.Native.Nat.{◌+◌, ◌-◌, ◌≤◌}
+use Prim.Native.Nat.{◌+◌, ◌-◌}
 use lib.ListN.{length}
 use Rattle.job.specs.Carried.{no_face, most_faces}
 use Rattle.whole.proofs.Moved.{moved}

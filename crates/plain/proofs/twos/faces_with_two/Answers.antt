@@ -63,7 +63,7 @@ loop-w-init c =
     record { long = refl; at = λ k t. get_or-replicate most_faces k false false (omega (arith, few)) }
 
 pub mark_twos-requires : goal.mark_twos-requires
-mark_twos-requires c = (c.requires, c.loop-w.auto.w, c.loop-w-test.true, c.loop-w.invariant.long)
+mark_twos-requires c = (c.requires, omega arith, omega arith, c.loop-w.invariant.long)
 
 pub loop-w-preserved : goal.loop-w-preserved
 loop-w-preserved c =
