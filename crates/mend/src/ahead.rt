@@ -26,13 +26,11 @@ pub(crate) fn parts_fields(b: u8) -> bool
 pub(crate) fn next_byte(s: &[u8], i: usize) -> u8
     ensures { result ≡ next (clean (drop i s.now)) }
 {
-    let mut j = i;
-    while j < s.len() {
+    for j in i..s.len() {
         let b = s[j];
         if b != 13 {
             return b;
         }
-        j += 1;
     }
     0
 }
@@ -63,8 +61,7 @@ fn in_run(b: u8, digits: bool) -> bool
 pub(crate) fn runs_on(s: &[u8], i: usize, digits: bool) -> bool
     ensures { result ≡ runs_on digits (clean (drop i s.now)) }
 {
-    let mut j = i;
-    while j < s.len() {
+    for j in i..s.len() {
         let b = s[j];
         if ends_run(b, digits) {
             return true;
@@ -72,7 +69,6 @@ pub(crate) fn runs_on(s: &[u8], i: usize, digits: bool) -> bool
         if !in_run(b, digits) {
             return false;
         }
-        j += 1;
     }
     true
 }

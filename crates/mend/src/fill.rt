@@ -81,13 +81,11 @@ pub(crate) fn put_all(s: &[u8], added: bool, out: &mut [u8], list: &mut [u64])
     let mut p = Position { line: 1, place: 1 };
     let mut at: usize = 0;
     let mut next: usize = 0;
-    let mut i = 0;
-    while i < s.len() {
+    for (i, &b) in s.iter().enumerate() {
         w = walk::step(s, i, w);
-        at = put_kept(out, at, s[i], w.kind);
+        at = put_kept(out, at, b, w.kind);
         next = put_taken(list, next, p, w.kind);
-        p = next_position(p, s[i]);
-        i += 1;
+        p = next_position(p, b);
     }
     if added {
         page::put_byte(out, at, 10);

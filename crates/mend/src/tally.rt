@@ -40,11 +40,9 @@ pub(crate) fn tally_all(s: &[u8]) -> Tally
         taken: 0,
         last: 10,
     };
-    let mut i = 0;
-    while i < s.len() {
+    for (i, &b) in s.iter().enumerate() {
         w = walk::step(s, i, w);
-        t = with_byte(t, s[i], w.kind);
-        i += 1;
+        t = with_byte(t, b, w.kind);
     }
     t
 }

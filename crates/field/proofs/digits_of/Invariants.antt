@@ -1,5 +1,5 @@
--- `digits_of` meets its contract: after so many digits the number is below 10 ^ i, and what the rest say after it is what
--- all say.
+-- `digits_of` meets its contract: after so many digits the number is below as many tens multiplied, and what the rest
+-- say after it is what all say.
 use Prim.Native.Nat.{◌≤◌, ◌<◌, ◌^◌}
 use mathlib.Core.Path.{◌≡◌}
 use lib.ListN.{length, drop}
