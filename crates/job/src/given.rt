@@ -27,19 +27,7 @@ pub(crate) fn count_fault(b: Before, s: Section, n: u32) -> u32
 fn in_form(a: bool, b: bool, c: bool, d: bool, e: bool, n: u32) -> u32
     ensures { result ≡ cond (a || (b || (c || (d || (e || false))))) 1 n }
 {
-    if a {
-        return 1;
-    }
-    if b {
-        return 1;
-    }
-    if c {
-        return 1;
-    }
-    if d {
-        return 1;
-    }
-    if e {
+    if a || b || c || d || e {
         return 1;
     }
     n
@@ -100,10 +88,7 @@ pub(crate) fn step_fault(highest: i64, s: Step) -> u32
 fn mark_too_long(m: i64) -> bool
     ensures { result ≡ (not (is both m) && too_long m) }
 {
-    if m == BOTH {
-        return false;
-    }
-    too_long(m)
+    m != BOTH && too_long(m)
 }
 
 // A height that the sheet does not carry counts for nothing.

@@ -31,8 +31,7 @@ fn judge_section(j: Job, s: Section, b: Before, line: u32) -> Verdict
     let internals = j.internals;
     let profile = j.profile;
     let faces = j.faces;
-    let mut i: u32 = 0;
-    while i < n {
+    for i in 0..n {
         let k = i as usize;
         let number = match s {
             Section::V => given::year_fault(b.year),
@@ -60,7 +59,6 @@ fn judge_section(j: Job, s: Section, b: Before, line: u32) -> Verdict
                 line: line + 1 + i,
             };
         }
-        i += 1;
     }
     Verdict { number: 0, line: 0 }
 }

@@ -134,7 +134,7 @@ module _ (c : Joined-s) (d : Carried) where
         subst
         (λ (s : Section). EntriesAs s b d × (i < length (entries_of (carried (job turn)) s))
         × EntriesInOrder s d (take i (entries_of (carried (job turn)) s)))
-        e (u.entries, within (goal.at.Joined-s c).In-loop-i, c.loop-i.invariant.1 d u)
+        e (u.entries, within (goal.at.Joined-s c).In-loop-i, c.loop-i.invariant d u)
 
     found_as : (t : Section) → section turn ≡ t → Found t → Found (section turn)
     found_as t e f = subst Found (sym e) f
@@ -186,7 +186,7 @@ returns-then-number-ne0 c d u =
     (count-judged at_count_fault_number d u) c.if-number-ne0.true)
 
 pub loop-i-init : goal.loop-i-init
-loop-i-init c = (search rules, λ d u. tt)
+loop-i-init c d u = tt
 
 pub offset_bounds-winds-k : goal.offset_bounds-winds-k
 offset_bounds-winds-k c = omega (arith, room (goal.at.offset_bounds-winds-k c).In-loop-i W c.in-W.is)
@@ -229,7 +229,7 @@ returns c d u =
     whole at_count_fault_number d
     (alone-passed (section at_count_fault_number) d _ (lines at_count_fault_number)
     (counted at_faces_1 d u) c.loop-i.i (omega (arith, many at_count_fault_number))
-    (c.loop-i.invariant.1 d u))
+    (c.loop-i.invariant d u))
 
 pub returns-then-number-ne0-2 : goal.returns-then-number-ne0-2
 returns-then-number-ne0-2 c d u =
@@ -238,15 +238,13 @@ returns-then-number-ne0-2 c d u =
     let at_faces_1 = (goal.at.returns-then-number-ne0-2 c).After-faces-1 in
     let k = turn at_s d in
     whole k d (alone-entry (section k) d _ (lines k) (counted at_faces_1 d u) (i at_s d) _ (within at_loop_i)
-    (c.loop-i.invariant.1 d u) (fault at_s d u) c.if-number-ne0-2.true)
+    (c.loop-i.invariant d u) (fault at_s d u) c.if-number-ne0-2.true)
 
 pub loop-i-preserved : goal.loop-i-preserved
-loop-i-preserved c =
+loop-i-preserved c d u =
     let at_s = (goal.at.loop-i-preserved c).Joined-s in
     let at_loop_i = (goal.at.loop-i-preserved c).In-loop-i in
-    let at_faces_1 = (goal.at.loop-i-preserved c).After-faces-1 in (
-      omega arith,
-      λ d u. let k = turn at_s d in
-          alone-next (section k) d 0 (lines k) (counted at_faces_1 d u) (i at_s d) _ (within at_loop_i)
-          (c.loop-i.invariant.1 d u) (fault at_s d u) c.if-number-ne0-2.false,
-    )
+    let at_faces_1 = (goal.at.loop-i-preserved c).After-faces-1 in
+    let k = turn at_s d in
+    alone-next (section k) d 0 (lines k) (counted at_faces_1 d u) (i at_s d) _ (within at_loop_i)
+    (c.loop-i.invariant d u) (fault at_s d u) c.if-number-ne0-2.false

