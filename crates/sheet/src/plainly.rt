@@ -1,6 +1,7 @@
 // A line read in one pass, where it is plain: its bytes go straight to numbers. Any other is left to the code that
 // names its fault.
-ghost use Rattle.std.specs.Prelude.{◌≡◌, true, cond, [], ◌∷◌, ◌++◌, ◌+◌, ◌^◌, ◌≤◌, ◌<◌, ℕ, pos, length, get_or, take, drop, IfSome};
+ghost use Rattle.std.specs.Prelude.{◌≡◌, true, cond, [], ◌∷◌, ◌++◌, ◌+◌, ◌^◌, ◌≤◌, ◌<◌, ℕ, pos};
+ghost use Rattle.std.specs.Prelude.{length, get_or, take, drop, IfSome};
 ghost use Rattle.whole.specs.Digits.{digits};
 ghost use Rattle.sheet.specs.Said.{Ended, DigitsStand, NumberStands, MarkStands, HeightStands};
 ghost use Rattle.sheet.specs.Said.{NumbersStand, PlainFace};

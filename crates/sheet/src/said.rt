@@ -150,7 +150,13 @@ fn entry_at(sec: Section, s: &[u8], at: usize, ended: bool) -> Option<Numbers>
     }
 }
 
-pub(crate) fn entry_said(sec: Section, s: &[u8], at: usize, b: Before, ended: bool) -> Result<Numbers, u32>
+pub(crate) fn entry_said(
+    sec: Section,
+    s: &[u8],
+    at: usize,
+    b: Before,
+    ended: bool,
+) -> Result<Numbers, u32>
     requires { ended ≡ true → Ended s.now }
     ensures { result ≡ entry_said sec b (line_at s.now at) }
 {
@@ -176,7 +182,13 @@ fn count_by_fields(sec: Section, s: &[u8], at: usize, b: Before) -> Result<Count
     }
 }
 
-pub(crate) fn count_said(sec: Section, s: &[u8], at: usize, b: Before, ended: bool) -> Result<Counted, u32>
+pub(crate) fn count_said(
+    sec: Section,
+    s: &[u8],
+    at: usize,
+    b: Before,
+    ended: bool,
+) -> Result<Counted, u32>
     requires { ended ≡ true → Ended s.now }
     ensures { result ≡ count_said sec b (line_at s.now at) }
 {

@@ -33,7 +33,7 @@ module _ (c : At-loop-done) where
   is-faces : start.args.sec ≡ F
   is-faces =
       elim c.match-matches.branch [
-        in-F w ↦ w.in-F.is
+        | in-F w ↦ w.in-F.is
         | in_default w ↦ absurd (false≢true (sym w.matches-is ∙ told _ (ap not c.if-not-matches.false)))
       ]
 

@@ -17,4 +17,3 @@ invariant-loop-k l =
     (length l.number ≡ 6) × (l.next ≤ length l.s) × (l.k < l.count → l.next < length l.s)
     × ((i : ℕ) → l.k ≤ i → i < 6 → get_or l.number i (pos 0) ≡ pos 0) × Every Short (take l.k l.number)
     × (drop l.at l.s ≡ passed (cond (eqb l.k l.count) 10 32) (take l.k l.number) ++ drop l.next l.s)
-

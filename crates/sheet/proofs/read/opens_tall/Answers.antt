@@ -15,7 +15,7 @@ pub returns-then-s-eq0 : goal.returns-then-s-eq0
 returns-then-s-eq0 c =
     opens-low _
     (elim c.then-s-eq0.branch [
-      then-s-eq0-via-then-s-eq0 w ↦ empty-byte c.args.s.now w.if-s-eq0.true
+      | then-s-eq0-via-then-s-eq0 w ↦ empty-byte c.args.s.now w.if-s-eq0.true
       | then-s-eq0-via-else-s-eq0+then-s-ne86 w ↦ w.if-s-ne86.true
     ])
 

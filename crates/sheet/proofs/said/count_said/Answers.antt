@@ -29,7 +29,7 @@ returns c =
     ∙ ap (λ (y : ℤ). first (count_faults a.b.year a.sec letter y)) back
     ∙ p.0 in
     elim c.match-count_fault.branch [
-      in-0 k ↦ k.result-is
+      | in-0 k ↦ k.result-is
           ∙ sound _ _ (sym fault ∙ k.in-0.is)
           (λ i. record { next = sym p.1 i; count = (k.magnitude.ensures ∙ ap nat_abs back ∙ p.2) i })
       | in_default k ↦ k.result-is ∙ faulty _ _ (λ e. omega (arith, e, k.in_default)) fault
