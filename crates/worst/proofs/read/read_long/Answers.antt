@@ -63,10 +63,11 @@ returns-then-head-ne0 c =
     refused-is (goal.at.returns-then-head-ne0 c).After-read_into-head c.if-head-ne0.true
 
 pub six_of-requires : goal.six_of-requires
-six_of-requires c = (
-  record { few = (st c).few; stand = omega (arith, room c, c.read_into-head.auto) },
-  subst InOrder (sym ((st c).same (room c))) (st c).in_order,
-)
+six_of-requires c =
+    let accepted = (goal.at.six_of-requires c).Else-head-ne0 in (
+      record { few = (st accepted).few; stand = omega (arith, room accepted, c.read_into-head.auto) },
+      subst InOrder (sym ((st accepted).same (room accepted))) (st accepted).in_order,
+    )
 
 pub returns : goal.returns
 unfolding recorded

@@ -69,11 +69,12 @@ pub returns-then-head-gt24 : goal.returns-then-head-gt24
 returns-then-head-gt24 c = c.read_long.ensures
 
 pub few_six-requires : goal.few_six-requires
-few_six-requires c = (
-  omega (arith, room c),
-  record { few = (st c).few; stand = omega (arith, room c, c.read_into-head.auto) },
-  subst InOrder (sym ((st c).same (room c))) (st c).in_order,
-)
+few_six-requires c =
+    let accepted = (goal.at.few_six-requires c).Else-head-gt24 in (
+      omega (arith, room accepted),
+      record { few = (st accepted).few; stand = omega (arith, room accepted, c.read_into-head.auto) },
+      subst InOrder (sym ((st accepted).same (room accepted))) (st accepted).in_order,
+    )
 
 pub returns : goal.returns
 unfolding recorded
