@@ -33,8 +33,7 @@ fn put_section(buf: &mut [u8], at: usize, j: Job, sec: Section) -> usize
     let profile = j.profile;
     let faces = j.faces;
     let mut next = put_line(buf, at, count_line(sec, n));
-    let mut i: u32 = 0;
-    while i < n {
+    for i in 0..n {
         let k = i as usize;
         let x = match sec {
             Section::V => year_line(j.year),
@@ -60,7 +59,6 @@ fn put_section(buf: &mut [u8], at: usize, j: Job, sec: Section) -> usize
             }
         };
         next = put_line(buf, next, x);
-        i += 1;
     }
     next
 }

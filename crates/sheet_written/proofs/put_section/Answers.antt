@@ -97,7 +97,7 @@ module _ (c : Joined-sec) where
       of-section e = ap (λ (t : Section). held_line 0 (entry_of job t (i at_turn))) (sym e)
 
 pub loop-i-init : goal.loop-i-init
-loop-i-init c = (search rules, put-none c.put_line-next.ensures)
+loop-i-init c = put-none c.put_line-next.ensures
 
 pub overflow_cast-k : goal.overflow_cast-k
 overflow_cast-k c = record { fits = omega (arith, below-most c) }
@@ -126,22 +126,17 @@ offset_bounds-faces-k c = omega (arith, below-most (goal.at.offset_bounds-faces-
 pub bounds-faces-k : goal.bounds-faces-k
 bounds-faces-k c = below-most (goal.at.bounds-faces-k c).In-loop-i
 
-pub overflow_add-i : goal.overflow_add-i
-overflow_add-i c = record { fits = omega (arith, below-most (goal.at.overflow_add-i c).In-loop-i) }
-
 pub loop-i-preserved : goal.loop-i-preserved
 loop-i-preserved c =
     let at_sec = (goal.at.loop-i-preserved c).Joined-sec in
-    let at_loop_i = (goal.at.loop-i-preserved c).In-loop-i in (
-      omega arith,
-      put-entry (entries_of (carried (job at_sec)) (section at_sec)) (i at_loop_i) c.match-sec.x (within at_loop_i)
-          (entry-held (job at_sec) (section at_sec) (i at_loop_i) c.match-sec.x (within at_loop_i) (made at_sec))
-          c.loop-i.invariant.1 c.put_line-next-in-loop-i.ensures,
-    )
+    let at_loop_i = (goal.at.loop-i-preserved c).In-loop-i in
+    put-entry (entries_of (carried (job at_sec)) (section at_sec)) (i at_loop_i) c.match-sec.x (within at_loop_i)
+    (entry-held (job at_sec) (section at_sec) (i at_loop_i) c.match-sec.x (within at_loop_i) (made at_sec))
+    c.loop-i.invariant c.put_line-next-in-loop-i.ensures
 
 pub shape_of-buf : goal.shape_of-buf
 shape_of-buf c =
-    put-length c.loop-i.invariant.1 ∙ put-length c.put_line-next.ensures
+    put-length c.loop-i.invariant ∙ put-length c.put_line-next.ensures
 
 pub returns : goal.returns
 returns c =
@@ -149,4 +144,4 @@ returns c =
     put_all c.args.sec es c.loop-i.i c.count_line.result
     (omega (arith, c.loop-i-test.false, c.entry_count-n.ensures))
     (c.count_line.ensures ∙ ap (λ (k' : ℕ). held_line 0 (count_line c.args.sec k')) c.entry_count-n.ensures)
-    c.put_line-next.ensures c.loop-i.invariant.1
+    c.put_line-next.ensures c.loop-i.invariant

@@ -1,5 +1,4 @@
 -- `put_section` meets its contract: the count is written, and so are the first i entries.
-use Prim.Native.Nat.{◌≤◌, ◌-◌}
 use lib.ListN.{take}
 use Rattle.lines.specs.Lines.{text_of_lines}
 use Rattle.page.specs.Writing.{Put}
@@ -9,8 +8,4 @@ use Rattle.sheet_written.proofs.put_section.Given as goal
 
 abbrev pub invariant-loop-i : goal.invariant-loop-i
 invariant-loop-i l =
-    (l.i ≤ l.n) × Put l.initial.buf l.initial.next (text_of_lines (take l.i (entries_of
-    (carried l.j) l.sec))) l.buf l.next
-
-abbrev pub decreases-loop-i : goal.decreases-loop-i
-decreases-loop-i l = l.n - l.i
+    Put l.initial.buf l.initial.next (text_of_lines (take l.i (entries_of (carried l.j) l.sec))) l.buf l.next

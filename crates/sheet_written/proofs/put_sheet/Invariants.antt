@@ -10,5 +10,3 @@ abbrev pub invariant-loop-i : goal.invariant-loop-i
 invariant-loop-i l =
     (l.i ≤ l.i-end) × PutSections (entries_of (carried l.j)) (has_heights l.j.year) l.i l.initial.buf l.buf l.next
 
-abbrev pub decreases-loop-i : goal.decreases-loop-i
-decreases-loop-i l = l.i-end - l.i
