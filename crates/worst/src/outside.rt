@@ -89,7 +89,10 @@ impl Table {
         }
     }
 
-    // The four zones of the walls or of the roof, which stand in the table from then on.
+    // The four zones of the walls or of the roof, which stand in the table from then on. By itself, since it is called
+    // seldom and what finds them is called for each face.
+    #[cold]
+    #[inline(never)]
     fn fill(&mut self, direction: i64, from: u8)
         requires { Begins from × Placed direction from }
         ensures { (self.new.building ≡ self.old.building)
