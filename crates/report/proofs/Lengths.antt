@@ -50,11 +50,11 @@ use Rattle.worst.proofs.Accepted.{given-sound, given-in-range}
 use Rattle.worst.proofs.Promises.{extreme-shows, stored-shows}
 use Rattle.worst.proofs.SumsWithin.{within-at, side-small, telling-within}
 use Rattle.report.specs.Lines.{spaced, case_numbers, total_text, extreme_text, axis_text, six_text, x, y, z}
-use Rattle.report.specs.Report.{report_text, refused_text}
+use Rattle.report.specs.Report.{report_text, stored_text, refused_text}
 use Rattle.report.specs.Short.{Fair, Digits, Printable, Both, AllSix, faces_shown}
 use Rattle.report.specs.Short.{SixPrintable, after_word}
 use Rattle.report.proofs.Lines.{spaced-none, six-parts, long-total, short-total}
-use Rattle.report.proofs.Reports.{refused-parts}
+use Rattle.report.proofs.Reports.{refused-parts, Reckons}
 
 -- ---- numbers after spaces
 
@@ -216,6 +216,29 @@ module _ (c : Carried) (o : InOrder c) where
       where
         faces-are : faces_shown (six_by told c) ≡ length c.faces
         faces-are = ap (λ (e : Extreme). e.faces) (stored-shows X Greatest c o told).named
+
+-- what is reckoned by a job's own sums, and by stored ones
+pub as-report : Reckons reckoned report_text
+unfolding report_text
+as-report =
+    record {
+      shown = λ c. record { year = c.year; six = six_extremes c };
+      own = λ v. refl;
+      fine = λ c. refl;
+      lines = λ c. refl;
+      printable = report-prints;
+    }
+
+pub as-stored : (t : Stored) → Reckons (reckoned_by t) (stored_text t)
+unfolding stored_text
+as-stored t =
+    record {
+      shown = λ c. record { year = c.year; six = six_by (telling t c) c };
+      own = λ v. refl;
+      fine = λ c. refl;
+      lines = λ c. refl;
+      printable = λ c o. stored-prints c o t;
+    }
 
 -- ---- six lines
 

@@ -68,32 +68,36 @@ plain-sound j = go (judged j) (judged-sound j)
 
 -- ---- what was reckoned of it
 
--- where what is reckoned goes by what is read, a refusal is its own and the six lines are the text of what it carries
-module _ (reckon : Reading → Result Reckoning Verdict) (text : Carried → List ℕ) (shown : Carried → Reckoning)
-    (own : (v : Verdict) → reckon (Refused v) ≡ Err v) (fine : (c : Carried) → reckon (Accepted c) ≡ Ok (shown c))
-    (lines : (c : Carried) → six_text (shown c).year (shown c).six ≡ text c)
-    (printable : (c : Carried) → InOrder c → SixPrintable (shown c))
+-- what is reckoned goes by what is read: a refusal is its own, and the six lines are the text of what it carries
+pub record Reckons (reckon : Reading → Result Reckoning Verdict) (text : Carried → List ℕ) : Type 0 where
+  pub shown : Carried → Reckoning
+  pub own : (v : Verdict) → reckon (Refused v) ≡ Err v
+  pub fine : (c : Carried) → reckon (Accepted c) ≡ Ok (shown c)
+  pub lines : (c : Carried) → six_text (shown c).year (shown c).six ≡ text c
+  pub printable : (c : Carried) → InOrder c → SixPrintable (shown c)
+
+module _ {reckon : Reading → Result Reckoning Verdict} {text : Carried → List ℕ} (as : Reckons reckon text)
     {x : Reading} (sound : Sound x) {r : Result Reckoning Verdict} (e : r ≡ reckon x) where
-  accepted-holds : (P : Reckoning → Type 0) → ((c : Carried) → InOrder c → x ≡ Accepted c → P (shown c))
+  accepted-holds : (P : Reckoning → Type 0) → ((c : Carried) → InOrder c → x ≡ Accepted c → P (as.shown c))
       → IfOk (reckon x) P
   accepted-holds P h = go x sound h
     where
-      go : (y : Reading) → Sound y → ((c : Carried) → InOrder c → y ≡ Accepted c → P (shown c)) → IfOk (reckon y) P
-      go y (refuses v some) k = subst (λ (q : Result Reckoning Verdict). IfOk q P) (sym (own v)) tt
-      go y (accepts c o) k = subst (λ (q : Result Reckoning Verdict). IfOk q P) (sym (fine c)) (k c o refl)
+      go : (y : Reading) → Sound y → ((c : Carried) → InOrder c → y ≡ Accepted c → P (as.shown c)) → IfOk (reckon y) P
+      go y (refuses v some) k = subst (λ (q : Result Reckoning Verdict). IfOk q P) (sym (as.own v)) tt
+      go y (accepts c o) k = subst (λ (q : Result Reckoning Verdict). IfOk q P) (sym (as.fine c)) (k c o refl)
 
   refused-holds : IfErr (reckon x) (λ v. x ≡ Refused v)
   refused-holds = go x sound
     where
       go : (y : Reading) → Sound y → IfErr (reckon y) (λ v. y ≡ Refused v)
       go y (refuses v some) =
-          subst (λ (q : Result Reckoning Verdict). IfErr q (λ u. Refused v ≡ Refused u)) (sym (own v)) refl
+          subst (λ (q : Result Reckoning Verdict). IfErr q (λ u. Refused v ≡ Refused u)) (sym (as.own v)) refl
       go y (accepts c o) =
-          subst (λ (q : Result Reckoning Verdict). IfErr q (λ u. Accepted c ≡ Refused u)) (sym (fine c)) tt
+          subst (λ (q : Result Reckoning Verdict). IfErr q (λ u. Accepted c ≡ Refused u)) (sym (as.fine c)) tt
 
   -- six lines can be printed, and are its text
   pub prints : {w : Reckoning} → r ≡ Ok w → SixPrintable w
-  prints is = IfOk-at_ok SixPrintable (sym e ∙ is) (accepted-holds SixPrintable (λ c o k. printable c o))
+  prints is = IfOk-at_ok SixPrintable (sym e ∙ is) (accepted-holds SixPrintable (λ c o k. as.printable c o))
 
   pub wrote : {w : Reckoning} → r ≡ Ok w → (buf : List ℕ) {o : Writing} {after : List ℕ}
       → (o ≡ writing (six_text w.year w.six) buf) × (after ≡ buffer_after (six_text w.year w.six) buf)
@@ -103,8 +107,8 @@ module _ (reckon : Reading → Result Reckoning Verdict) (text : Carried → Lis
           (o ≡ writing (six_text w.year w.six) buf) × (after ≡ buffer_after (six_text w.year w.six) buf)
           → (o ≡ job_writing text x buf) × (after ≡ job_buffer text x buf) in
       IfOk-at_ok P (sym e ∙ is) (accepted-holds P (λ c h k p. (
-        p.0 ∙ ap (λ t. writing t buf) (lines c) ∙ sym (ap (λ (y : Reading). job_writing text y buf) k),
-        p.1 ∙ ap (λ t. buffer_after t buf) (lines c) ∙ sym (ap (λ (y : Reading). job_buffer text y buf) k),
+        p.0 ∙ ap (λ t. writing t buf) (as.lines c) ∙ sym (ap (λ (y : Reading). job_writing text y buf) k),
+        p.1 ∙ ap (λ t. buffer_after t buf) (as.lines c) ∙ sym (ap (λ (y : Reading). job_buffer text y buf) k),
       )))
 
   -- a refusal is the reading's own
@@ -117,3 +121,9 @@ module _ (reckon : Reading → Result Reckoning Verdict) (text : Carried → Lis
     sym (ap (λ (y : Reading). job_writing text y buf) (refuses-as is)),
     sym (ap (λ (y : Reading). job_buffer text y buf) (refuses-as is)),
   )
+
+  -- and what is accepted is what it carries
+  pub accepts-as : {w : Reckoning} → r ≡ Ok w → (c : Carried) × (x ≡ Accepted c)
+  accepts-as is =
+      IfOk-at_ok (λ (w : Reckoning). (c : Carried) × (x ≡ Accepted c)) (sym e ∙ is)
+      (accepted-holds (λ (w : Reckoning). (c : Carried) × (x ≡ Accepted c)) (λ c o k. (c, k)))

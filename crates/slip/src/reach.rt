@@ -19,8 +19,8 @@ use lines::{Line, field_at, line_at};
 use rules::shape::{section_at, section_count};
 use rules::{Before, Kind, Section};
 
-// Behind some lines of a sheet: the line that is called for, if one is, what it is judged by, and how many entries of its section
-// were read.
+// Behind some lines of a sheet: the line that is called for, if one is, what it is judged by, and how many entries of
+// its section were read.
 #[derive(Clone, Copy)]
 pub struct Reached {
     pub called: Option<Kind>,

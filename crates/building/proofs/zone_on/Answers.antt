@@ -70,4 +70,5 @@ returns-else-flat c =
       | else-among+else-sloped w ↦ w.value-is ∙ or_there w.if-among.false c.among.ensures
           (and_here (among E H z) w.if-sloped.false (said slopes k w.sloped.ensures f))
     ] in
-    or_there c.if-among-2.false first (and_here (among E F z) c.if-flat.false (said flat k c.flat.ensures f)) ∙ sym (or_assoc wall slope level)
+    or_there c.if-among-2.false first (and_here (among E F z) c.if-flat.false (said flat k c.flat.ensures f))
+    ∙ sym (or_assoc wall slope level)

@@ -87,5 +87,6 @@ returns c =
     let k = c.args.s.kind in
     c.ranged.ensures
     ∙ (λ i. ranged 6 (to_z_pos w64 (up_small at_along_scale) i) (to_z_pos w64 (down-small at_along_scale) i))
-    ∙ (λ i. ranged 6 (pos (rounded_up (c.roof_of-roof.ensures.least i * across at_along_scale) (c.along-scale.ensures i)))
+    ∙ (λ i. ranged 6
+    (pos (rounded_up (c.roof_of-roof.ensures.least i * across at_along_scale) (c.along-scale.ensures i)))
     (pos (c.roof_of-roof.ensures.greatest i * across at_along_scale / c.along-scale.ensures i)))
