@@ -7,6 +7,7 @@ use native.Mathlib.Omega.{arith}
 use lib.ListN.{get_or, set}
 use Rattle.whole.specs.Lists.{first_of}
 use Rattle.building.specs.declared.Building.{Building}
+use Rattle.pair.specs.declared.Pair.{Pair}
 use Rattle.building.specs.Places.{F}
 use Rattle.entry.specs.declared.Wind.{Wind}
 use Rattle.entry.specs.declared.Step.{Step}
@@ -91,7 +92,7 @@ module _ (c : After-zone_in) where
       pick_of s axis a.args.s.building (at axis s a.args.under).wind (factor_of profile face) face
 
   -- with those of face i they are the alternatives of one face more
-  next : (profile : List Step) (axis : Axis) (t : Tops) {old new : Extremes} {high low : ℕ}
+  next : (profile : List Step) (axis : Axis) (t : Tops Pair) {old new : Extremes} {high low : ℕ}
       → new ≡ put_at i high low old
       → old ≡ with_alternatives t a.args.faces (first profile i axis Greatest) (first profile i axis Least)
       → high ≡ pick profile axis Greatest → low ≡ pick profile axis Least
