@@ -3,21 +3,21 @@ use Prim.Native.Nat.{ℕ, ◌*◌, ◌≤◌, ◌<◌}
 use mathlib.Core.Path.{◌≡◌, refl}
 use mathlib.Core.List.{List}
 use native.Mathlib.Omega.{arith}
-use lib.IntN.{ℤ}
+use lib.IntN.{pos}
 use lib.ListN.{length}
 use Rattle.whole.specs.Lists.{first_of, Every}
 use Rattle.whole.proofs.Lists.{every-by}
 use Rattle.lines.specs.Lines.{lines_in}
-use Rattle.entry.specs.Flat.{per_face, faces_in}
-use Rattle.entry.proofs.Flat.{faces-none, faces-back}
+use Rattle.entry.specs.Flat.{per_face, faces_in, flat_faces}
+use Rattle.entry.proofs.Flat.{faces-back}
 use Rattle.job.specs.Carried.{Carried, no_face, most_faces, recorded}
 use Rattle.job.specs.InOrder.{InOrder}
 use Rattle.job.specs.Setting.{record_with}
-use Rattle.job.specs.Walk.{Reading, Accepted, Refused}
+use Rattle.job.specs.Walk.{Accepted}
 use Rattle.job.proofs.InOrder.{accepted-in-order}
 use Rattle.job.proofs.Room.{few-faces}
-use Rattle.sheet.specs.Head.{head_of, faces_read, flat_after}
-use Rattle.sheet.specs.Sheet.{reading, answer}
+use Rattle.sheet.specs.Head.{head_in}
+use Rattle.sheet.specs.Sheet.{reading}
 
 pub reading-in-order : (s : List ℕ) (c : Carried) → reading s ≡ Accepted c → InOrder c
 unfolding reading
@@ -27,33 +27,18 @@ reading-in-order s c a = accepted-in-order (lines_in s) c a
 pub small-zones : (c : Carried) → InOrder c → Every (λ f. f.zone < 256) c.faces
 small-zones c o = every-by (λ f i. omega (arith, i.zone.high)) c.faces o.faces
 
--- the faces of a reading, from the numbers in a list with room for them
-pub faces-read : (s : List ℕ) (lent : List ℤ) → per_face * length (faces_read (reading s)) ≤ length lent
-    → faces_in (head_of (reading s)).faces (flat_after (reading s) lent) ≡ faces_read (reading s)
-faces-read s lent = go (reading s) refl
-  where
-    go : (r : Reading) → reading s ≡ r → per_face * length (faces_read r) ≤ length lent
-        → faces_in (head_of r).faces (flat_after r lent) ≡ faces_read r
-    go (Accepted c) a room = faces-back c.faces (small-zones c (reading-in-order s c a)) (length lent) room
-    go (Refused v) a room = faces-none (flat_after (Refused v) lent)
+-- the faces of what was read, from the numbers in a list with room for them
+pub faces-read : (s : List ℕ) (c : Carried) → reading s ≡ Accepted c → (n : ℕ) → per_face * length c.faces ≤ n
+    → faces_in (length c.faces) (first_of (pos 0) n (flat_faces c.faces)) ≡ c.faces
+faces-read s c a n room = faces-back c.faces (small-zones c (reading-in-order s c a)) n room
 
 -- no more than a record has room for
-pub few-read : (s : List ℕ) → (length (faces_read (reading s)) ≤ most_faces)
-    × ((head_of (reading s)).faces ≤ most_faces)
-few-read s = go (reading s) refl
-  where
-    go : (r : Reading) → reading s ≡ r → (length (faces_read r) ≤ most_faces) × ((head_of r).faces ≤ most_faces)
-    go (Accepted c) a = let h = few-faces c (reading-in-order s c a) in (h, h)
-    go (Refused v) a = (omega arith, omega arith)
+pub few-read : (s : List ℕ) (c : Carried) → reading s ≡ Accepted c → length c.faces ≤ most_faces
+few-read s c a = few-faces c (reading-in-order s c a)
 
 -- the record of what was read, in parts
-pub answer-parts : (r : Reading)
-    → answer r ≡ record {
-      verdict = (head_of r).verdict;
-      job =
-          record_with (head_of r).setting
-          (record { count = (head_of r).faces; entry = first_of no_face most_faces (faces_read r) });
-    }
+pub recorded-parts : (c : Carried)
+    → recorded c ≡ record_with (head_in c).setting
+    (record { count = length c.faces; entry = first_of no_face most_faces c.faces })
 unfolding recorded
-answer-parts (Accepted c) = refl
-answer-parts (Refused v) = refl
+recorded-parts c = refl

@@ -8,8 +8,10 @@ use mathlib.Core.Bool.{Bool, true, false}
 use lib.IntN.{ℤ, pos}
 use lib.ListN.{length, get_or, drop, drop_of_length-le}
 use lib.Seq.{drop-cons}
+use Rattle.std.specs.Prelude.{Result}
 use Rattle.whole.specs.Lists.{first_of}
 use Rattle.whole.proofs.Lists.{first_of-length}
+use Rattle.verdict.specs.declared.Verdict.{Verdict}
 use Rattle.verdict.specs.Verdict.{refusal}
 use Rattle.lines.specs.declared.Line.{Line}
 use Rattle.lines.specs.Lines.{lines_in}
@@ -243,7 +245,8 @@ module _ {lent : ℕ} {s : List ℕ} {h : Bool} {sec : Section} {i : ℕ} {b : B
 
 module _ {w z : Reading} (e : z ≡ w) {m n : ℕ} (same : m ≡ n) {after : List ℤ}
     (list : after ≡ first_of (pos 0) m (flat_faces (faces_read w))) where
-  pub told-as : {r : Head} → r ≡ head_of w → (r ≡ head_of z) × (after ≡ first_of (pos 0) n (flat_faces (faces_read z)))
+  pub told-as : {r : Result Head Verdict} → r ≡ head_of w
+      → (r ≡ head_of z) × (after ≡ first_of (pos 0) n (flat_faces (faces_read z)))
   told-as head =
       (head ∙ ap head_of (sym e), list ∙ (λ i. first_of (pos 0) (same i) (flat_faces (faces_read (sym e i)))))
 

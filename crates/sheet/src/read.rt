@@ -1,7 +1,6 @@
 // A sheet read: its sections in order, each its count and as many entries, up to the first fault; and nothing after
 // them. The faces are put into a lent list, and no record is made for the lines.
-ghost use Rattle.std.specs.Prelude.{◌≡◌};
-ghost use Rattle.verdict.specs.Verdict.{accepted};
+ghost use Rattle.std.specs.Prelude.{◌≡◌, Ok};
 ghost use Rattle.lines.specs.Lines.{lines_in};
 ghost use Rattle.job.specs.Carried.{nothing};
 ghost use Rattle.job.specs.Walk.{Refused, verdict, walk, sheet};
@@ -21,11 +20,9 @@ use rules::shape::{section_at, section_count};
 use rules::{Before, Section};
 use verdict::Verdict;
 
-// What comes of reading without a record: accepted or refused, all of the job but its faces, and how many these are;
-// all zero where it is refused.
+// What is read without a record: all of the job but its faces, and how many these are.
 #[derive(Clone, Copy)]
 pub struct Head {
-    pub verdict: Verdict,
     pub setting: Setting,
     pub faces: u32,
 }
@@ -37,21 +34,16 @@ pub struct Read {
     pub job: Job,
 }
 
-fn refused(verdict: Verdict, flat: &mut [i64]) -> Head
+fn refused(verdict: Verdict, flat: &mut [i64]) -> Result<Head, Verdict>
     ensures { (result ≡ head_of (Refused verdict))
         × (flat.new ≡ flat_after (Refused verdict) flat.old) }
 {
     clear(flat);
-    let setting = no_setting();
-    Head {
-        verdict,
-        setting,
-        faces: 0,
-    }
+    Err(verdict)
 }
 
-fn accepted(b: Before, winds: Winds, internals: Internals, profile: Profile, faces: u32) -> Head
-    ensures { result ≡ record { verdict = accepted; setting = setting_of b winds internals profile; faces = faces } }
+fn accepted(b: Before, winds: Winds, internals: Internals, profile: Profile, faces: u32) -> Result<Head, Verdict>
+    ensures { result ≡ Ok (record { setting = setting_of b winds internals profile; faces = faces }) }
 {
     let building = b.building;
     let setting = Setting {
@@ -61,11 +53,7 @@ fn accepted(b: Before, winds: Winds, internals: Internals, profile: Profile, fac
         internals,
         profile,
     };
-    Head {
-        verdict: Verdict { number: 0, line: 0 },
-        setting,
-        faces,
-    }
+    Ok(Head { setting, faces })
 }
 
 // Whether the text opens a sheet with heights; a first line that is too long for a sheet is refused either way. A
@@ -79,8 +67,8 @@ fn opens_tall(s: &[u8]) -> bool
     letter_of(field_at(line_at(s, 0), 0)) == b'V'
 }
 
-// What the text s says, with the faces in a lent list as far as it has room.
-pub fn read_into(s: &[u8], flat: &mut [i64]) -> Head
+// What the text s says, with the faces in a lent list as far as it has room; a refusal leaves zeros there.
+pub fn read_into(s: &[u8], flat: &mut [i64]) -> Result<Head, Verdict>
     ensures { (result ≡ head_of (reading s.now))
         × (flat.new ≡ flat_after (reading s.now) flat.old) }
 {
@@ -170,8 +158,10 @@ pub fn verdict_of(s: &[u8]) -> Verdict
     ensures { result ≡ verdict (reading s.now) }
 {
     let mut none = [0i64; 1];
-    let head = read_into(s, &mut none);
-    head.verdict
+    match read_into(s, &mut none) {
+        Ok(_) => Verdict { number: 0, line: 0 },
+        Err(v) => v,
+    }
 }
 
 // What the text s says, as a record.
@@ -179,8 +169,17 @@ pub fn read_sheet(s: &[u8]) -> Read
     ensures { result ≡ answer (reading s.now) }
 {
     let mut flat = [0i64; MOST_NUMBERS];
-    let head = read_into(s, &mut flat);
-    let verdict = head.verdict;
-    let job = with_faces(head.setting, faces_in(&flat, head.faces));
-    Read { verdict, job }
+    match read_into(s, &mut flat) {
+        Ok(head) => {
+            let job = with_faces(head.setting, faces_in(&flat, head.faces));
+            Read {
+                verdict: Verdict { number: 0, line: 0 },
+                job,
+            }
+        }
+        Err(v) => {
+            let job = with_faces(no_setting(), faces_in(&flat, 0));
+            Read { verdict: v, job }
+        }
+    }
 }

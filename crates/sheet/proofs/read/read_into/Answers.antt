@@ -9,7 +9,8 @@ use lib.ListN.{length, get_or, replicate}
 use lib.Seq.{sets, length-sets}
 use Rattle.whole.specs.Lists.{first_of}
 use Rattle.whole.proofs.Lists.{first_of-length}
-use Rattle.verdict.specs.Verdict.{accepted, refusal}
+use Rattle.std.specs.Prelude.{Ok}
+use Rattle.verdict.specs.Verdict.{refusal}
 use Rattle.field.specs.declared.Field.{Field}
 use Rattle.lines.specs.declared.Line.{Line}
 use Rattle.lines.specs.Held.{held, line_at}
@@ -412,4 +413,4 @@ returns c =
     let r = c.loop-i.invariant.2.1 in
     let k = r.keeps in
     told-as (end-accepted r (all at_loop_i) c.if-next-s.false) (long-still at_loop_i) (ap (λ (m : Kept). m.list) k)
-    (c.accepted.ensures ∙ (λ i. record { verdict = accepted; setting = (k i).setting; faces = (k i).faces }))
+    (c.accepted.ensures ∙ (λ i. Ok (record { setting = (k i).setting; faces = (k i).faces })))

@@ -1,13 +1,8 @@
--- `refused` meets its contract.
-use mathlib.Core.Path.{ap}
+-- `refused` meets its contract: a cleared list is that of a refusal.
+use mathlib.Core.Path.{refl}
 use Rattle.entry.specs.Flat.{flat_faces}
-use Rattle.job.specs.declared.Setting.{Setting}
 use Rattle.sheet.proofs.read.refused.Goals as goal
 
 pub returns : goal.returns
 unfolding flat_faces
-returns c =
-    let v = c.args.verdict in (
-      ap (λ (j : Setting). record { verdict = v; setting = j; faces = 0 }) c.no_setting-setting.ensures,
-      c.clear.ensures,
-    )
+returns c = (refl, c.clear.ensures)

@@ -1,88 +1,44 @@
 -- `read::read_six` meets its contract: up to 24 faces stand in the shorter list, and of more all are read anew.
-use mathlib.Core.Path.{◌≡◌, sym, ap, ap₂, ◌∙◌, subst}
+use mathlib.Core.Path.{◌∙◌}
+use mathlib.Core.List.{List}
 use Prim.Native.Nat.{◌*◌, ◌≤◌}
 use native.Mathlib.Omega.{arith}
 use mir.Syntax.{w64}
-use mathlib.Core.List.{List}
 use lib.IntN.{ℤ, pos}
 use lib.ListN.{replicate}
 use mir.ValLaws.{to_z-of_z}
 use borrow.Author.Rules.{rules}
-use Rattle.std.specs.Prelude.{Result, Ok}
-use Rattle.verdict.specs.declared.Verdict.{Verdict}
-use Rattle.job.specs.Carried.{recorded}
-use Rattle.job.specs.InOrder.{InOrder}
-use Rattle.sheet.specs.declared.read.Head.{Head}
-use Rattle.worst.specs.declared.Six.{Six}
-use Rattle.worst.specs.declared.Reckoning.{Reckoning}
-use Rattle.worst.specs.Worst.{reckoned, six_extremes}
-use Rattle.worst.proofs.ReadSheet.{Stands, read-refused, read-stands}
-use Rattle.job.specs.Walk.{Refused}
-use Rattle.sheet.specs.Sheet.{reading}
-use Rattle.worst.proofs.read.read_six.Goals.{Else-head-gt24, After-read_into-head, Else-head-gt24, Else-head-ne0, Start}
+use Rattle.building.proofs.Judged.{passed_on}
+use Rattle.worst.proofs.ReadSheet.{Stands, read-refused, read-stands, stands-in-order, stands-reckoned}
+use Rattle.worst.proofs.read.read_six.Goals.{Else-head-gt24}
 use Rattle.worst.proofs.read.read_six.Goals as goal
-
-abbrev told : ℤ → Six → Result Reckoning Verdict
-told year six = Ok (record { year = year; six = six })
 
 abbrev zeros : List ℤ
 zeros = replicate 144 (pos 0)
 
--- what was read
-module _ (r : After-read_into-head) where
-  abbrev start : Start
-  start = (goal.at.After-read_into-head r).Start
-
-  refused-is : (r.read_into-head.result.verdict.number ≡ 0 → ⊥)
-      → reckoned (Refused r.read_into-head.result.verdict) ≡ reckoned (reading start.args.s.now)
-  refused-is h =
-      read-refused start.args.s.now zeros r.read_into-head.result r.read_into-head.new.flat
-      r.read_into-head.ensures.0 r.read_into-head.ensures.1 h
-
-  module _ (z : r.read_into-head.result.verdict.number ≡ 0) where
-    stands : Stands start.args.s.now zeros r.read_into-head.result r.read_into-head.new.flat
-        r.read_into-head.ensures.0 r.read_into-head.ensures.1
-    stands =
-        read-stands start.args.s.now zeros r.read_into-head.result r.read_into-head.new.flat
-        r.read_into-head.ensures.0 r.read_into-head.ensures.1 z
-
--- accepted, at the call of the engine
+-- what was read, of so few faces
 module _ (c : Else-head-gt24) where
-  abbrev e : Else-head-ne0
-  e = (goal.at.Else-head-gt24 c).Else-head-ne0
+  stands : Stands c.args.s.now c.in_ok-head.head c.read_into.new.flat 144
+  stands = read-stands c.args.s.now c.read_into.ensures.0 c.in_ok-head.was zeros c.read_into.ensures.1
 
-  abbrev r : After-read_into-head
-  r = (goal.at.Else-head-ne0 e).After-read_into-head
-
-  abbrev st : Stands r.args.s.now zeros r.read_into-head.result r.read_into-head.new.flat
-      r.read_into-head.ensures.0 r.read_into-head.ensures.1
-  st = stands r e.if-head-ne0.false
-
-  room : 6 * r.read_into-head.result.faces ≤ 144
+  room : 6 * c.in_ok-head.head.faces ≤ 144
   room = omega (arith, c.if-head-gt24.false)
 
-pub returns-then-head-ne0 : goal.returns-then-head-ne0
-returns-then-head-ne0 c =
-    refused-is (goal.at.returns-then-head-ne0 c).After-read_into-head c.if-head-ne0.true
-
-pub returns-then-head-gt24 : goal.returns-then-head-gt24
-returns-then-head-gt24 c = c.read_long.ensures
+pub returns-in_err-head : goal.returns-in_err-head
+returns-in_err-head c =
+    passed_on c.from_residual.result c.from_residual.ensures.1
+    ∙ read-refused c.args.s.now c.read_into.ensures.0 c.in_err-head.was
 
 pub few_six-requires : goal.few_six-requires
 few_six-requires c =
     let accepted = (goal.at.few_six-requires c).Else-head-gt24 in (
       omega (arith, room accepted),
-      record { few = (st accepted).few; stand = omega (arith, room accepted, c.read_into-head.auto) },
-      subst InOrder (sym ((st accepted).same (room accepted))) (st accepted).in_order,
+      record { few = (stands accepted).few; stand = omega (arith, room accepted, c.read_into.auto) },
+      stands-in-order (stands accepted) (room accepted),
     )
 
 pub returns : goal.returns
-unfolding recorded
 returns c =
     let accepted = (goal.at.returns c).Else-head-gt24 in
-    let h = c.read_into-head.result in
-    ap₂ told
-    (to_z-of_z w64 h.setting.year (search rules)
-    ∙ ap (λ (k : Head). k.setting.year) (st accepted).head)
-    (c.few_six.ensures ∙ ap six_extremes ((st accepted).same (room accepted)))
-    ∙ ap reckoned (sym (st accepted).reads)
+    stands-reckoned (stands accepted) (room accepted)
+    (to_z-of_z w64 c.in_ok-head.head.setting.year (search rules)) c.few_six.ensures
