@@ -1,44 +1,45 @@
 -- `refusals::of_add`: one check after the other.
-use mathlib.Core.Path.{sym, ap₂, ◌∙◌}
+use mathlib.Core.Path.{◌≡◌, sym, ap, ◌∙◌}
+use Prim.Native.Nat.{◌+◌}
 use native.Mathlib.Omega.{arith}
-use Prim.Native.Nat.{◌≤◌}
-use Rattle.job.specs.Carried.{carried, most_faces}
-use Rattle.job.specs.InOrder.{InOrder}
-use Rattle.verdict.specs.Verdict.{◌or_then◌}
-use Rattle.edits.specs.Edits.{edit_verdict}
-use Rattle.edits.proofs.Counts.{held-in-order, roomed}
-use Rattle.edits.proofs.Checks.{held-refused, held-passed}
-use Rattle.edits.proofs.refusals.of_add.Goals.{After-judge-held, Else-held-ne0, Start}
+use Rattle.building.proofs.Judged.{passed_on}
+use Rattle.edits.specs.Checked.{checked}
+use Rattle.edits.specs.Edits.{held_job, full, new_face, edit_verdict}
+use Rattle.edits.proofs.Counts.{roomed}
+use Rattle.edits.proofs.Checks.{at-first, at-second, at-third, held-passed}
+use Rattle.edits.proofs.refusals.of_add.Goals.{After-checked}
 use Rattle.edits.proofs.refusals.of_add.Goals as goal
 
--- the held job is in order
-module _ (c : Else-held-ne0) where
-  abbrev judged : After-judge-held
-  judged = (goal.at.Else-held-ne0 c).After-judge-held
+held : (c : After-checked) → checked (held_job c.args.j) ≡ c.checked.result
+held c = sym (c.checked.ensures ∙ ap checked c.judge.ensures)
 
-  abbrev start : Start
-  start = (goal.at.After-judge-held judged).Start
-
-  in_order : InOrder (carried start.args.j)
-  in_order = held-in-order start.args.j judged.judge-held.result judged.judge-held.ensures c.if-held-ne0.false
-
-  few : start.args.j.faces.count ≤ most_faces
-  few = roomed start.args.j in_order
-
-pub returns-then-held-ne0 : goal.returns-then-held-ne0
+pub returns-in_err-checked : goal.returns-in_err-checked
 unfolding edit_verdict
-returns-then-held-ne0 c = held-refused c.args.j _ c.judge-held.ensures c.if-held-ne0.true
+returns-in_err-checked c =
+    let a = c.args in
+    let h = held (goal.at.returns-in_err-checked c).After-checked ∙ c.in_err-checked.was in
+    passed_on c.from_residual.result c.from_residual.ensures.1
+    ∙ sym (at-first (held_job a.j) (full a.j) (new_face (a.j.faces.count + 1) a.f a.j) h)
 
-pub overflow_add-j : goal.overflow_add-j
-overflow_add-j c = omega (arith, few (goal.at.overflow_add-j c).Else-held-ne0)
+pub returns-in_err-full : goal.returns-in_err-full
+unfolding edit_verdict
+returns-in_err-full c =
+    let a = c.args in
+    let h = held (goal.at.returns-in_err-full c).After-checked ∙ c.in_ok-checked.was in
+    passed_on c.from_residual-in_err-full.result c.from_residual-in_err-full.ensures.1
+    ∙ sym (at-second (held_job a.j) (full a.j) (new_face (a.j.faces.count + 1) a.f a.j) h
+    (sym c.full.ensures ∙ c.in_err-full.was))
 
-pub new_face-own-requires : goal.new_face-own-requires
-new_face-own-requires c =
-    let at_held_ne0 = (goal.at.new_face-own-requires c).Else-held-ne0 in
-    (in_order at_held_ne0, omega (arith, few at_held_ne0))
+pub new_face-requires : goal.new_face-requires
+new_face-requires c =
+    let o = held-passed c.args.j (held (goal.at.new_face-requires c).After-checked ∙ c.in_ok-checked.was) in
+    (o, omega (arith, roomed c.args.j o))
 
 pub returns : goal.returns
 unfolding edit_verdict
 returns c =
-    c.or_then.ensures ∙ ap₂ ◌or_then◌ c.full.ensures c.new_face-own.ensures
-    ∙ sym (held-passed c.args.j _ c.judge-held.ensures c.if-held-ne0.false)
+    let a = c.args in
+    let h = held (goal.at.returns c).After-checked ∙ c.in_ok-checked.was in
+    c.new_face.ensures
+    ∙ sym (at-third (held_job a.j) (full a.j) (new_face (a.j.faces.count + 1) a.f a.j) h
+    (sym c.full.ensures ∙ c.in_ok-full.was))

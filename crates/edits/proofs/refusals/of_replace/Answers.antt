@@ -2,87 +2,75 @@
 use mathlib.Core.Path.{◌≡◌, sym, ap, ◌∙◌}
 use Prim.Native.Nat.{ℕ, ◌≤◌}
 use native.Mathlib.Omega.{arith}
-use lib.IntN.{nat_abs}
+use lib.IntN.{ℤ, nat_abs}
 use Rattle.whole.proofs.Size.{said}
-use Rattle.verdict.specs.declared.Verdict.{Verdict}
-use Rattle.verdict.specs.Verdict.{accepted, ◌or_then◌}
-use Rattle.verdict.proofs.After.{then-later, then-earlier}
 use Rattle.building.proofs.Accepted.{Within}
+use Rattle.building.proofs.Judged.{passed_on}
 use Rattle.job.specs.Carried.{carried, most_faces}
 use Rattle.job.specs.InOrder.{InOrder}
+use Rattle.edits.specs.Checked.{checked}
 use Rattle.edits.specs.Edits.{held_job, no_such_face, new_face, edit_verdict}
-use Rattle.edits.proofs.Counts.{held-in-order, roomed}
-use Rattle.edits.proofs.Checks.{held-refused, held-passed, there-is}
-use Rattle.edits.proofs.refusals.of_replace.Goals.{After-judge-held, After-magnitude, After-no_such_face-none}
-use Rattle.edits.proofs.refusals.of_replace.Goals.{Else-held-ne0, Start}
+use Rattle.edits.proofs.Counts.{roomed}
+use Rattle.edits.proofs.Checks.{at-first, at-second, at-third, held-passed, passed, there-is}
+use Rattle.edits.proofs.refusals.of_replace.Goals.{After-checked, After-no_such_face, After-magnitude}
 use Rattle.edits.proofs.refusals.of_replace.Goals as goal
 
-abbrev number_in : Verdict → ℕ
-number_in v = v.number
+held : (c : After-checked) → checked (held_job c.args.j) ≡ c.checked.result
+held c = sym (c.checked.ensures ∙ ap checked c.judge.ensures)
 
--- the held job is in order
-module _ (c : After-no_such_face-none) where
-  abbrev held : Else-held-ne0
-  held = (goal.at.After-no_such_face-none c).Else-held-ne0
-
-  abbrev judged : After-judge-held
-  judged = (goal.at.Else-held-ne0 held).After-judge-held
-
-  abbrev start : Start
-  start = (goal.at.After-judge-held judged).Start
-
-  in_order : InOrder (carried start.args.j)
-  in_order = held-in-order start.args.j judged.judge-held.result judged.judge-held.ensures held.if-held-ne0.false
-
-  none_is : c.no_such_face-none.result ≡ no_such_face start.args.k start.args.j
-  none_is =
-      said (λ k. no_such_face k start.args.j) start.args.k c.no_such_face-none.ensures start.ranges.k.sfits
-
-  past-held : (w : Verdict) → (held_job start.args.j or_then w) ≡ w
-  past-held w = held-passed start.args.j w judged.judge-held.ensures held.if-held-ne0.false
+none : (c : After-no_such_face) → checked (no_such_face c.args.k c.args.j) ≡ c.no_such_face.result
+none c =
+    sym (said (λ (k : ℤ). checked (no_such_face k c.args.j)) c.args.k c.no_such_face.ensures c.ranges.k.sfits)
 
 -- there is such a face
 module _ (c : After-magnitude) where
-  abbrev asked : After-no_such_face-none
-  asked = (goal.at.After-magnitude c).After-no_such_face-none
+  in_order : InOrder (carried c.args.j)
+  in_order = held-passed c.args.j (held (goal.at.After-magnitude c).After-checked ∙ c.in_ok-checked.was)
 
-  there : Within 1 asked.args.j.faces.count asked.args.k
+  there : Within 1 c.args.j.faces.count c.args.k
   there =
-      there-is asked.args.j asked.args.k
-      (sym (ap number_in (none_is asked)) ∙ c.if-none-ne0.false)
+      there-is c.args.j c.args.k
+      (passed (no_such_face c.args.k c.args.j)
+      (none (goal.at.After-magnitude c).After-no_such_face ∙ c.in_ok-no_such_face.was))
 
-  size_is : c.magnitude.result ≡ nat_abs asked.args.k
-  size_is = said nat_abs asked.args.k c.magnitude.ensures asked.ranges.k.sfits
+  size_is : c.magnitude.result ≡ nat_abs c.args.k
+  size_is = said nat_abs c.args.k c.magnitude.ensures c.ranges.k.sfits
 
   few : c.magnitude.result ≤ most_faces
-  few = omega (arith, size_is, there.to, roomed asked.args.j (in_order asked))
+  few = omega (arith, size_is, there.to, roomed c.args.j in_order)
 
-pub returns-then-held-ne0 : goal.returns-then-held-ne0
+pub returns-in_err-checked : goal.returns-in_err-checked
 unfolding edit_verdict
-returns-then-held-ne0 c = held-refused c.args.j _ c.judge-held.ensures c.if-held-ne0.true
-
-pub returns-then-none-ne0 : goal.returns-then-none-ne0
-unfolding edit_verdict
-returns-then-none-ne0 c =
-    let at_no_such_face_none = (goal.at.returns-then-none-ne0 c).After-no_such_face-none in
-    let e = none_is at_no_such_face_none in
+returns-in_err-checked c =
     let a = c.args in
-    e
-    ∙ sym (past-held at_no_such_face_none _ ∙ then-earlier (no_such_face a.k a.j) _ (λ z. c.if-none-ne0.true
-    (ap number_in e ∙ z)))
+    let h = held (goal.at.returns-in_err-checked c).After-checked ∙ c.in_err-checked.was in
+    passed_on c.from_residual.result c.from_residual.ensures.1
+    ∙ sym (at-first (held_job a.j) (no_such_face a.k a.j) (new_face (nat_abs a.k) a.f a.j) h)
+
+pub returns-in_err-no_such_face : goal.returns-in_err-no_such_face
+unfolding edit_verdict
+returns-in_err-no_such_face c =
+    let a = c.args in
+    let r = c.from_residual-in_err-no_such_face in
+    let h = held (goal.at.returns-in_err-no_such_face c).After-checked ∙ c.in_ok-checked.was in
+    let n = none (goal.at.returns-in_err-no_such_face c).After-no_such_face ∙ c.in_err-no_such_face.was in
+    passed_on r.result r.ensures.1
+    ∙ sym (at-second (held_job a.j) (no_such_face a.k a.j) (new_face (nat_abs a.k) a.f a.j) h n)
 
 pub overflow_cast-magnitude : goal.overflow_cast-magnitude
-overflow_cast-magnitude c = omega (arith, few c)
+overflow_cast-magnitude c = omega (arith, few (goal.at.overflow_cast-magnitude c).After-magnitude)
 
 pub new_face-requires : goal.new_face-requires
-new_face-requires c = (in_order (goal.at.new_face-requires c).After-no_such_face-none, omega (arith, few c))
+new_face-requires c =
+    let m = (goal.at.new_face-requires c).After-magnitude in
+    (in_order m, omega (arith, few m))
 
 pub returns : goal.returns
 unfolding edit_verdict
 returns c =
-    let at_no_such_face_none = (goal.at.returns c).After-no_such_face-none in
     let a = c.args in
+    let h = held (goal.at.returns c).After-checked ∙ c.in_ok-checked.was in
+    let n = none (goal.at.returns c).After-no_such_face ∙ c.in_ok-no_such_face.was in
     c.new_face.ensures
-    ∙ ap (λ (k : ℕ). new_face k a.f a.j or_then accepted) (size_is (goal.at.returns c).After-magnitude)
-    ∙ sym (past-held at_no_such_face_none _
-    ∙ then-later (no_such_face a.k a.j) _ (sym (ap number_in (none_is at_no_such_face_none)) ∙ c.if-none-ne0.false))
+    ∙ ap (λ (k : ℕ). checked (new_face k a.f a.j)) (size_is (goal.at.returns c).After-magnitude)
+    ∙ sym (at-third (held_job a.j) (no_such_face a.k a.j) (new_face (nat_abs a.k) a.f a.j) h n)
