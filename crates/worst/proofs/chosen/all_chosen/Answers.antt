@@ -13,6 +13,7 @@ use Rattle.entry.specs.declared.Step.{Step}
 use Rattle.entry.specs.declared.Face.{Face}
 use Rattle.entry.specs.Flat.{face_in, faces_in}
 use Rattle.job.specs.Carried.{no_face}
+use Rattle.pair.specs.declared.Pair.{Pair}
 use Rattle.worst.specs.declared.Axis.{Axis}
 use Rattle.worst.specs.declared.Axis.TheVariants.{X, Y, Z}
 use Rattle.worst.specs.declared.Side.{Side}
@@ -91,7 +92,7 @@ module _ (c : After-zone_in) where
       pick_of s axis a.args.s.building (at axis s a.args.under).wind (factor_of profile face) face
 
   -- with those of face i they are the alternatives of one face more
-  next : (profile : List Step) (axis : Axis) (t : Tops) {old new : Extremes} {high low : ℕ}
+  next : (profile : List Step) (axis : Axis) (t : Tops Pair) {old new : Extremes} {high low : ℕ}
       → new ≡ put_at i high low old
       → old ≡ with_alternatives t a.args.faces (first profile i axis Greatest) (first profile i axis Least)
       → high ≡ pick profile axis Greatest → low ≡ pick profile axis Least

@@ -6,6 +6,7 @@ use Rattle.whole.specs.Lists.{first_of}
 use Rattle.entry.specs.declared.Step.{Step}
 use Rattle.entry.specs.Flat.{faces_in}
 use Rattle.job.specs.Carried.{no_face}
+use Rattle.pair.specs.declared.Pair.{Pair}
 use Rattle.worst.specs.declared.Axis.{Axis}
 use Rattle.worst.specs.declared.Axis.TheVariants.{X, Y, Z}
 use Rattle.worst.specs.declared.Side.{Side}
@@ -28,7 +29,7 @@ at Z Greatest u = u.z.greatest
 at Z Least u = u.z.least
 
 -- the six cases with these alternatives
-abbrev pub six_at : Ends → ℕ → (Axis → Side → List ℕ) → Six
+abbrev pub six_at : Ends Pair → ℕ → (Axis → Side → List ℕ) → Six
 six_at e n h = six_with e n (h X Greatest) (h X Least) (h Y Greatest) (h Y Least) (h Z Greatest) (h Z Least)
 
 abbrev pub invariant-loop-i : goal.invariant-loop-i
