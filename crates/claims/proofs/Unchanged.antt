@@ -1,13 +1,13 @@
 -- One line for each public function that is lent a buffer and may refuse: "A refused call changes no byte of any
 -- buffer."
-use mathlib.Core.Path.{◌≡◌, refl, ap, subst, ◌∙◌}
-use mathlib.Core.Bool.{Bool, true, false, cond}
+use mathlib.Core.Path.{◌≡◌, refl, sym, ap, subst, ◌∙◌}
+use mathlib.Core.Bool.{Bool, true, false, cond, true≢false}
 use mathlib.Core.List.{List, [], ◌∷◌, ◌++◌}
 use Prim.Native.Nat.{ℕ, zero, suc}
 use lib.Dec.{leb, eqb}
 use lib.IntN.{ℤ, pos}
 use lib.ListN.{length, take, drop, replicate}
-use Rattle.std.specs.Prelude.{Ok, Err}
+use Rattle.std.specs.Prelude.{Result, Ok, Err, IsErr}
 use Rattle.claims.specs.Contract.{RefusedUnchanged, RefusedCleared, IsRefused}
 use Rattle.claims.proofs.Contracts as of
 use Rattle.verdict.specs.declared.Verdict.{Verdict}
@@ -23,8 +23,7 @@ use Rattle.job.specs.Carried.{Carried}
 use Rattle.job.specs.Walk.{Reading, Accepted, Refused, judged}
 use Rattle.sheet.specs.Sheet.{reading, sheet_text, job_writing, job_buffer}
 use Rattle.sheet.specs.declared.read.Head.{Head}
-use Rattle.sheet.specs.Head.{flat_after}
-use Rattle.sheet.proofs.Answered.{head-verdict, told-refused}
+use Rattle.sheet.specs.Head.{head_of, flat_after}
 use Rattle.mend.specs.declared.Mending.{Mending}
 use Rattle.mend.specs.Mending.{room_for, has_room, mending_of, text_after, list_after}
 use Rattle.plain.specs.Plain.{plainly}
@@ -40,6 +39,10 @@ flat-none : (n : ℕ) → first_of (pos 0) n (flat_faces []) ≡ replicate n (po
 unfolding flat_faces first_of
 flat-none zero = refl
 flat-none (suc n) = ap (λ l. pos 0 ∷ l) (flat-none n)
+
+flat-cleared : (x : Reading) (lent : List ℤ) → IsErr (head_of x) → flat_after x lent ≡ replicate (length lent) (pos 0)
+flat-cleared (Accepted c) lent h = absurd (true≢false (sym h))
+flat-cleared (Refused v) lent h = flat-none (length lent)
 
 -- ---- whatever text is put into a buffer, and whatever text about a job
 
@@ -133,13 +136,10 @@ write-sheet-unchanged : RefusedUnchanged of.write-sheet.Post (λ κ r. IsRefused
 write-sheet-unchanged κ a r s p h = job-kept sheet_text (judged a.0) a.1.0.now p h
 
 -- the numbers of the faces are lent to the reader by the engine, never by a host
-read-into-cleared : RefusedCleared of.read-into.Post (λ κ r. Refuses r.verdict) (λ κ a. a.1.0.now)
-    (λ κ s. s.1.0.now)
+read-into-cleared : RefusedCleared of.read-into.Post (λ κ r. IsErr r) (λ κ a. a.1.0.now) (λ κ s. s.1.0.now)
 read-into-cleared κ a r s p h =
-    let v = ap (λ (x : Head). x.verdict) p.0 ∙ head-verdict (reading a.0.now) in
     p.1
-    ∙ ap (λ x. flat_after x a.1.0.now) (told-refused a.0.now r.verdict v h)
-    ∙ flat-none (length a.1.0.now)
+    ∙ flat-cleared (reading a.0.now) a.1.0.now (subst (λ (q : Result Head Verdict). IsErr q) p.0 h)
 
 write-report-unchanged : RefusedUnchanged of.write-report.Post (λ κ r. IsRefused r) (λ κ a. a.1.0.now)
     (λ κ s. s.1.0.now)
