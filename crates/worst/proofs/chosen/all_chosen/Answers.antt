@@ -14,7 +14,6 @@ use Rattle.entry.specs.declared.Step.{Step}
 use Rattle.entry.specs.declared.Face.{Face}
 use Rattle.entry.specs.Flat.{face_in, faces_in}
 use Rattle.job.specs.Carried.{no_face}
-use Rattle.pair.specs.declared.Pair.{Pair}
 use Rattle.worst.specs.declared.Axis.{Axis}
 use Rattle.worst.specs.declared.Axis.TheVariants.{X, Y, Z}
 use Rattle.worst.specs.declared.Side.{Side}
