@@ -1,10 +1,9 @@
 -- `refusals::of_add`: one check after the other.
-use mathlib.Core.Path.{◌≡◌, sym, ◌∙◌}
+use mathlib.Core.Path.{◌≡◌}
 use Prim.Native.Nat.{◌+◌}
 use native.Mathlib.Omega.{arith}
 use Rattle.std.specs.Prelude.{Ok, Err}
 use Rattle.std.proofs.Common.{rules}
-use Rattle.building.proofs.Judged.{passed_on}
 use Rattle.edits.specs.Checked.{checked}
 use Rattle.edits.specs.Edits.{held_job, full, new_face, edit_verdict}
 use Rattle.edits.proofs.Counts.{roomed}
@@ -16,18 +15,17 @@ unfolding edit_verdict
 returns-in_err-checked c =
     let a = c.args in
     let held : checked (held_job a.j) ≡ Err c.in_err-checked.field-0.0 = search rules in
-    passed_on c.from_residual.result c.from_residual.ensures.1
-    ∙ sym (at-first (held_job a.j) (full a.j) (new_face (a.j.faces.count + 1) a.f a.j) held)
+    let all = at-first (held_job a.j) (full a.j) (new_face (a.j.faces.count + 1) a.f a.j) held in
+    search rules
 
 pub returns-in_err-full : goal.returns-in_err-full
 unfolding edit_verdict
 returns-in_err-full c =
     let a = c.args in
-    let r = c.from_residual-in_err-full in
     let held : checked (held_job a.j) ≡ Ok tt = search rules in
     let room : checked (full a.j) ≡ Err c.in_err-full.field-0.0 = search rules in
-    passed_on r.result r.ensures.1
-    ∙ sym (at-second (held_job a.j) (full a.j) (new_face (a.j.faces.count + 1) a.f a.j) held room)
+    let all = at-second (held_job a.j) (full a.j) (new_face (a.j.faces.count + 1) a.f a.j) held room in
+    search rules
 
 pub new_face-requires : goal.new_face-requires
 new_face-requires c =
@@ -41,5 +39,5 @@ returns c =
     let a = c.args in
     let held : checked (held_job a.j) ≡ Ok tt = search rules in
     let room : checked (full a.j) ≡ Ok tt = search rules in
-    c.new_face.ensures
-    ∙ sym (at-third (held_job a.j) (full a.j) (new_face (a.j.faces.count + 1) a.f a.j) held room)
+    let all = at-third (held_job a.j) (full a.j) (new_face (a.j.faces.count + 1) a.f a.j) held room in
+    search rules

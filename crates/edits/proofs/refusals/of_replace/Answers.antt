@@ -1,11 +1,10 @@
 -- `refusals::of_replace`: one check after the other.
-use mathlib.Core.Path.{◌≡◌, sym, ap, ◌∙◌}
-use Prim.Native.Nat.{ℕ, ◌≤◌}
+use mathlib.Core.Path.{◌≡◌}
+use Prim.Native.Nat.{◌≤◌}
 use native.Mathlib.Omega.{arith}
 use lib.IntN.{nat_abs}
 use Rattle.std.specs.Prelude.{Ok, Err}
 use Rattle.std.proofs.Common.{rules}
-use Rattle.building.proofs.Judged.{passed_on}
 use Rattle.job.specs.Carried.{carried, most_faces}
 use Rattle.job.specs.InOrder.{InOrder}
 use Rattle.edits.specs.Checked.{checked}
@@ -33,18 +32,17 @@ unfolding edit_verdict
 returns-in_err-checked c =
     let a = c.args in
     let held : checked (held_job a.j) ≡ Err c.in_err-checked.field-0.0 = search rules in
-    passed_on c.from_residual.result c.from_residual.ensures.1
-    ∙ sym (at-first (held_job a.j) (no_such_face a.k a.j) (new_face (nat_abs a.k) a.f a.j) held)
+    let all = at-first (held_job a.j) (no_such_face a.k a.j) (new_face (nat_abs a.k) a.f a.j) held in
+    search rules
 
 pub returns-in_err-no_such_face : goal.returns-in_err-no_such_face
 unfolding edit_verdict
 returns-in_err-no_such_face c =
     let a = c.args in
-    let r = c.from_residual-in_err-no_such_face in
     let held : checked (held_job a.j) ≡ Ok tt = search rules in
     let none : checked (no_such_face a.k a.j) ≡ Err c.in_err-no_such_face.field-0.0 = search rules in
-    passed_on r.result r.ensures.1
-    ∙ sym (at-second (held_job a.j) (no_such_face a.k a.j) (new_face (nat_abs a.k) a.f a.j) held none)
+    let all = at-second (held_job a.j) (no_such_face a.k a.j) (new_face (nat_abs a.k) a.f a.j) held none in
+    search rules
 
 pub overflow_cast-magnitude : goal.overflow_cast-magnitude
 overflow_cast-magnitude c = omega (arith, few (goal.at.overflow_cast-magnitude c).After-magnitude)
@@ -61,5 +59,5 @@ returns c =
     let held : checked (held_job a.j) ≡ Ok tt = search rules in
     let there : checked (no_such_face a.k a.j) ≡ Ok tt = search rules in
     let size : c.magnitude.result ≡ nat_abs a.k = search rules in
-    c.new_face.ensures ∙ ap (λ (k : ℕ). checked (new_face k a.f a.j)) size
-    ∙ sym (at-third (held_job a.j) (no_such_face a.k a.j) (new_face (nat_abs a.k) a.f a.j) held there)
+    let all = at-third (held_job a.j) (no_such_face a.k a.j) (new_face (nat_abs a.k) a.f a.j) held there in
+    search rules

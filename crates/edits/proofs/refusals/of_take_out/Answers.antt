@@ -1,8 +1,7 @@
 -- `refusals::of_take_out`: one check after the other.
-use mathlib.Core.Path.{◌≡◌, sym, ◌∙◌}
+use mathlib.Core.Path.{◌≡◌}
 use Rattle.std.specs.Prelude.{Ok, Err}
 use Rattle.std.proofs.Common.{rules}
-use Rattle.building.proofs.Judged.{passed_on}
 use Rattle.edits.specs.Checked.{checked}
 use Rattle.edits.specs.Edits.{held_job, no_such_face, only_face, edit_verdict}
 use Rattle.edits.proofs.Checks.{at-first, at-second, at-third}
@@ -13,18 +12,17 @@ unfolding edit_verdict
 returns-in_err-checked c =
     let a = c.args in
     let held : checked (held_job a.j) ≡ Err c.in_err-checked.field-0.0 = search rules in
-    passed_on c.from_residual.result c.from_residual.ensures.1
-    ∙ sym (at-first (held_job a.j) (no_such_face a.k a.j) (only_face a.j) held)
+    let all = at-first (held_job a.j) (no_such_face a.k a.j) (only_face a.j) held in
+    search rules
 
 pub returns-in_err-no_such_face : goal.returns-in_err-no_such_face
 unfolding edit_verdict
 returns-in_err-no_such_face c =
     let a = c.args in
-    let r = c.from_residual-in_err-no_such_face in
     let held : checked (held_job a.j) ≡ Ok tt = search rules in
     let none : checked (no_such_face a.k a.j) ≡ Err c.in_err-no_such_face.field-0.0 = search rules in
-    passed_on r.result r.ensures.1
-    ∙ sym (at-second (held_job a.j) (no_such_face a.k a.j) (only_face a.j) held none)
+    let all = at-second (held_job a.j) (no_such_face a.k a.j) (only_face a.j) held none in
+    search rules
 
 pub returns : goal.returns
 unfolding edit_verdict
@@ -32,4 +30,5 @@ returns c =
     let a = c.args in
     let held : checked (held_job a.j) ≡ Ok tt = search rules in
     let there : checked (no_such_face a.k a.j) ≡ Ok tt = search rules in
-    c.only_face.ensures ∙ sym (at-third (held_job a.j) (no_such_face a.k a.j) (only_face a.j) held there)
+    let all = at-third (held_job a.j) (no_such_face a.k a.j) (only_face a.j) held there in
+    search rules
