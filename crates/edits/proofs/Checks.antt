@@ -1,5 +1,5 @@
 -- The verdict of an edit: refused for the first of its faults, and accepted where there is none.
-use mathlib.Core.Path.{◌≡◌, refl, sym, ap, ◌∙◌}
+use mathlib.Core.Path.{◌≡◌, refl, ap, ◌∙◌}
 use mathlib.Core.Bool.{Bool, true, false}
 use Prim.Native.Nat.{ℕ, suc, ◌+◌, ◌<◌}
 use native.Mathlib.Omega.{arith}
@@ -29,7 +29,7 @@ use Rattle.edits.proofs.Counts.{held-in-order}
 -- ---- three checks, one after the other
 
 module _ (v : Verdict) where
-  pub passed : {a : Unit} → checked v ≡ Ok a → v.number ≡ 0
+  pub passed : checked v ≡ Ok tt → v.number ≡ 0
   passed e = by-test (eqb v.number 0) (λ t. eqb-true v.number 0 t) (λ t. let f = rw t at e in cc)
 
   pub failed : {w : Verdict} → checked v ≡ Err w → (w ≡ v) × Refuses v
@@ -62,10 +62,10 @@ module _ (u v w : Verdict) where
   pub at-first : {x : Verdict} → checked u ≡ Err x → checked checks ≡ Err x
   at-first e = ap checked (then-earlier u _ (failed u e).1) ∙ e
 
-  pub at-second : {a : Unit} {x : Verdict} → checked u ≡ Ok a → checked v ≡ Err x → checked checks ≡ Err x
+  pub at-second : {x : Verdict} → checked u ≡ Ok tt → checked v ≡ Err x → checked checks ≡ Err x
   at-second d e = ap checked (then-later u _ (passed u d) ∙ then-earlier v _ (failed v e).1) ∙ e
 
-  pub at-third : {a b : Unit} → checked u ≡ Ok a → checked v ≡ Ok b → checked checks ≡ checked w
+  pub at-third : checked u ≡ Ok tt → checked v ≡ Ok tt → checked checks ≡ checked w
   at-third d e = ap checked (then-later u _ (passed u d) ∙ then-later v _ (passed v e)) ∙ last-one w
 
 module _ (j : Job) where
@@ -110,7 +110,7 @@ module _ (j : Job) where
   pub not-only : (only_face j).number ≡ 0 → 1 < j.faces.count
   not-only e = ltb-true 1 j.faces.count (unless-none 1 (ltb 1 j.faces.count) e)
 
-  pub held-passed : {a : Unit} → checked (held_job j) ≡ Ok a → InOrder (carried j)
+  pub held-passed : checked (held_job j) ≡ Ok tt → InOrder (carried j)
   held-passed e = held-in-order j (held_job j) refl (passed (held_job j) e)
 
 -- ---- the answer to an edit
@@ -122,7 +122,7 @@ module _ (e : Edit) (j : Job) where
   edit-refused q = let f = failed (edit_verdict e j) q in rw (ne_eqb (edit_verdict e j).number 0 f.1, f.0)
 
   -- with the faces that it makes
-  pub edit-taken : {u : Unit} {r : Faces} {a : EditedJob} → checked (edit_verdict e j) ≡ Ok u
+  pub edit-taken : {r : Faces} {a : EditedJob} → checked (edit_verdict e j) ≡ Ok tt
       → a ≡ record { verdict = accepted; job = job_with r j } → r ≡ edit_faces e j → a ≡ edited_job e j
   unfolding edited_job
   edit-taken q p s =
