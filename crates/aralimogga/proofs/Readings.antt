@@ -8,16 +8,13 @@ use Rattle.verdict.specs.declared.Verdict.{Verdict}
 use Rattle.verdict.specs.Verdict.{Refuses}
 use Rattle.page.specs.Writing.{Writing}
 use Rattle.job.specs.Carried.{Carried}
-use Rattle.job.specs.Walk.{Reading, Refused, verdict, judged}
+use Rattle.job.specs.Walk.{Reading, Refused, judged}
 use Rattle.sheet.specs.declared.read.Read.{Read}
 use Rattle.sheet.specs.Sheet.{reading, answer, job_writing, job_buffer}
-use Rattle.sheet.proofs.Answered.{told-refused, told-accepted, read-refused, read-accepted}
-use Rattle.worst.specs.declared.Reckoning.{Reckoning}
-use Rattle.worst.specs.Worst.{reckoned}
-use Rattle.worst.proofs.Reckoned.{reckoned-verdict}
+use Rattle.sheet.proofs.Answered.{read-refused, read-accepted}
 use Rattle.account.specs.Account.{no_account, account_of}
 use Rattle.answers.specs.declared.Text.{Text}
-use Rattle.answers.specs.Answers.{no_host_text, host_text, no_host_extreme, host_line, host_total}
+use Rattle.answers.specs.Answers.{no_host_text, host_text}
 
 -- ---- a text about the job
 
@@ -39,21 +36,6 @@ module _ (s : List ℕ) (r : Read) (e : r ≡ answer (reading s)) where
           given ∙ ap host_text (wrote.0 ∙ ap (λ (x : Reading). job_writing text x buf) j),
           wrote.1 ∙ ap (λ (x : Reading). job_buffer text x buf) j,
         )
-
--- ---- a line of its report
-
-module _ (s : List ℕ) (w : Reckoning) (e : w ≡ reckoned (reading s)) (line : ℤ) where
-  told : w.verdict ≡ verdict (reading s)
-  told = ap (λ (v : Reckoning). v.verdict) e ∙ reckoned-verdict (reading s)
-
-  pub total-refused : Refuses w.verdict → no_host_extreme w.verdict ≡ host_total (reading s) line
-  total-refused h = sym (ap (λ (x : Reading). host_total x line) (told-refused s w.verdict told h))
-
-  pub total-accepted : w.verdict.number ≡ 0 → host_line w.year w.six line ≡ host_total (reading s) line
-  total-accepted z =
-      let a = told-accepted s w.verdict told z in
-      ap (λ (v : Reckoning). host_line v.year v.six line) (e ∙ ap reckoned a.1)
-      ∙ sym (ap (λ (x : Reading). host_total x line) a.1)
 
 -- ---- a face in the case of one
 

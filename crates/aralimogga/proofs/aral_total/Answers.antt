@@ -1,21 +1,30 @@
 -- `aral_total`: the refusal of what was read, or a line of its report.
-use mathlib.Core.Path.{◌∙◌}
-use lib.IntN.{ℤ}
-use Rattle.whole.proofs.Size.{said₂}
-use Rattle.answers.specs.Answers.{host_line}
-use Rattle.aralimogga.proofs.Readings.{total-refused, total-accepted}
+use mathlib.Core.Path.{◌≡◌, sym, ◌∙◌}
+use borrow.Author.Rules.{rules}
+use mir.Syntax.{w64}
+use mir.ValLaws.{to_z-of_z}
+use Rattle.std.proofs.lemmas.Result.{IfOk-at_ok, IfErr-at_err}
+use Rattle.verdict.specs.declared.Verdict.{Verdict}
+use Rattle.sheet.specs.Sheet.{reading}
+use Rattle.worst.specs.declared.Reckoning.{Reckoning}
+use Rattle.answers.specs.Answers.{no_host_extreme, host_line, host_total}
+use Rattle.answers.proofs.Reckoned.{line-shown, line-refused}
 use Rattle.aralimogga.proofs.aral_total.Goals as goal
 
-pub returns-then-w-ne0 : goal.returns-then-w-ne0
-returns-then-w-ne0 c =
-    let a = c.args in
-    c.no_extreme.ensures
-    ∙ total-refused a.sheet.now c.worst_in-w.result c.worst_in-w.ensures a.line c.if-w-ne0.true
+pub returns-in-Ok : goal.returns-in-Ok
+returns-in-Ok c =
+    let x = reading c.args.sheet.now in
+    let line = c.args.line in
+    let w = c.in-Ok.w in
+    c.line_of.ensures
+    ∙ (λ i. host_line (to_z-of_z w64 w.year (search rules) i) w.six (to_z-of_z w64 line c.ranges.line i))
+    ∙ IfOk-at_ok (λ (r : Reckoning). host_line r.year r.six line ≡ host_total x line)
+    (sym c.worst_in.ensures ∙ c.in-Ok.is) (line-shown line x)
 
-pub returns : goal.returns
-returns c =
-    let a = c.args in
-    let r = c.worst_in-w.result in
-    let year = c.struct_told-1.given.1.0.1 in
-    said₂ (λ (y z : ℤ). host_line y r.six z) r.year a.line c.line_of.ensures year c.ranges.line.sfits
-    ∙ total-accepted a.sheet.now r c.worst_in-w.ensures a.line c.if-w-ne0.false
+pub returns-in-Err : goal.returns-in-Err
+returns-in-Err c =
+    let x = reading c.args.sheet.now in
+    let line = c.args.line in
+    c.no_extreme.ensures
+    ∙ IfErr-at_err (λ (v : Verdict). no_host_extreme v ≡ host_total x line)
+    (sym c.worst_in.ensures ∙ c.in-Err.is) (line-refused line x)

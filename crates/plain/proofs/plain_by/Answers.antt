@@ -1,12 +1,13 @@
 -- `plain_by` meets its contract: a job's own refusal, the refusal of too many faces with two alternatives, or its six.
-use mathlib.Core.Path.{◌≡◌, sym, ap, ◌∙◌}
+use mathlib.Core.Path.{◌≡◌, sym, ap, ap₂, ◌∙◌}
 use mathlib.Core.Bool.{Bool, cond}
 use native.Mathlib.Omega.{arith}
 use borrow.Author.Tests.{le-leb, lt-leb}
 use lib.Dec.{leb}
 use lib.IntN.{ℤ, pos}
 use mir.Syntax.{w64}
-use Rattle.whole.proofs.Size.{returned}
+use mir.ValLaws.{to_z-of_z}
+use borrow.Author.Rules.{rules}
 use Rattle.std.specs.Prelude.{Result, Ok}
 use Rattle.verdict.specs.declared.Verdict.{Verdict}
 use Rattle.verdict.specs.Verdict.{refusal}
@@ -65,7 +66,7 @@ pub returns : goal.returns
 unfolding carried
 returns c =
     let at_v_ne0 = (goal.at.returns c).Else-v-ne0 in
-    ap (answer c.args.job.year) c.every_wind.ensures
+    ap₂ answer (to_z-of_z w64 c.args.job.year (search rules)) c.every_wind.ensures
     ∙ by_count at_v_ne0 _
     (ap (λ k. leb k most_with_two) (sym c.faces_with_two.ensures)
     ∙ le-leb _ most_with_two c.if-faces_with_two-gt-MOST_WITH_TWO.false)
