@@ -9,10 +9,11 @@ use Rattle.job.specs.Setting.{setting_in}
 use Rattle.job.specs.Walk.{Reading, Accepted, Refused}
 use Rattle.sheet.specs.declared.read.Head.{Head}
 
--- the setting of what was read and how many faces it has, or the refusal
+-- the setting of what was read, and how many faces it has
 abbrev pub head_in : Carried → Head
 head_in c = record { setting = setting_in (recorded c); faces = length c.faces }
 
+-- the same of a reading, or its refusal
 abbrev pub head_of : Reading → Result Head Verdict
 head_of (Accepted c) = Ok (head_in c)
 head_of (Refused v) = Err v

@@ -42,7 +42,13 @@ fn refused(verdict: Verdict, flat: &mut [i64]) -> Result<Head, Verdict>
     Err(verdict)
 }
 
-fn accepted(b: Before, winds: Winds, internals: Internals, profile: Profile, faces: u32) -> Result<Head, Verdict>
+fn accepted(
+    b: Before,
+    winds: Winds,
+    internals: Internals,
+    profile: Profile,
+    faces: u32,
+) -> Result<Head, Verdict>
     ensures { result ≡ Ok (record { setting = setting_of b winds internals profile; faces = faces }) }
 {
     let building = b.building;

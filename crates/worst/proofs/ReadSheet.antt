@@ -79,7 +79,8 @@ module _ (s : List ℕ) {r : Result Head Verdict} (e : r ≡ head_of (reading s)
           ∙ in-order-recorded c o
 
 -- where the list has room for its faces, what is reckoned of it is what is reckoned of what was read
-module _ {s : List ℕ} {h : Head} {l : List ℤ} {room : ℕ} (t : Stands s h l room) (fits : per_face * h.faces ≤ room) where
+module _ {s : List ℕ} {h : Head} {l : List ℤ} {room : ℕ} (t : Stands s h l room)
+    (fits : per_face * h.faces ≤ room) where
   pub stands-in-order : InOrder (carried (job_by h.setting h.faces l))
   stands-in-order = subst InOrder (sym (t.same fits)) t.in_order
 
