@@ -76,28 +76,28 @@ pub record Reckons (reckon : Reading → Result Reckoning Verdict) (text : Carri
   pub lines : (c : Carried) → six_text (shown c).year (shown c).six ≡ text c
   pub printable : (c : Carried) → InOrder c → SixPrintable (shown c)
 
-module _ {reckon : Reading → Result Reckoning Verdict} {text : Carried → List ℕ} (as : Reckons reckon text)
+module _ {reckon : Reading → Result Reckoning Verdict} {text : Carried → List ℕ} (how : Reckons reckon text)
     {x : Reading} (sound : Sound x) {r : Result Reckoning Verdict} (e : r ≡ reckon x) where
-  accepted-holds : (P : Reckoning → Type 0) → ((c : Carried) → InOrder c → x ≡ Accepted c → P (as.shown c))
+  accepted-holds : (P : Reckoning → Type 0) → ((c : Carried) → InOrder c → x ≡ Accepted c → P (how.shown c))
       → IfOk (reckon x) P
   accepted-holds P h = go x sound h
     where
-      go : (y : Reading) → Sound y → ((c : Carried) → InOrder c → y ≡ Accepted c → P (as.shown c)) → IfOk (reckon y) P
-      go y (refuses v some) k = subst (λ (q : Result Reckoning Verdict). IfOk q P) (sym (as.own v)) tt
-      go y (accepts c o) k = subst (λ (q : Result Reckoning Verdict). IfOk q P) (sym (as.fine c)) (k c o refl)
+      go : (y : Reading) → Sound y → ((c : Carried) → InOrder c → y ≡ Accepted c → P (how.shown c)) → IfOk (reckon y) P
+      go y (refuses v some) k = subst (λ (q : Result Reckoning Verdict). IfOk q P) (sym (how.own v)) tt
+      go y (accepts c o) k = subst (λ (q : Result Reckoning Verdict). IfOk q P) (sym (how.fine c)) (k c o refl)
 
   refused-holds : IfErr (reckon x) (λ v. x ≡ Refused v)
   refused-holds = go x sound
     where
       go : (y : Reading) → Sound y → IfErr (reckon y) (λ v. y ≡ Refused v)
       go y (refuses v some) =
-          subst (λ (q : Result Reckoning Verdict). IfErr q (λ u. Refused v ≡ Refused u)) (sym (as.own v)) refl
+          subst (λ (q : Result Reckoning Verdict). IfErr q (λ u. Refused v ≡ Refused u)) (sym (how.own v)) refl
       go y (accepts c o) =
-          subst (λ (q : Result Reckoning Verdict). IfErr q (λ u. Accepted c ≡ Refused u)) (sym (as.fine c)) tt
+          subst (λ (q : Result Reckoning Verdict). IfErr q (λ u. Accepted c ≡ Refused u)) (sym (how.fine c)) tt
 
   -- six lines can be printed, and are its text
   pub prints : {w : Reckoning} → r ≡ Ok w → SixPrintable w
-  prints is = IfOk-at_ok SixPrintable (sym e ∙ is) (accepted-holds SixPrintable (λ c o k. as.printable c o))
+  prints is = IfOk-at_ok SixPrintable (sym e ∙ is) (accepted-holds SixPrintable (λ c o k. how.printable c o))
 
   pub wrote : {w : Reckoning} → r ≡ Ok w → (buf : List ℕ) {o : Writing} {after : List ℕ}
       → (o ≡ writing (six_text w.year w.six) buf) × (after ≡ buffer_after (six_text w.year w.six) buf)
@@ -107,8 +107,8 @@ module _ {reckon : Reading → Result Reckoning Verdict} {text : Carried → Lis
           (o ≡ writing (six_text w.year w.six) buf) × (after ≡ buffer_after (six_text w.year w.six) buf)
           → (o ≡ job_writing text x buf) × (after ≡ job_buffer text x buf) in
       IfOk-at_ok P (sym e ∙ is) (accepted-holds P (λ c h k p. (
-        p.0 ∙ ap (λ t. writing t buf) (as.lines c) ∙ sym (ap (λ (y : Reading). job_writing text y buf) k),
-        p.1 ∙ ap (λ t. buffer_after t buf) (as.lines c) ∙ sym (ap (λ (y : Reading). job_buffer text y buf) k),
+        p.0 ∙ ap (λ t. writing t buf) (how.lines c) ∙ sym (ap (λ (y : Reading). job_writing text y buf) k),
+        p.1 ∙ ap (λ t. buffer_after t buf) (how.lines c) ∙ sym (ap (λ (y : Reading). job_buffer text y buf) k),
       )))
 
   -- a refusal is the reading's own
