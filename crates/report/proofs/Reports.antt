@@ -5,11 +5,12 @@ use mathlib.Core.List.{List, [], ◌∷◌, ◌++◌, append_assoc}
 use Prim.Native.Nat.{ℕ, ◌<◌}
 use native.Mathlib.Omega.{arith}
 use lib.Dec.{leb}
-use Rattle.std.specs.Prelude.{Result, Ok, Err, IfOk, IfErr}
+use Rattle.std.specs.Prelude.{Result, Ok, Err, IfOk, IfErr, IsErrAnd}
 use Rattle.std.proofs.lemmas.Result.{IfOk-at_ok, IfErr-at_err}
 use Rattle.whole.proofs.Tests.{by-test}
 use Rattle.page.specs.Writing.{Writing, writing, buffer_after}
 use Rattle.verdict.specs.declared.Verdict.{Verdict}
+use Rattle.building.proofs.Judged.{passed_on}
 use Rattle.verdict.specs.Verdict.{refusal, Refuses}
 use Rattle.job.specs.declared.Job.{Job}
 use Rattle.lines.specs.Lines.{lines_in}
@@ -115,10 +116,10 @@ module _ {reckon : Reading → Result Reckoning Verdict} {text : Carried → Lis
   pub refuses-as : {v : Verdict} → r ≡ Err v → x ≡ Refused v
   refuses-as is = IfErr-at_err (λ v. x ≡ Refused v) (sym e ∙ is) refused-holds
 
-  pub unwritten : {v : Verdict} → r ≡ Err v → (buf : List ℕ)
-      → (Err v ≡ job_writing text x buf) × (buf ≡ job_buffer text x buf)
-  unwritten is buf = (
-    sym (ap (λ (y : Reading). job_writing text y buf) (refuses-as is)),
+  pub unwritten : {v : Verdict} → r ≡ Err v → (buf : List ℕ) {o : Writing} → IsErrAnd o (λ w. w ≡ v)
+      → (o ≡ job_writing text x buf) × (buf ≡ job_buffer text x buf)
+  unwritten is buf {o} handed = (
+    passed_on o handed ∙ sym (ap (λ (y : Reading). job_writing text y buf) (refuses-as is)),
     sym (ap (λ (y : Reading). job_buffer text y buf) (refuses-as is)),
   )
 

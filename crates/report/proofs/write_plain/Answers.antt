@@ -10,7 +10,9 @@ write_six-requires c = prints as-report (plain-sound c.args.j) c.plain_cases.ens
 
 pub returns-in_err-w : goal.returns-in_err-w
 unfolding plain_of
-returns-in_err-w c = unwritten as-report (plain-sound c.args.j) c.plain_cases.ensures c.in_err-w.was c.args.buf.now
+returns-in_err-w c =
+    unwritten as-report (plain-sound c.args.j) c.plain_cases.ensures c.in_err-w.was c.args.buf.now
+    c.from_residual.ensures.1
 
 pub returns : goal.returns
 unfolding plain_of

@@ -7,7 +7,9 @@ pub write_six-requires : goal.write_six-requires
 write_six-requires c = prints as-report (reading-sound c.args.s.now) c.worst_in.ensures c.in_ok-w.was
 
 pub returns-in_err-w : goal.returns-in_err-w
-returns-in_err-w c = unwritten as-report (reading-sound c.args.s.now) c.worst_in.ensures c.in_err-w.was c.args.buf.now
+returns-in_err-w c =
+    unwritten as-report (reading-sound c.args.s.now) c.worst_in.ensures c.in_err-w.was c.args.buf.now
+    c.from_residual.ensures.1
 
 pub returns : goal.returns
 returns c =

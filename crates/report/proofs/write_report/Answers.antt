@@ -10,7 +10,9 @@ write_six-requires c = prints as-report (judged-sound c.args.j) c.worst_cases.en
 
 pub returns-in_err-w : goal.returns-in_err-w
 unfolding worst_of
-returns-in_err-w c = unwritten as-report (judged-sound c.args.j) c.worst_cases.ensures c.in_err-w.was c.args.buf.now
+returns-in_err-w c =
+    unwritten as-report (judged-sound c.args.j) c.worst_cases.ensures c.in_err-w.was c.args.buf.now
+    c.from_residual.ensures.1
 
 pub returns : goal.returns
 unfolding worst_of
