@@ -10,7 +10,7 @@ use Rattle.whole.proofs.Tests.{by-test}
 use Rattle.verdict.specs.declared.Verdict.{Verdict}
 use Rattle.verdict.specs.Verdict.{accepted, refusal, ◌or_then◌, Refuses}
 use Rattle.verdict.proofs.After.{then-later, then-earlier}
-use Rattle.building.specs.Test.{beyond, within}
+use Rattle.building.specs.Test.{beyond}
 use Rattle.building.specs.Year.{face_limit}
 use Rattle.building.proofs.Ranges.{not_beyond, is_within}
 use Rattle.building.proofs.Accepted as range

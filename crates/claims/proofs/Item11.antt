@@ -1,5 +1,5 @@
 -- Item 11 of paper 02: which winds can be dropped.
-use mathlib.Core.Path.{◌≡◌, refl, sym, ap, subst, subst₂, ◌∙◌}
+use mathlib.Core.Path.{◌≡◌, refl, sym, ap, subst, ◌∙◌}
 use Prim.Native.Nat.{ℕ}
 use Rattle.std.specs.Prelude.{Result, IsOk, IfOk}
 use Rattle.std.proofs.lemmas.Result.{IfOk-weaker}
@@ -12,7 +12,7 @@ use Rattle.job.specs.Walk.{Accepted, read_lines, judged}
 use Rattle.job.proofs.InOrder.{in-order-accepted}
 use Rattle.whole.specs.Lists.{take_out}
 use Rattle.worst.specs.declared.Reckoning.{Reckoning}
-use Rattle.worst.specs.Worst.{shown_in, six_extremes, worst_of}
+use Rattle.worst.specs.Worst.{six_extremes, worst_of}
 use Rattle.worst.proofs.Dropped.{dropped-extreme, dropped-in-order}
 use Rattle.claims.specs.Contract.{Always}
 use Rattle.claims.specs.Dropped.{WindTakenOut, Unnamed, renumbered_extreme, SameButNumbers}

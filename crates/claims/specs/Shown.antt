@@ -8,7 +8,6 @@ use Rattle.entry.specs.declared.Wind.{Wind}
 use Rattle.job.specs.Carried.{Carried, most_faces}
 use Rattle.worst.specs.declared.Side.{Side}
 use Rattle.worst.specs.declared.Axis.{Axis}
-use Rattle.worst.specs.declared.Axis.TheVariants.{X}
 use Rattle.worst.specs.declared.Extreme.{Extreme}
 use Rattle.worst.specs.declared.Six.{Six}
 use Rattle.worst.specs.Best.{IsBest}

@@ -22,7 +22,6 @@ use Rattle.pair.proofs.Sizes.{Sized, within-is, within-pair_of, newtons-small}
 use Rattle.verdict.specs.declared.Verdict.{Verdict}
 use Rattle.job.specs.Carried.{Carried, no_wind}
 use Rattle.job.specs.InOrder.{InOrder}
-use Rattle.job.specs.Walk.{Accepted}
 use Rattle.job.proofs.Room.{few-faces}
 use Rattle.worst.specs.declared.Axis.{Axis}
 use Rattle.worst.specs.declared.Axis.TheVariants.{X, Y, Z}

@@ -1,6 +1,5 @@
 -- The line that refuses, and a report by what was judged.
 use mathlib.Core.Path.{◌≡◌, refl, sym, ap, subst, ◌∙◌}
-use mathlib.Core.Bool.{true, false}
 use mathlib.Core.List.{List, [], ◌∷◌, ◌++◌, append_assoc}
 use Prim.Native.Nat.{ℕ, ◌<◌}
 use native.Mathlib.Omega.{arith}
@@ -11,7 +10,7 @@ use Rattle.whole.proofs.Tests.{by-test}
 use Rattle.page.specs.Writing.{Writing, writing, buffer_after}
 use Rattle.verdict.specs.declared.Verdict.{Verdict}
 use Rattle.building.proofs.Judged.{passed_on}
-use Rattle.verdict.specs.Verdict.{refusal, Refuses}
+use Rattle.verdict.specs.Verdict.{refusal}
 use Rattle.job.specs.declared.Job.{Job}
 use Rattle.lines.specs.Lines.{lines_in}
 use Rattle.job.specs.Carried.{Carried, carried, nothing}
@@ -22,7 +21,7 @@ use Rattle.job.specs.Walk.{Reading, Accepted, Refused, judged, opening, sheet}
 use Rattle.sheet.specs.Sheet.{reading, job_writing, job_buffer}
 use Rattle.sheet.proofs.FacesBack.{reading-in-order}
 use Rattle.worst.specs.declared.Reckoning.{Reckoning}
-use Rattle.worst.specs.Worst.{given, reckoned}
+use Rattle.worst.specs.Worst.{given}
 use Rattle.plain.specs.Plain.{faces_with_two, plainly}
 use Rattle.worst.proofs.Reckoned.{Judged, refused, accepted, job-judged}
 use Rattle.report.specs.Lines.{spaced, six_text}

@@ -1,8 +1,8 @@
 -- `write_totals` meets its contract: what is read is refused in one line, or reported.
-use mathlib.Core.Path.{◌≡◌, sym, ap, ◌∙◌}
+use mathlib.Core.Path.{sym, ap, ◌∙◌}
 use Rattle.page.specs.Writing.{writing, buffer_after}
-use Rattle.job.specs.Walk.{Reading, Refused}
-use Rattle.sheet.specs.Sheet.{reading, job_writing, job_buffer}
+use Rattle.job.specs.Walk.{Reading}
+use Rattle.sheet.specs.Sheet.{job_writing, job_buffer}
 use Rattle.report.specs.Report.{report_text, totals_text}
 use Rattle.report.proofs.Lengths.{as-report}
 use Rattle.report.proofs.Reports.{reading-sound, prints, wrote, refuses-as, accepts-as}
