@@ -1,2 +1,2 @@
 -- The laws of the records for C.
-pub mod Reckoned -- a line of what was reckoned
+pub mod Reckoned  -- a line of what was reckoned

@@ -104,8 +104,8 @@ module _ {reckon : Reading → Result Reckoning Verdict} {text : Carried → Lis
       → (o ≡ job_writing text x buf) × (after ≡ job_buffer text x buf)
   wrote is buf {o} {after} =
       let P : Reckoning → Type 0 = λ w.
-          (o ≡ writing (six_text w.year w.six) buf) × (after ≡ buffer_after (six_text w.year w.six) buf)
-          → (o ≡ job_writing text x buf) × (after ≡ job_buffer text x buf) in
+      (o ≡ writing (six_text w.year w.six) buf) × (after ≡ buffer_after (six_text w.year w.six) buf)
+      → (o ≡ job_writing text x buf) × (after ≡ job_buffer text x buf) in
       IfOk-at_ok P (sym e ∙ is) (accepted-holds P (λ c h k p. (
         p.0 ∙ ap (λ t. writing t buf) (how.lines c) ∙ sym (ap (λ (y : Reading). job_writing text y buf) k),
         p.1 ∙ ap (λ t. buffer_after t buf) (how.lines c) ∙ sym (ap (λ (y : Reading). job_buffer text y buf) k),

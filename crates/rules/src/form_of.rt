@@ -61,13 +61,7 @@ pub fn count_of(heights: bool, k: Kind) -> usize
         Kind::Entry(Section::V | Section::I) => 1,
         Kind::Entry(Section::W | Section::P) => 2,
         Kind::Entry(Section::B) => 6,
-        Kind::Entry(Section::F) => {
-            if heights {
-                6
-            } else {
-                5
-            }
-        }
+        Kind::Entry(Section::F) => { if heights { 6 } else { 5 } }
     }
 }
 

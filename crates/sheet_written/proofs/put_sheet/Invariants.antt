@@ -9,4 +9,3 @@ use Rattle.sheet_written.proofs.put_sheet.Given as goal
 abbrev pub invariant-loop-i : goal.invariant-loop-i
 invariant-loop-i l =
     (l.i ≤ l.i-end) × PutSections (entries_of (carried l.j)) (has_heights l.j.year) l.i l.initial.buf l.buf l.next
-

@@ -5,4 +5,3 @@ use Rattle.job.proofs.judge.judge.Given as goal
 
 abbrev pub invariant-loop-i : goal.invariant-loop-i
 invariant-loop-i l = (l.i ≤ l.i-end) × Reached l.j l.i l.line
-
