@@ -3,7 +3,7 @@
 use mathlib.Core.Path.{◌≡◌, refl, sym, ap, subst, ◌∙◌}
 use mathlib.Core.List.{Memᴰ}
 use lib.IntN.{pos}
-use Rattle.std.specs.Prelude.{Result, Ok, IfOk}
+use Rattle.std.specs.Prelude.{Result, Ok, IsOkAnd}
 use Rattle.verdict.specs.declared.Verdict.{Verdict}
 use Rattle.page.specs.Writing.{Writing}
 use Rattle.job.specs.declared.Job.{Job}
@@ -66,7 +66,7 @@ CasesArePermitted = (W I F A : Type 0) (l : Loads W I F A) (c : Case W I A)
 abbrev pub MoreShowsNoLess : Type 0
 MoreShowsNoLess = Always of.worst-cases.Post (λ κ a r s. Always of.worst-cases.Post (λ κ' b q t.
     (c d : Carried) → judged a.0 ≡ Accepted c → judged b.0 ≡ Accepted d → More c d
-    → (axis : Axis) (side : Side) → IfOk r (λ x. IfOk q (λ y.
+    → (axis : Axis) (side : Side) → IsOkAnd r (λ x. IsOkAnd q (λ y.
     NoFurther side (total_in (shown_in x.six axis side)) (total_in (shown_in y.six axis side))))))
 
 -- "If only speeds change and none is lowered, a greatest that was zero or more does not fall, and a least that was
@@ -76,7 +76,7 @@ abbrev pub FasterShowsNoLess : Type 0
 FasterShowsNoLess = Always of.worst-cases.Post (λ κ a r s. Always of.worst-cases.Post (λ κ' b q t.
     (c d : Carried) → judged a.0 ≡ Accepted c → judged b.0 ≡ Accepted d → Faster c d → OneSpeed c
     → (axis : Axis) (side : Side)
-    → IfOk r (λ x. NoFurther side (pos 0) (total_in (shown_in x.six axis side)) → IfOk q (λ y.
+    → IsOkAnd r (λ x. NoFurther side (pos 0) (total_in (shown_in x.six axis side)) → IsOkAnd q (λ y.
     NoFurther side (total_in (shown_in x.six axis side)) (total_in (shown_in y.six axis side))))))
 
 -- ---- the proofs
@@ -87,8 +87,8 @@ module _ (j : Job) {r : Result Reckoning Verdict} (p : r ≡ worst_of j) (c : Ca
   own = p ∙ six-is j c a
 
   -- what holds of them holds of it
-  of-own : (P : Reckoning → Type 0) → P (record { year = c.year; six = six_extremes c }) → IfOk r P
-  of-own P h = subst (λ (q : Result Reckoning Verdict). IfOk q P) (sym own) h
+  of-own : (P : Reckoning → Type 0) → P (record { year = c.year; six = six_extremes c }) → IsOkAnd r P
+  of-own P h = subst (λ (q : Result Reckoning Verdict). IsOkAnd q P) (sym own) h
 
 total_of : (c : Carried) (axis : Axis) (side : Side)
     → total_in (shown_in (six_extremes c) axis side) ≡ total_in (extreme axis side c)

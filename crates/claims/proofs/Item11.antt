@@ -1,8 +1,7 @@
 -- Item 11 of paper 02: which winds can be dropped.
 use mathlib.Core.Path.{◌≡◌, refl, sym, ap, subst, ◌∙◌}
 use Prim.Native.Nat.{ℕ}
-use Rattle.std.specs.Prelude.{Result, IsOk, IfOk}
-use Rattle.std.proofs.lemmas.Result.{IfOk-weaker}
+use Rattle.std.specs.Prelude.{Result, IsOk, IsOkAnd}
 use Rattle.verdict.specs.declared.Verdict.{Verdict}
 use Rattle.job.specs.declared.Job.{Job}
 use Rattle.job.specs.Carried.{Carried, carried, with_winds}
@@ -29,13 +28,13 @@ use Rattle.claims.proofs.Item8.{same-six-lines}
 abbrev pub UnnamedWindsDrop : Type 0
 UnnamedWindsDrop = Always of.worst-cases.Post (λ κ a r s. Always of.worst-cases.Post (λ κ' b q t.
     (c : Carried) (k : ℕ) → judged a.0 ≡ Accepted c → WindTakenOut k c (carried b.0)
-    → IfOk r (λ x. Unnamed k x.six → IsOk q × IfOk q (λ y. SameButNumbers k x.six y.six))))
+    → IsOkAnd r (λ x. Unnamed k x.six → IsOkAnd q (λ y. SameButNumbers k x.six y.six))))
 
 -- and so where the plain engine takes both jobs
 abbrev pub UnnamedWindsDropPlainly : Type 0
 UnnamedWindsDropPlainly = Always of.plain-cases.Post (λ κ a r s. Always of.plain-cases.Post (λ κ' b q t.
     (c : Carried) (k : ℕ) → judged a.0 ≡ Accepted c → WindTakenOut k c (carried b.0)
-    → IsOk r → IsOk q → IfOk r (λ x. Unnamed k x.six → IfOk q (λ y. SameButNumbers k x.six y.six))))
+    → IsOk r → IsOk q → IsOkAnd r (λ x. Unnamed k x.six → IsOkAnd q (λ y. SameButNumbers k x.six y.six))))
 
 -- ---- the proofs
 
@@ -62,14 +61,14 @@ module _ (j i : Job) (c : Carried) (k : ℕ) (a : judged j ≡ Accepted c) (t : 
 pub unnamed-winds-drop : UnnamedWindsDrop
 unnamed-winds-drop κ a r s p κ' b q t h c k judged-a out =
     let fewer-are = h ∙ six-is b.0 _ (fewer-accepted a.0 b.0 c k judged-a out) in
-    subst (λ (z : Result Reckoning Verdict). IfOk z (λ x.
-    Unnamed k x.six → IsOk q × IfOk q (λ y. SameButNumbers k x.six y.six))) (sym (p ∙ six-is a.0 c judged-a))
+    subst (λ (z : Result Reckoning Verdict). IsOkAnd z (λ x.
+    Unnamed k x.six → IsOkAnd q (λ y. SameButNumbers k x.six y.six))) (sym (p ∙ six-is a.0 c judged-a))
     (λ n.
-    subst (λ (z : Result Reckoning Verdict). IsOk z × IfOk z (λ y. SameButNumbers k (six_extremes c) y.six))
-    (sym fewer-are) (refl, six-kept a.0 b.0 c k judged-a out n))
+    subst (λ (z : Result Reckoning Verdict). IsOkAnd z (λ y. SameButNumbers k (six_extremes c) y.six))
+    (sym fewer-are) (six-kept a.0 b.0 c k judged-a out n))
 
 pub unnamed-winds-drop-plainly : UnnamedWindsDropPlainly
 unnamed-winds-drop-plainly κ a r s p κ' b q t h c k judged-a out v w =
     let first = same-six-lines κ a (worst_of a.0) s refl κ a r s p refl v in
     let second = same-six-lines κ' b (worst_of b.0) t refl κ' b q t h refl w in
-    IfOk-weaker r _ _ (λ x d n. (d n).1) (unnamed-winds-drop κ a r s first κ' b q t second c k judged-a out)
+    unnamed-winds-drop κ a r s first κ' b q t second c k judged-a out
