@@ -1,13 +1,11 @@
 -- The verdict of an edit: refused for the first of its faults, and accepted where there is none.
-use mathlib.Core.Path.{◌≡◌, refl, ap, ◌∙◌}
+use mathlib.Core.Path.{◌≡◌, refl, sym, ap, ◌∙◌}
 use mathlib.Core.Bool.{Bool, true, false}
 use Prim.Native.Nat.{ℕ, suc, ◌+◌, ◌<◌}
 use native.Mathlib.Omega.{arith}
-use lib.Dec.{ltb, eqb}
+use lib.Dec.{ltb}
 use lib.IntN.{ℤ, pos, nat_abs}
-use borrow.Author.Tests.{not-true, ltb-true, ne_eqb, eqb-true, eqb-false}
-use Rattle.std.specs.Prelude.{Ok, Err}
-use Rattle.whole.proofs.Tests.{by-test}
+use borrow.Author.Tests.{not-true, ltb-true, ne_eqb}
 use Rattle.verdict.specs.declared.Verdict.{Verdict}
 use Rattle.verdict.specs.Verdict.{accepted, ◌or_then◌, Refuses}
 use Rattle.verdict.proofs.After.{then-later, then-earlier, then-passed}
@@ -19,26 +17,11 @@ use Rattle.entry.specs.declared.Face.{Face}
 use Rattle.job.specs.declared.Job.{Job}
 use Rattle.job.specs.declared.Faces.{Faces}
 use Rattle.job.specs.Carried.{carried}
-use Rattle.job.specs.InOrder.{InOrder}
 use Rattle.edits.specs.declared.EditedJob.{EditedJob}
-use Rattle.edits.specs.Checked.{checked}
 use Rattle.edits.specs.Edits.{Edit, Add, Replace, TakeOut, held_job, no_such_face, full, only_face, new_face}
 use Rattle.edits.specs.Edits.{edit_verdict, edit_faces, job_with, edited_job}
-use Rattle.edits.proofs.Counts.{held-in-order}
 
 -- ---- three checks, one after the other
-
-module _ (v : Verdict) where
-  pub passed : checked v ≡ Ok tt → v.number ≡ 0
-  passed e = by-test (eqb v.number 0) (λ t. eqb-true v.number 0 t) (λ t. let f = rw t at e in cc)
-
-  pub failed : {w : Verdict} → checked v ≡ Err w → (w ≡ v) × Refuses v
-  failed e =
-      by-test (eqb v.number 0) (λ t. let f = rw t at e in cc)
-      (λ t. let f = rw t at e in (cc, eqb-false v.number 0 t))
-
-  last-one : checked (v or_then accepted) ≡ checked v
-  last-one = by-test (eqb v.number 0) (λ t. rw t) (λ t. rw (t, t))
 
 module _ (u v w : Verdict) where
   abbrev checks : Verdict
@@ -57,16 +40,6 @@ module _ (u v w : Verdict) where
 
   none_found : Passed → checks ≡ accepted
   none_found p = then-later u _ p.first ∙ then-later v _ p.second ∙ then-later w _ p.third
-
-  -- and with `?` after the first and the second
-  pub at-first : {x : Verdict} → checked u ≡ Err x → checked checks ≡ Err x
-  at-first e = ap checked (then-earlier u _ (failed u e).1) ∙ e
-
-  pub at-second : {x : Verdict} → checked u ≡ Ok tt → checked v ≡ Err x → checked checks ≡ Err x
-  at-second d e = ap checked (then-later u _ (passed u d) ∙ then-earlier v _ (failed v e).1) ∙ e
-
-  pub at-third : checked u ≡ Ok tt → checked v ≡ Ok tt → checked checks ≡ checked w
-  at-third d e = ap checked (then-later u _ (passed u d) ∙ then-later v _ (passed v e)) ∙ last-one w
 
 module _ (j : Job) where
   pub add-passed : (f : Face) → (edit_verdict (Add f) j).number ≡ 0
@@ -110,21 +83,25 @@ module _ (j : Job) where
   pub not-only : (only_face j).number ≡ 0 → 1 < j.faces.count
   not-only e = ltb-true 1 j.faces.count (unless-none 1 (ltb 1 j.faces.count) e)
 
-  pub held-passed : checked (held_job j) ≡ Ok tt → InOrder (carried j)
-  held-passed e = held-in-order j (held_job j) refl (passed (held_job j) e)
+  -- ---- the held job, as it was judged
+
+  pub held-refused : {v : Verdict} (w : Verdict) → v ≡ held_job j → Refuses v → v ≡ (held_job j or_then w)
+  held-refused w e h = e ∙ sym (then-earlier (held_job j) w (λ z. h (ap (λ u. u.number) e ∙ z)))
+
+  pub held-passed : {v : Verdict} (w : Verdict) → v ≡ held_job j → v.number ≡ 0 → (held_job j or_then w) ≡ w
+  held-passed w e z = then-later (held_job j) w (sym (ap (λ u. u.number) e) ∙ z)
 
 -- ---- the answer to an edit
 
 module _ (e : Edit) (j : Job) where
-  pub edit-refused : {v : Verdict} → checked (edit_verdict e j) ≡ Err v
-      → record { verdict = v; job = j } ≡ edited_job e j
+  pub edit-refused : {v : Verdict} → v ≡ edit_verdict e j → Refuses v → record { verdict = v; job = j } ≡ edited_job e j
   unfolding edited_job
-  edit-refused q = let f = failed (edit_verdict e j) q in rw (ne_eqb (edit_verdict e j).number 0 f.1, f.0)
+  edit-refused {v} q r = rw q (rw (ne_eqb (edit_verdict e j).number 0 (λ z. r (ap (λ u. u.number) q ∙ z))))
 
   -- with the faces that it makes
-  pub edit-taken : {r : Faces} {a : EditedJob} → checked (edit_verdict e j) ≡ Ok tt
+  pub edit-taken : {v : Verdict} {r : Faces} {a : EditedJob} → v ≡ edit_verdict e j → v.number ≡ 0
       → a ≡ record { verdict = accepted; job = job_with r j } → r ≡ edit_faces e j → a ≡ edited_job e j
   unfolding edited_job
-  edit-taken q p s =
+  edit-taken q z p s =
       p ∙ ap (λ r. record { verdict = accepted; job = job_with r j }) s
-      ∙ rw (verdict-accepted j e (passed (edit_verdict e j) q))
+      ∙ rw (verdict-accepted j e (sym (ap (λ u. u.number) q) ∙ z))

@@ -32,41 +32,38 @@ fn refused(v: Verdict, j: Job) -> EditedJob
 pub fn add(j: Job, f: Face) -> EditedJob
     ensures { result ≡ edited_job (Add f) j }
 {
-    match refusals::of_add(j, f) {
-        Err(v) => refused(v, j),
-        Ok(()) => {
-            let held = j.faces;
-            let new = carried_face(has_heights(j.year), f);
-            faces::with(j, faces::added(held, new))
-        }
+    let v = refusals::of_add(j, f);
+    if v.number != 0 {
+        return refused(v, j);
     }
+    let held = j.faces;
+    let new = carried_face(has_heights(j.year), f);
+    faces::with(j, faces::added(held, new))
 }
 
 // Another face in the place of face k, from 1.
 pub fn replace(j: Job, k: i64, f: Face) -> EditedJob
     ensures { result ≡ edited_job (Replace k f) j }
 {
-    match refusals::of_replace(j, k, f) {
-        Err(v) => refused(v, j),
-        Ok(()) => {
-            let held = j.faces;
-            let new = carried_face(has_heights(j.year), f);
-            let n = whole::magnitude(k) as usize;
-            faces::with(j, faces::replaced(held, n, new))
-        }
+    let v = refusals::of_replace(j, k, f);
+    if v.number != 0 {
+        return refused(v, j);
     }
+    let held = j.faces;
+    let new = carried_face(has_heights(j.year), f);
+    let n = whole::magnitude(k) as usize;
+    faces::with(j, faces::replaced(held, n, new))
 }
 
 // No face k, from 1: later faces move up.
 pub fn take_out(j: Job, k: i64) -> EditedJob
     ensures { result ≡ edited_job (TakeOut k) j }
 {
-    match refusals::of_take_out(j, k) {
-        Err(v) => refused(v, j),
-        Ok(()) => {
-            let held = j.faces;
-            let n = whole::magnitude(k) as usize;
-            faces::with(j, faces::taken_out(held, n))
-        }
+    let v = refusals::of_take_out(j, k);
+    if v.number != 0 {
+        return refused(v, j);
     }
+    let held = j.faces;
+    let n = whole::magnitude(k) as usize;
+    faces::with(j, faces::taken_out(held, n))
 }

@@ -1,43 +1,44 @@
 -- `refusals::of_add`: one check after the other.
-use mathlib.Core.Path.{◌≡◌}
-use Prim.Native.Nat.{◌+◌}
+use mathlib.Core.Path.{sym, ap₂, ◌∙◌}
 use native.Mathlib.Omega.{arith}
-use Rattle.std.specs.Prelude.{Ok, Err}
-use Rattle.std.proofs.Common.{rules}
-use Rattle.edits.specs.Checked.{checked}
-use Rattle.edits.specs.Edits.{held_job, full, new_face, edit_verdict}
-use Rattle.edits.proofs.Counts.{roomed}
-use Rattle.edits.proofs.Checks.{at-first, at-second, at-third, held-passed}
+use Prim.Native.Nat.{◌≤◌}
+use Rattle.job.specs.Carried.{carried, most_faces}
+use Rattle.job.specs.InOrder.{InOrder}
+use Rattle.verdict.specs.Verdict.{◌or_then◌}
+use Rattle.edits.specs.Edits.{edit_verdict}
+use Rattle.edits.proofs.Counts.{held-in-order, roomed}
+use Rattle.edits.proofs.Checks.{held-refused, held-passed}
+use Rattle.edits.proofs.refusals.of_add.Goals.{After-judge-held, Else-held-ne0, Start}
 use Rattle.edits.proofs.refusals.of_add.Goals as goal
 
-pub returns-in_err-checked : goal.returns-in_err-checked
-unfolding edit_verdict
-returns-in_err-checked c =
-    let a = c.args in
-    let held : checked (held_job a.j) ≡ Err c.in_err-checked.field-0.0 = search rules in
-    let all = at-first (held_job a.j) (full a.j) (new_face (a.j.faces.count + 1) a.f a.j) held in
-    search rules
+-- the held job is in order
+module _ (c : Else-held-ne0) where
+  abbrev judged : After-judge-held
+  judged = (goal.at.Else-held-ne0 c).After-judge-held
 
-pub returns-in_err-full : goal.returns-in_err-full
-unfolding edit_verdict
-returns-in_err-full c =
-    let a = c.args in
-    let held : checked (held_job a.j) ≡ Ok tt = search rules in
-    let room : checked (full a.j) ≡ Err c.in_err-full.field-0.0 = search rules in
-    let all = at-second (held_job a.j) (full a.j) (new_face (a.j.faces.count + 1) a.f a.j) held room in
-    search rules
+  abbrev start : Start
+  start = (goal.at.After-judge-held judged).Start
 
-pub new_face-requires : goal.new_face-requires
-new_face-requires c =
-    let held : checked (held_job c.args.j) ≡ Ok tt = search rules in
-    let o = held-passed c.args.j held in
-    (o, omega (arith, roomed c.args.j o))
+  in_order : InOrder (carried start.args.j)
+  in_order = held-in-order start.args.j judged.judge-held.result judged.judge-held.ensures c.if-held-ne0.false
+
+  few : start.args.j.faces.count ≤ most_faces
+  few = roomed start.args.j in_order
+
+pub returns-then-held-ne0 : goal.returns-then-held-ne0
+unfolding edit_verdict
+returns-then-held-ne0 c = held-refused c.args.j _ c.judge-held.ensures c.if-held-ne0.true
+
+pub overflow_add-j : goal.overflow_add-j
+overflow_add-j c = omega (arith, few (goal.at.overflow_add-j c).Else-held-ne0)
+
+pub new_face-own-requires : goal.new_face-own-requires
+new_face-own-requires c =
+    let at_held_ne0 = (goal.at.new_face-own-requires c).Else-held-ne0 in
+    (in_order at_held_ne0, omega (arith, few at_held_ne0))
 
 pub returns : goal.returns
 unfolding edit_verdict
 returns c =
-    let a = c.args in
-    let held : checked (held_job a.j) ≡ Ok tt = search rules in
-    let room : checked (full a.j) ≡ Ok tt = search rules in
-    let all = at-third (held_job a.j) (full a.j) (new_face (a.j.faces.count + 1) a.f a.j) held room in
-    search rules
+    c.or_then.ensures ∙ ap₂ ◌or_then◌ c.full.ensures c.new_face-own.ensures
+    ∙ sym (held-passed c.args.j _ c.judge-held.ensures c.if-held-ne0.false)

@@ -1,63 +1,88 @@
 -- `refusals::of_replace`: one check after the other.
-use mathlib.Core.Path.{◌≡◌}
-use Prim.Native.Nat.{◌≤◌}
+use mathlib.Core.Path.{◌≡◌, sym, ap, ◌∙◌}
+use Prim.Native.Nat.{ℕ, ◌≤◌}
 use native.Mathlib.Omega.{arith}
 use lib.IntN.{nat_abs}
-use Rattle.std.specs.Prelude.{Ok, Err}
-use Rattle.std.proofs.Common.{rules}
+use Rattle.whole.proofs.Size.{said}
+use Rattle.verdict.specs.declared.Verdict.{Verdict}
+use Rattle.verdict.specs.Verdict.{accepted, ◌or_then◌}
+use Rattle.verdict.proofs.After.{then-later, then-earlier}
+use Rattle.building.proofs.Accepted.{Within}
 use Rattle.job.specs.Carried.{carried, most_faces}
 use Rattle.job.specs.InOrder.{InOrder}
-use Rattle.edits.specs.Checked.{checked}
 use Rattle.edits.specs.Edits.{held_job, no_such_face, new_face, edit_verdict}
-use Rattle.edits.proofs.Counts.{roomed}
-use Rattle.edits.proofs.Checks.{at-first, at-second, at-third, held-passed, passed, there-is}
-use Rattle.edits.proofs.refusals.of_replace.Goals.{After-magnitude}
+use Rattle.edits.proofs.Counts.{held-in-order, roomed}
+use Rattle.edits.proofs.Checks.{held-refused, held-passed, there-is}
+use Rattle.edits.proofs.refusals.of_replace.Goals.{After-judge-held, After-magnitude, After-no_such_face-none}
+use Rattle.edits.proofs.refusals.of_replace.Goals.{Else-held-ne0, Start}
 use Rattle.edits.proofs.refusals.of_replace.Goals as goal
+
+abbrev number_in : Verdict → ℕ
+number_in v = v.number
+
+-- the held job is in order
+module _ (c : After-no_such_face-none) where
+  abbrev held : Else-held-ne0
+  held = (goal.at.After-no_such_face-none c).Else-held-ne0
+
+  abbrev judged : After-judge-held
+  judged = (goal.at.Else-held-ne0 held).After-judge-held
+
+  abbrev start : Start
+  start = (goal.at.After-judge-held judged).Start
+
+  in_order : InOrder (carried start.args.j)
+  in_order = held-in-order start.args.j judged.judge-held.result judged.judge-held.ensures held.if-held-ne0.false
+
+  none_is : c.no_such_face-none.result ≡ no_such_face start.args.k start.args.j
+  none_is =
+      said (λ k. no_such_face k start.args.j) start.args.k c.no_such_face-none.ensures start.ranges.k.sfits
+
+  past-held : (w : Verdict) → (held_job start.args.j or_then w) ≡ w
+  past-held w = held-passed start.args.j w judged.judge-held.ensures held.if-held-ne0.false
 
 -- there is such a face
 module _ (c : After-magnitude) where
-  in_order : InOrder (carried c.args.j)
-  in_order = held-passed c.args.j (search rules)
+  abbrev asked : After-no_such_face-none
+  asked = (goal.at.After-magnitude c).After-no_such_face-none
+
+  there : Within 1 asked.args.j.faces.count asked.args.k
+  there =
+      there-is asked.args.j asked.args.k
+      (sym (ap number_in (none_is asked)) ∙ c.if-none-ne0.false)
+
+  size_is : c.magnitude.result ≡ nat_abs asked.args.k
+  size_is = said nat_abs asked.args.k c.magnitude.ensures asked.ranges.k.sfits
 
   few : c.magnitude.result ≤ most_faces
-  few =
-      let j = c.args.j in
-      let k = c.args.k in
-      let there : checked (no_such_face k j) ≡ Ok tt = search rules in
-      let size : c.magnitude.result ≡ nat_abs k = search rules in
-      omega (arith, (there-is j k (passed (no_such_face k j) there)).to, roomed j in_order)
+  few = omega (arith, size_is, there.to, roomed asked.args.j (in_order asked))
 
-pub returns-in_err-checked : goal.returns-in_err-checked
+pub returns-then-held-ne0 : goal.returns-then-held-ne0
 unfolding edit_verdict
-returns-in_err-checked c =
-    let a = c.args in
-    let held : checked (held_job a.j) ≡ Err c.in_err-checked.field-0.0 = search rules in
-    let all = at-first (held_job a.j) (no_such_face a.k a.j) (new_face (nat_abs a.k) a.f a.j) held in
-    search rules
+returns-then-held-ne0 c = held-refused c.args.j _ c.judge-held.ensures c.if-held-ne0.true
 
-pub returns-in_err-no_such_face : goal.returns-in_err-no_such_face
+pub returns-then-none-ne0 : goal.returns-then-none-ne0
 unfolding edit_verdict
-returns-in_err-no_such_face c =
+returns-then-none-ne0 c =
+    let at_no_such_face_none = (goal.at.returns-then-none-ne0 c).After-no_such_face-none in
+    let e = none_is at_no_such_face_none in
     let a = c.args in
-    let held : checked (held_job a.j) ≡ Ok tt = search rules in
-    let none : checked (no_such_face a.k a.j) ≡ Err c.in_err-no_such_face.field-0.0 = search rules in
-    let all = at-second (held_job a.j) (no_such_face a.k a.j) (new_face (nat_abs a.k) a.f a.j) held none in
-    search rules
+    e
+    ∙ sym (past-held at_no_such_face_none _ ∙ then-earlier (no_such_face a.k a.j) _ (λ z. c.if-none-ne0.true
+    (ap number_in e ∙ z)))
 
 pub overflow_cast-magnitude : goal.overflow_cast-magnitude
-overflow_cast-magnitude c = omega (arith, few (goal.at.overflow_cast-magnitude c).After-magnitude)
+overflow_cast-magnitude c = omega (arith, few c)
 
 pub new_face-requires : goal.new_face-requires
-new_face-requires c =
-    let m = (goal.at.new_face-requires c).After-magnitude in
-    (in_order m, omega (arith, few m))
+new_face-requires c = (in_order (goal.at.new_face-requires c).After-no_such_face-none, omega (arith, few c))
 
 pub returns : goal.returns
 unfolding edit_verdict
 returns c =
+    let at_no_such_face_none = (goal.at.returns c).After-no_such_face-none in
     let a = c.args in
-    let held : checked (held_job a.j) ≡ Ok tt = search rules in
-    let there : checked (no_such_face a.k a.j) ≡ Ok tt = search rules in
-    let size : c.magnitude.result ≡ nat_abs a.k = search rules in
-    let all = at-third (held_job a.j) (no_such_face a.k a.j) (new_face (nat_abs a.k) a.f a.j) held there in
-    search rules
+    c.new_face.ensures
+    ∙ ap (λ (k : ℕ). new_face k a.f a.j or_then accepted) (size_is (goal.at.returns c).After-magnitude)
+    ∙ sym (past-held at_no_such_face_none _
+    ∙ then-later (no_such_face a.k a.j) _ (sym (ap number_in (none_is at_no_such_face_none)) ∙ c.if-none-ne0.false))

@@ -1,34 +1,22 @@
 -- `refusals::of_take_out`: one check after the other.
-use mathlib.Core.Path.{◌≡◌}
-use Rattle.std.specs.Prelude.{Ok, Err}
-use Rattle.std.proofs.Common.{rules}
-use Rattle.edits.specs.Checked.{checked}
-use Rattle.edits.specs.Edits.{held_job, no_such_face, only_face, edit_verdict}
-use Rattle.edits.proofs.Checks.{at-first, at-second, at-third}
+use mathlib.Core.Path.{sym, ap, ap₂, ◌∙◌}
+use lib.IntN.{ℤ}
+use Rattle.whole.proofs.Size.{said}
+use Rattle.verdict.specs.declared.Verdict.{Verdict}
+use Rattle.verdict.specs.Verdict.{accepted, ◌or_then◌}
+use Rattle.edits.specs.Edits.{no_such_face, edit_verdict}
+use Rattle.edits.proofs.Checks.{held-refused, held-passed}
 use Rattle.edits.proofs.refusals.of_take_out.Goals as goal
 
-pub returns-in_err-checked : goal.returns-in_err-checked
+pub returns-then-held-ne0 : goal.returns-then-held-ne0
 unfolding edit_verdict
-returns-in_err-checked c =
-    let a = c.args in
-    let held : checked (held_job a.j) ≡ Err c.in_err-checked.field-0.0 = search rules in
-    let all = at-first (held_job a.j) (no_such_face a.k a.j) (only_face a.j) held in
-    search rules
-
-pub returns-in_err-no_such_face : goal.returns-in_err-no_such_face
-unfolding edit_verdict
-returns-in_err-no_such_face c =
-    let a = c.args in
-    let held : checked (held_job a.j) ≡ Ok tt = search rules in
-    let none : checked (no_such_face a.k a.j) ≡ Err c.in_err-no_such_face.field-0.0 = search rules in
-    let all = at-second (held_job a.j) (no_such_face a.k a.j) (only_face a.j) held none in
-    search rules
+returns-then-held-ne0 c = held-refused c.args.j _ c.judge-held.ensures c.if-held-ne0.true
 
 pub returns : goal.returns
 unfolding edit_verdict
 returns c =
-    let a = c.args in
-    let held : checked (held_job a.j) ≡ Ok tt = search rules in
-    let there : checked (no_such_face a.k a.j) ≡ Ok tt = search rules in
-    let all = at-third (held_job a.j) (no_such_face a.k a.j) (only_face a.j) held there in
-    search rules
+    let none =
+    said (λ (k : ℤ). no_such_face k c.args.j) c.args.k c.no_such_face-none.ensures c.ranges.k.sfits in
+    c.or_then-2.ensures
+    ∙ ap₂ ◌or_then◌ none (c.or_then.ensures ∙ ap (λ (w : Verdict). w or_then accepted) c.only_face-only.ensures)
+    ∙ sym (held-passed c.args.j _ c.judge-held.ensures c.if-held-ne0.false)
