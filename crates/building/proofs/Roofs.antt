@@ -1,13 +1,9 @@
 -- How large the limits of a roof's x are, and what x is compared over.
-use mathlib.Core.Path.{◌≡◌}
 use mathlib.Core.Bool.{Bool, true, false, cond}
 use Prim.Native.Nat.{ℕ, ◌≤◌, ◌<◌}
 use native.Mathlib.Omega.{arith}
 use lib.Dec.{T, leb, leb→le, lit<, lit≤}
 use Rattle.whole.proofs.Table.{all-at, both, both_left, both_right}
-use mathlib.Core.List.{map}
-use lib.ListN.{get_or, get_or-map}
-use Rattle.building.specs.declared.faults.Roof as coded-roofs
 use Rattle.building.specs.Roof.{Roof, roof, roofs, roof_of, across_of}
 
 abbrev low : Roof → Bool
@@ -31,12 +27,3 @@ across-range kind h from to = go (roof_of kind).by_height
     go : (t : Bool) → (0 < cond t h 1) × (cond t h 1 ≤ 30000)
     go true = (omega arith, to)
     go false = (lit< tt, lit≤ tt)
-
--- ---- the code's rows are the roofs
-
-abbrev coded : Roof → coded-roofs.Roof
-coded r = (r.least, r.greatest, r.by_height)
-
-pub roof_is : (kind : ℕ) → get_or (map coded roofs) kind (coded (roof 0 0 false)) ≡ coded (roof_of kind)
-unfolding roof_of
-roof_is kind = get_or-map coded roofs kind (roof 0 0 false)

@@ -75,24 +75,22 @@ pub(crate) fn range_field(g: Building) -> u32
 #[derive(Clone, Copy)]
 pub(crate) struct Roof(pub u64, pub u64, pub bool);
 
-// Kind by kind.
-const ROOFS: [Roof; 7] = [
-    Roof(0, 0, false),
-    Roof(0, 600, false),
-    Roof(0, 0, false),
-    Roof(25, 100, true),
-    Roof(50, 200, true),
-    Roof(300, 900, false),
-    Roof(50, 300, false),
-];
-
+// Kind by kind. A constant array would be built anew wherever it is indexed.
 pub(crate) fn roof_of(kind: u64) -> Roof
     requires { kind ≤ last_kind }
     ensures least { result.0 ≡ (roof_of kind).least }
     ensures greatest { result.1 ≡ (roof_of kind).greatest }
     ensures by_height { result.2 ≡ (roof_of kind).by_height }
 {
-    ROOFS[kind as usize]
+    match kind {
+        0 => Roof(0, 0, false),
+        1 => Roof(0, 600, false),
+        2 => Roof(0, 0, false),
+        3 => Roof(25, 100, true),
+        4 => Roof(50, 200, true),
+        5 => Roof(300, 900, false),
+        _ => Roof(50, 300, false),
+    }
 }
 
 // x, or 1000 x where it is compared with h.
