@@ -217,7 +217,7 @@ module _ (c : Carried) (o : InOrder c) where
         faces-are = ap (λ (e : Extreme). e.faces) (stored-shows X Greatest c o told).named
 
 -- what is reckoned by a job's own sums, and by stored ones
-pub as-report : Reckons reckoned report_text
+unfoldable pub as-report : Reckons reckoned report_text
 unfolding report_text
 as-report =
     record {
@@ -225,10 +225,9 @@ as-report =
       own = λ v. refl;
       fine = λ c. refl;
       lines = λ c. refl;
-      printable = report-prints;
     }
 
-pub as-stored : (t : Stored) → Reckons (reckoned_by t) (stored_text t)
+unfoldable pub as-stored : (t : Stored) → Reckons (reckoned_by t) (stored_text t)
 unfolding stored_text
 as-stored t =
     record {
@@ -236,8 +235,16 @@ as-stored t =
       own = λ v. refl;
       fine = λ c. refl;
       lines = λ c. refl;
-      printable = λ c o. stored-prints c o t;
     }
+
+-- and can be printed
+pub report-printable : (c : Carried) → InOrder c → SixPrintable (as-report.shown c)
+unfolding as-report
+report-printable = report-prints
+
+pub stored-printable : (t : Stored) (c : Carried) → InOrder c → SixPrintable ((as-stored t).shown c)
+unfolding as-stored
+stored-printable t c o = stored-prints c o t
 
 -- ---- six lines
 

@@ -74,13 +74,32 @@ pub record Reckons (reckon : Reading → Result Reckoning Verdict) (text : Carri
   pub own : (v : Verdict) → reckon (Refused v) ≡ Err v
   pub fine : (c : Carried) → reckon (Accepted c) ≡ Ok (shown c)
   pub lines : (c : Carried) → six_text (shown c).year (shown c).six ≡ text c
-  pub printable : (c : Carried) → InOrder c → SixPrintable (shown c)
+
+-- what is written of it: the six lines, or the refusal alone
+abbrev pub six_writing : Result Reckoning Verdict → List ℕ → Writing
+six_writing (Ok w) buf = writing (six_text w.year w.six) buf
+six_writing (Err v) buf = Err v
+
+abbrev pub six_buffer : Result Reckoning Verdict → List ℕ → List ℕ
+six_buffer (Ok w) buf = buffer_after (six_text w.year w.six) buf
+six_buffer (Err v) buf = buf
+
+pub six-written : {reckon : Reading → Result Reckoning Verdict} {text : Carried → List ℕ} → Reckons reckon text
+    → (x : Reading) → Sound x → (buf : List ℕ)
+    → (six_writing (reckon x) buf ≡ job_writing text x buf) × (six_buffer (reckon x) buf ≡ job_buffer text x buf)
+six-written how x (refuses v some) buf =
+    (ap (λ r. six_writing r buf) (how.own v), ap (λ r. six_buffer r buf) (how.own v))
+six-written how x (accepts c o) buf = (
+  ap (λ r. six_writing r buf) (how.fine c) ∙ ap (λ t. writing t buf) (how.lines c),
+  ap (λ r. six_buffer r buf) (how.fine c) ∙ ap (λ t. buffer_after t buf) (how.lines c),
+)
 
 module _ {reckon : Reading → Result Reckoning Verdict} {text : Carried → List ℕ} (how : Reckons reckon text)
     {x : Reading} (sound : Sound x) {r : Result Reckoning Verdict} (e : r ≡ reckon x) where
-  accepted-holds : (P : Reckoning → Type 0) → ((c : Carried) → InOrder c → x ≡ Accepted c → P (how.shown c))
+  -- what holds of the six of all that is in order holds of what was reckoned
+  pub six-holds : (P : Reckoning → Type 0) → ((c : Carried) → InOrder c → x ≡ Accepted c → P (how.shown c))
       → IfOk (reckon x) P
-  accepted-holds P h = go x sound h
+  six-holds P h = go x sound h
     where
       go : (y : Reading) → Sound y → ((c : Carried) → InOrder c → y ≡ Accepted c → P (how.shown c)) → IfOk (reckon y) P
       go y (refuses v some) k = subst (λ (q : Result Reckoning Verdict). IfOk q P) (sym (how.own v)) tt
@@ -96,20 +115,17 @@ module _ {reckon : Reading → Result Reckoning Verdict} {text : Carried → Lis
           subst (λ (q : Result Reckoning Verdict). IfErr q (λ u. Accepted c ≡ Refused u)) (sym (how.fine c)) tt
 
   -- six lines can be printed, and are its text
-  pub prints : {w : Reckoning} → r ≡ Ok w → SixPrintable w
-  prints is = IfOk-at_ok SixPrintable (sym e ∙ is) (accepted-holds SixPrintable (λ c o k. how.printable c o))
+  pub prints : ((c : Carried) → InOrder c → SixPrintable (how.shown c)) → {w : Reckoning} → r ≡ Ok w → SixPrintable w
+  prints printable is = IfOk-at_ok SixPrintable (sym e ∙ is) (six-holds SixPrintable (λ c o k. printable c o))
 
   pub wrote : {w : Reckoning} → r ≡ Ok w → (buf : List ℕ) {o : Writing} {after : List ℕ}
       → (o ≡ writing (six_text w.year w.six) buf) × (after ≡ buffer_after (six_text w.year w.six) buf)
       → (o ≡ job_writing text x buf) × (after ≡ job_buffer text x buf)
-  wrote is buf {o} {after} =
-      let P : Reckoning → Type 0 = λ w.
-      (o ≡ writing (six_text w.year w.six) buf) × (after ≡ buffer_after (six_text w.year w.six) buf)
-      → (o ≡ job_writing text x buf) × (after ≡ job_buffer text x buf) in
-      IfOk-at_ok P (sym e ∙ is) (accepted-holds P (λ c h k p. (
-        p.0 ∙ ap (λ t. writing t buf) (how.lines c) ∙ sym (ap (λ (y : Reading). job_writing text y buf) k),
-        p.1 ∙ ap (λ t. buffer_after t buf) (how.lines c) ∙ sym (ap (λ (y : Reading). job_buffer text y buf) k),
-      )))
+  wrote is buf done =
+      let told = six-written how x sound buf in (
+        done.0 ∙ ap (λ r. six_writing r buf) (sym is ∙ e) ∙ told.0,
+        done.1 ∙ ap (λ r. six_buffer r buf) (sym is ∙ e) ∙ told.1,
+      )
 
   -- a refusal is the reading's own
   pub refuses-as : {v : Verdict} → r ≡ Err v → x ≡ Refused v
@@ -117,13 +133,14 @@ module _ {reckon : Reading → Result Reckoning Verdict} {text : Carried → Lis
 
   pub unwritten : {v : Verdict} → r ≡ Err v → (buf : List ℕ) {o : Writing} → IsErrAnd o (λ w. w ≡ v)
       → (o ≡ job_writing text x buf) × (buf ≡ job_buffer text x buf)
-  unwritten is buf {o} handed = (
-    passed_on o handed ∙ sym (ap (λ (y : Reading). job_writing text y buf) (refuses-as is)),
-    sym (ap (λ (y : Reading). job_buffer text y buf) (refuses-as is)),
-  )
+  unwritten is buf {o} handed =
+      let told = six-written how x sound buf in (
+        passed_on o handed ∙ ap (λ r. six_writing r buf) (sym is ∙ e) ∙ told.0,
+        ap (λ r. six_buffer r buf) (sym is ∙ e) ∙ told.1,
+      )
 
   -- and what is accepted is what it carries
   pub accepts-as : {w : Reckoning} → r ≡ Ok w → (c : Carried) × (x ≡ Accepted c)
   accepts-as is =
       IfOk-at_ok (λ (w : Reckoning). (c : Carried) × (x ≡ Accepted c)) (sym e ∙ is)
-      (accepted-holds (λ (w : Reckoning). (c : Carried) × (x ≡ Accepted c)) (λ c o k. (c, k)))
+      (six-holds (λ (w : Reckoning). (c : Carried) × (x ≡ Accepted c)) (λ c o k. (c, k)))

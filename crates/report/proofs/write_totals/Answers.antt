@@ -4,12 +4,12 @@ use Rattle.page.specs.Writing.{writing, buffer_after}
 use Rattle.job.specs.Walk.{Reading}
 use Rattle.sheet.specs.Sheet.{job_writing, job_buffer}
 use Rattle.report.specs.Report.{report_text, totals_text}
-use Rattle.report.proofs.Lengths.{as-report}
+use Rattle.report.proofs.Lengths.{as-report, report-printable}
 use Rattle.report.proofs.Reports.{reading-sound, prints, wrote, refuses-as, accepts-as}
 use Rattle.report.proofs.write_totals.Goals as goal
 
 pub write_six-requires : goal.write_six-requires
-write_six-requires c = prints as-report (reading-sound c.args.s.now) c.worst_in.ensures c.in-Ok.is
+write_six-requires c = prints as-report (reading-sound c.args.s.now) c.worst_in.ensures report-printable c.in-Ok.is
 
 pub returns-in-Ok : goal.returns-in-Ok
 returns-in-Ok c =
